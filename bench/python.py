@@ -173,8 +173,9 @@ def csv_rows(folder):
             return [datetime.datetime.fromisoformat(it) for it in texts(file)]
 
     def frame(_):
-        moments = numpy.frombuffer(speedate.date_time_column(pandas.read_csv(path)["moment"]), "datetime64[us]")
-        return pandas.Series(moments).dt.tz_localize("UTC")
+        table = pandas.read_csv(path)
+        moments = numpy.frombuffer(speedate.date_time_column(table["moment"]), "datetime64[us]")
+        return pandas.Series(moments, index=table.index).dt.tz_localize("UTC")
 
     def to_datetime(_):
         return pandas.to_datetime(pandas.read_csv(path)["moment"], utc=True)

@@ -13,24 +13,24 @@ A text is a `str`, or UTF-8 in `bytes`, a `bytearray` or a `memoryview`. GRAMMAR
 module, says which are accepted, and why any other is refused. A value with an offset is aware, one without is naive,
 and `datetime` refuses to compare the two.
 
-A refusal is a `ValueError`: a `Fault` from the library, an `Unrepresentable` where Python has no such value, a plain
-one for an argument that is out of range. An argument of a wrong type is a `TypeError`. So is a `Config` with a unit or
+What is refused raises a `Refusal`, which is a `ValueError`: a `Fault` from the library, or an `Unrepresentable` where Python
+has no such value. An argument that is out of range is a plain `ValueError`, one of a wrong type a `TypeError`. So is a `Config` with a unit or
 an offset of timestamps in a call that parses none: `date`, `date_time` and their columns parse timestamps only with
 `timestamps=True`.
 """
-import datetime
-
 from ._version import __version__
 from ._speedate import (
-    Config, Fault, Unrepresentable, date, date_column, date_from_timestamp, date_front, date_time, date_time_column,
+    Config, Fault, Refusal, Unrepresentable, date, date_column, date_from_timestamp, date_front, date_time, date_time_column,
     date_time_from_timestamp, date_time_front, date_time_strict, duration, duration_column, text, time, time_from_timestamp,
     time_front, time_strict)
 
+# `time` is left out: `from speedate import *` would hide the module of that name.
 __all__ = [
-    "Config", "Fault", "Unrepresentable", "__version__", "date", "date_column", "date_from_timestamp", "date_front",
+    "Config", "Fault", "Refusal", "Unrepresentable", "__version__", "date", "date_column", "date_from_timestamp", "date_front",
     "date_time", "date_time_column", "date_time_from_timestamp", "date_time_front", "date_time_strict", "duration",
-    "duration_column", "text", "time", "time_from_timestamp", "time_front", "time_strict"]
+    "duration_column", "text", "time_from_timestamp", "time_front", "time_strict"]
 
-for _call in map(globals().get, __all__):
+for _call in (time, *map(globals().get, __all__)):
     if isinstance(_call, type(text)):
         _call.__module__ = __name__
+del _call

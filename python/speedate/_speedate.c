@@ -17,18 +17,27 @@
 #define QUARTER 900 /* seconds */
 #define QUARTERS 95 /* below 24 hours, either way */
 
+/* What a text has that alone refuses it. */
+enum { NO_HINT, BYTE_ORDER_MARK, LINE_END, BOTH_HINTS };
+static const char *const hint_words[BOTH_HINTS + 1] = {
+    [BYTE_ORDER_MARK] = "it begins with a byte order mark",
+    [LINE_END] = "it has a line ending, which lines=True drops",
+    [BOTH_HINTS] = "it begins with a byte order mark, and has a line ending",
+};
+
 /* The places of the objects that are held from the import on. Nothing is added afterwards. */
 enum {
     /* what is imported */
-    DATETIME, ARRAY, CONFIG, FAULT, UNREPRESENTABLE, INTEGER, CHOICE, PLAIN, MISSING, BY_LINES,
-    NUMBERS, INDEX, UTCOFFSET, FROMBYTES,             /* names of attributes */
-    ARGUMENTS,                                        /* of the fault of each code */
+    DATETIME, ARRAY, CONFIG, FAULT, UNREPRESENTABLE, REFUSAL, INTEGER, CHOICE, PLAIN, MISSING, ITEMS,
+    NUMBERS, INDEX, HINT, UTCOFFSET, FROMBYTES,       /* names of attributes */
+    HINTS,                                            /* the words of each hint */
+    ARGUMENTS = HINTS + BOTH_HINTS + 1,               /* of the fault of each code */
     ATTRIBUTES = ARGUMENTS + SPEEDATE_LAST_FAULT + 1, /* the same */
     ZONES = ATTRIBUTES + SPEEDATE_LAST_FAULT + 1,     /* of each offset of quarter hours */
     ALL = ZONES + 2 * QUARTERS + 1
 };
 
-/* What a Fault keeps, so that it can find its place: the text that was refused, and how. They are slots of the class. */
+/* What a Fault keeps, so that it can find its place: the text that was refused, and how. They are slots of a class. */
 enum { SOURCE, CALL_NUMBER, SLOTS };
 static const char *const slot_names[SLOTS] = {"_source", "_call"};
 
@@ -46,11 +55,12 @@ static const struct {
     [CONFIG] = {"speedate._types", "Config"},
     [FAULT] = {"speedate._types", "Fault"},
     [UNREPRESENTABLE] = {"speedate._types", "Unrepresentable"},
+    [REFUSAL] = {"speedate._types", "Refusal"},
     [INTEGER] = {"speedate._types", "_integer"},
     [CHOICE] = {"speedate._types", "_choice"},
     [PLAIN] = {"speedate._types", "_plain"},
     [MISSING] = {"speedate._types", "_missing"},
-    [BY_LINES] = {"speedate._types", "_by_lines"},
+    [ITEMS] = {"speedate._types", "_items"},
 };
 
 /* ---- Errors ---- */
@@ -101,8 +111,26 @@ static PyObject *raise_fault(const State *state, int code) {
     return raise_error(PyObject_CallFunction(state->held[FAULT], "i", code));
 }
 
-static PyObject *raise_unrepresentable(const State *state, const char *name) {
-    return raise_error(PyObject_CallFunction(state->held[UNREPRESENTABLE], "s", name));
+/* The bytes of a text, and the object that has them, if it has to be kept alive. */
+typedef struct {
+    const char *bytes;
+    size_t size;
+    PyObject *owner;
+} Text;
+
+/* What no one can write of a text, and may be kept: a str, or the bytes that were read. */
+static inline PyObject *source_of(PyObject *object, const Text *text) {
+    return text->owner && !PyUnicode_Check(object) ? text->owner : object;
+}
+
+/* Raises an Unrepresentable, which keeps its text as a Fault does, if it is of one. */
+static PyObject *raise_unrepresentable(const State *state, const char *name, PyObject *object, const Text *text) {
+    PyObject *error = PyObject_CallFunction(state->held[UNREPRESENTABLE], "s", name);
+    if (error && object &&
+        (PyObject_SetAttrString(error, slot_names[SOURCE], source_of(object, text)) < 0 ||
+         PyObject_SetAttrString(error, slot_names[CALL_NUMBER], Py_None) < 0))
+        Py_CLEAR(error);
+    return raise_error(error);
 }
 
 /* ---- Values ---- */
@@ -135,14 +163,17 @@ static inline PyObject *zone_of(const State *state, const SpeedateTime *time) {
     return zone;
 }
 
-static PyObject *make_date(const State *state, const Value *value) {
+/* What makes a value is given its text too, if it is of one. */
+
+static PyObject *make_date(const State *state, const Value *value, PyObject *object, const Text *text) {
     SpeedateDate it = value->date;
     if (it.year == 0)
-        return raise_unrepresentable(state, "year_zero");
+        return raise_unrepresentable(state, "year_zero", object, text);
     return state->datetime->Date_FromDate(it.year, it.month, it.day, state->datetime->DateType);
 }
 
-static PyObject *make_time(const State *state, const Value *value) {
+static PyObject *make_time(const State *state, const Value *value, PyObject *object, const Text *text) {
+    (void)object, (void)text;
     PyDateTime_CAPI *api = state->datetime;
     SpeedateTime it = value->time;
     PyObject *made = NULL, *zone = zone_of(state, &it);
@@ -153,12 +184,12 @@ static PyObject *make_time(const State *state, const Value *value) {
     return made;
 }
 
-static PyObject *make_date_time(const State *state, const Value *value) {
+static PyObject *make_date_time(const State *state, const Value *value, PyObject *object, const Text *text) {
     PyDateTime_CAPI *api = state->datetime;
     SpeedateDate day = value->date_time.date;
     SpeedateTime it = value->date_time.time;
     if (day.year == 0)
-        return raise_unrepresentable(state, "year_zero");
+        return raise_unrepresentable(state, "year_zero", object, text);
     PyObject *zone = zone_of(state, &it);
     if (!zone)
         return NULL;
@@ -168,7 +199,7 @@ static PyObject *make_date_time(const State *state, const Value *value) {
     return made;
 }
 
-static PyObject *make_duration(const State *state, const Value *value) {
+static PyObject *make_duration(const State *state, const Value *value, PyObject *object, const Text *text) {
     PyDateTime_CAPI *api = state->datetime;
     SpeedateDuration it = value->duration;
     int sign = it.negative ? -1 : 1;
@@ -176,22 +207,32 @@ static PyObject *make_duration(const State *state, const Value *value) {
                                           api->DeltaType);
     if (!made && PyErr_ExceptionMatches(PyExc_OverflowError)) {
         PyErr_Clear();
-        return raise_unrepresentable(state, "duration_too_small");
+        return raise_unrepresentable(state, "duration_too_small", object, text);
     }
     return made;
 }
 
 /* ---- Arguments ---- */
 
+#define COLUMN_ARGUMENTS 9 /* the most that a call has */
+
 /* The parameters of a call in their order. The first is required, and those after `positional` are keywords. */
 typedef struct {
     const char *name;
-    const char *parameters[8];
+    const char *parameters[COLUMN_ARGUMENTS + 1];
     Py_ssize_t positional;
 } Signature;
 
 /* What a call gets: the arguments by position, then those of the keywords. */
 #define GIVEN PyObject *module, PyObject *const *arguments, Py_ssize_t count, PyObject *keywords
+
+/* What is said of the keyword that pandas has for faults. */
+static const char *words_on_errors(const Signature *signature, PyObject *keyword) {
+    for (int i = 0; signature->parameters[i]; i++)
+        if (strcmp(signature->parameters[i], "faults") == 0 && PyUnicode_CompareWithASCIIString(keyword, "errors") == 0)
+            return ": the word is faults, and faults='nat' does what errors='coerce' does in pandas";
+    return "";
+}
 
 static int bind_keyword(const Signature *signature, PyObject *keyword, PyObject *argument, PyObject **bound) {
     for (int i = 0; signature->parameters[i]; i++) {
@@ -202,7 +243,8 @@ static int bind_keyword(const Signature *signature, PyObject *keyword, PyObject 
         bound[i] = argument;
         return 0;
     }
-    return type_error("%s() got an unexpected keyword argument '%U'", signature->name, keyword);
+    return type_error("%s() got an unexpected keyword argument '%U'%s", signature->name, keyword,
+                      words_on_errors(signature, keyword));
 }
 
 /* Puts each argument at the place of its parameter, and NULL where there is none. */
@@ -221,13 +263,6 @@ static inline int bind(const Signature *signature, PyObject *const *arguments, P
                           signature->parameters[0]);
     return 0;
 }
-
-/* The bytes of a text, and the object that has them, if it has to be kept alive. */
-typedef struct {
-    const char *bytes;
-    size_t size;
-    PyObject *owner;
-} Text;
 
 static inline int give_bytes(const char *bytes, Py_ssize_t size, PyObject *owner, Text *text) {
     *text = (Text){bytes, (size_t)size, owner};
@@ -418,7 +453,7 @@ FIND_PLACE(place_of_date_time_strict, speedate_datetime_error_place_strict(BYTES
 FIND_PLACE(place_of_date_time_front, speedate_datetime_error_place_front(BYTES, config, place))
 FIND_PLACE(place_of_duration, speedate_duration_error_place(BYTES, config, place))
 
-/* The calls whose faults have places. */
+/* The parsers, whose faults have places. */
 enum {
     NO_PLACE,
     DATE,
@@ -434,31 +469,34 @@ enum {
     DURATION,
     ALL_PLACES
 };
-static FindPlace *const find_place[ALL_PLACES] = {
-    [DATE] = place_of_date,
-    [DATE_OR_TIMESTAMP] = place_of_date_or_timestamp,
-    [DATE_FRONT] = place_of_date_front,
-    [TIME] = place_of_time,
-    [TIME_STRICT] = place_of_time_strict,
-    [TIME_FRONT] = place_of_time_front,
-    [DATE_TIME] = place_of_date_time,
-    [DATE_TIME_OR_TIMESTAMP] = place_of_date_time_or_timestamp,
-    [DATE_TIME_STRICT] = place_of_date_time_strict,
-    [DATE_TIME_FRONT] = place_of_date_time_front,
-    [DURATION] = place_of_duration,
+static const struct {
+    Parse *parse;
+    FindPlace *find_place;
+} parsers[ALL_PLACES] = {
+    [DATE] = {parse_date, place_of_date},
+    [DATE_OR_TIMESTAMP] = {parse_date_or_timestamp, place_of_date_or_timestamp},
+    [DATE_FRONT] = {parse_date_front, place_of_date_front},
+    [TIME] = {parse_time, place_of_time},
+    [TIME_STRICT] = {parse_time_strict, place_of_time_strict},
+    [TIME_FRONT] = {parse_time_front, place_of_time_front},
+    [DATE_TIME] = {parse_date_time, place_of_date_time},
+    [DATE_TIME_OR_TIMESTAMP] = {parse_date_time_or_timestamp, place_of_date_time_or_timestamp},
+    [DATE_TIME_STRICT] = {parse_date_time_strict, place_of_date_time_strict},
+    [DATE_TIME_FRONT] = {parse_date_time_front, place_of_date_time_front},
+    [DURATION] = {parse_duration, place_of_duration},
 };
 
 typedef struct {
     Signature signature;
-    PyObject *(*make)(const State *state, const Value *value);
-    Parse *parse, *parse_timestamp; /* the second with timestamps=True */
-    int place, place_timestamp;     /* the same, of the calls above */
+    PyObject *(*make)(const State *state, const Value *value, PyObject *object, const Text *text);
+    int parser, timestamp_parser; /* of those above: the second with timestamps=True, or NO_PLACE */
 } Reader;
 
 /* One number for a call and what its faults depend on of a configuration, less than 256, so that Python has it ready. */
 static long call_number(int call, SpeedateConfig config) {
     return call | config.timestamp_unit << 4 | config.overflow_behavior << 6 | config.iso_order << 7;
 }
+#define OF_COLUMN 256 /* added to the number of a call, all of which are less, if it is one on a column */
 
 /* Puts an object into a slot of a Fault that has just been made. */
 static inline void keep(const State *state, PyObject *fault, int slot, PyObject *object) {
@@ -466,7 +504,23 @@ static inline void keep(const State *state, PyObject *fault, int slot, PyObject 
     *(PyObject **)((char *)fault + state->offsets[slot]) = object;
 }
 
-/* Raises the Fault of a text. What it keeps no one can write: a str, or the bytes that were read. */
+static inline bool has_mark(const Text *text) {
+    return text->size >= 3 && memcmp(text->bytes, "\xef\xbb\xbf", 3) == 0;
+}
+
+/* The text after a byte order mark. */
+static Text after_mark(const Text *text) {
+    return (Text){text->bytes + 3, text->size - 3, NULL};
+}
+
+/* Gives a Fault, if it could be made, the words of a hint, if it has one. */
+static PyObject *with_hint(const State *state, PyObject *fault, int hint) {
+    if (fault && hint != NO_HINT && PyObject_SetAttr(fault, state->held[HINT], state->held[HINTS + hint]) < 0)
+        Py_CLEAR(fault);
+    return fault;
+}
+
+/* Raises the Fault of a text, which it keeps. */
 static PyObject *refuse(const State *state, int code, PyObject *object, const Text *text, int call,
                         SpeedateConfig config) {
     if (call == NO_PLACE || code < 1 || code > SPEEDATE_LAST_FAULT)
@@ -474,10 +528,17 @@ static PyObject *refuse(const State *state, int code, PyObject *object, const Te
     PyObject *number = PyLong_FromLong(call_number(call, config));
     PyObject *fault = number ? new_fault(state, code, state->held[ARGUMENTS + code]) : NULL;
     if (fault) {
-        keep(state, fault, SOURCE, text->owner && !PyUnicode_Check(object) ? text->owner : object);
+        keep(state, fault, SOURCE, source_of(object, text));
         keep(state, fault, CALL_NUMBER, number);
     }
     Py_XDECREF(number);
+    if (has_mark(text)) {
+        Value value;
+        size_t taken;
+        Text rest = after_mark(text);
+        if (parsers[call].parse(&rest, config, &value, &taken) == SPEEDATE_OK)
+            fault = with_hint(state, fault, BYTE_ORDER_MARK);
+    }
     return raise_error(fault);
 }
 
@@ -490,15 +551,15 @@ static inline PyObject *read_text(const Reader *reader, GIVEN) {
     Value value;
     if (bind(&reader->signature, arguments, count, keywords, bound) < 0)
         return NULL;
-    if (reader->parse_timestamp && take_flag("timestamps", bound[2], &timestamps) < 0)
+    if (reader->timestamp_parser != NO_PLACE && take_flag("timestamps", bound[2], &timestamps) < 0)
         return NULL;
     if (take_text(bound[0], -1, &text) < 0)
         return NULL;
     if (take_config(state, bound[1], timestamps ? READS_ALL : READS_NONE, &config) == 0) {
-        int code = (timestamps ? reader->parse_timestamp : reader->parse)(&text, config, &value, NULL);
-        int place = timestamps ? reader->place_timestamp : reader->place;
-        made = code == SPEEDATE_OK ? reader->make(state, &value)
-                                   : refuse(state, code, bound[0], &text, place, config);
+        int parser = timestamps ? reader->timestamp_parser : reader->parser;
+        int code = parsers[parser].parse(&text, config, &value, NULL);
+        made = code == SPEEDATE_OK ? reader->make(state, &value, bound[0], &text)
+                                   : refuse(state, code, bound[0], &text, parser, config);
     }
     Py_XDECREF(text.owner);
     return made;
@@ -523,60 +584,81 @@ static PyObject *with_size(PyObject *made, Py_ssize_t size) {
     return pair;
 }
 
+#define FRONT 256 /* characters that are looked at of a long text at first */
+#define BEYOND 64 /* bytes after a value or a fault, of which none changes it */
+
+/* Takes so many characters of a str, and tells whether these are all that it has. */
+static int take_front(PyObject *object, Py_ssize_t size, Text *text, bool *whole) {
+    PyObject *front = PyUnicode_Substring(object, 0, size);
+    *whole = PyUnicode_GET_LENGTH(object) <= size;
+    int status = front ? take_text(front, -1, text) : -1;
+    if (status == 0 && !text->owner)
+        text->owner = front;
+    else
+        Py_XDECREF(front);
+    return status;
+}
+
+/* Whether not all of a text is encoded, if its front alone is read. */
+static inline bool is_long(PyObject *object) {
+    return PyUnicode_Check(object) && !PyUnicode_IS_COMPACT_ASCII(object) && PyUnicode_GetLength(object) > FRONT;
+}
+
+/* Parses the front of a long text. More of it is taken as long as that could change what is found. */
+static int parse_long_front(int parser, PyObject *object, SpeedateConfig config, Text *text, Value *value,
+                            size_t *taken, int *code) {
+    for (Py_ssize_t size = FRONT;; size *= 8) {
+        bool whole;
+        if (take_front(object, size, text, &whole) < 0)
+            return -1;
+        *code = parsers[parser].parse(text, config, value, taken);
+        size_t end = *taken;
+        if (*code != SPEEDATE_OK)
+            parsers[parser].find_place(text, config, &end);
+        if (whole || end + BEYOND <= text->size)
+            return 0;
+        Py_XDECREF(text->owner);
+    }
+}
+
 static inline PyObject *read_front(const Reader *reader, GIVEN) {
     const State *state = PyModule_GetState(module);
     PyObject *bound[2] = {NULL};
     SpeedateConfig config;
     Text text;
     Value value;
-    size_t taken;
+    size_t taken = 0;
+    int code;
     if (bind(&reader->signature, arguments, count, keywords, bound) < 0 ||
-        take_config(state, bound[1], READS_NONE, &config) < 0 || take_text(bound[0], -1, &text) < 0)
+        take_config(state, bound[1], READS_NONE, &config) < 0)
         return NULL;
-    int code = reader->parse(&text, config, &value, &taken);
-    PyObject *pair = code == SPEEDATE_OK ? with_size(reader->make(state, &value), size_in(bound[0], &text, taken))
-                                         : refuse(state, code, bound[0], &text, reader->place, config);
+    if (is_long(bound[0])) {
+        if (parse_long_front(reader->parser, bound[0], config, &text, &value, &taken, &code) < 0)
+            return NULL;
+    } else {
+        if (take_text(bound[0], -1, &text) < 0)
+            return NULL;
+        code = parsers[reader->parser].parse(&text, config, &value, &taken);
+    }
+    PyObject *pair = code == SPEEDATE_OK ? with_size(reader->make(state, &value, bound[0], &text),
+                                                     size_in(bound[0], &text, taken))
+                                         : refuse(state, code, bound[0], &text, reader->parser, config);
     Py_XDECREF(text.owner);
     return pair;
 }
 
-static const Reader date_reader = {
-    {"date", {"text", "config", "timestamps"}, 2},
-    make_date,
-    parse_date,
-    parse_date_or_timestamp,
-    DATE,
-    DATE_OR_TIMESTAMP};
-static const Reader time_reader = {{"time", {"text", "config"}, 2}, make_time, parse_time, NULL, TIME, NO_PLACE};
+static const Reader date_reader = {{"date", {"text", "config", "timestamps"}, 2}, make_date, DATE, DATE_OR_TIMESTAMP};
+static const Reader time_reader = {{"time", {"text", "config"}, 2}, make_time, TIME, NO_PLACE};
 static const Reader date_time_reader = {
-    {"date_time", {"text", "config", "timestamps"}, 2},
-    make_date_time,
-    parse_date_time,
-    parse_date_time_or_timestamp,
-    DATE_TIME,
-    DATE_TIME_OR_TIMESTAMP};
-static const Reader duration_reader = {
-    {"duration", {"text", "config"}, 2}, make_duration, parse_duration, NULL, DURATION, NO_PLACE};
-static const Reader time_strict_reader = {
-    {"time_strict", {"text", "config"}, 2}, make_time, parse_time_strict, NULL, TIME_STRICT, NO_PLACE};
+    {"date_time", {"text", "config", "timestamps"}, 2}, make_date_time, DATE_TIME, DATE_TIME_OR_TIMESTAMP};
+static const Reader duration_reader = {{"duration", {"text", "config"}, 2}, make_duration, DURATION, NO_PLACE};
+static const Reader time_strict_reader = {{"time_strict", {"text", "config"}, 2}, make_time, TIME_STRICT, NO_PLACE};
 static const Reader date_time_strict_reader = {
-    {"date_time_strict", {"text", "config"}, 2},
-    make_date_time,
-    parse_date_time_strict,
-    NULL,
-    DATE_TIME_STRICT,
-    NO_PLACE};
-static const Reader date_front_reader = {
-    {"date_front", {"text"}, 1}, make_date, parse_date_front, NULL, DATE_FRONT, NO_PLACE};
-static const Reader time_front_reader = {
-    {"time_front", {"text", "config"}, 2}, make_time, parse_time_front, NULL, TIME_FRONT, NO_PLACE};
+    {"date_time_strict", {"text", "config"}, 2}, make_date_time, DATE_TIME_STRICT, NO_PLACE};
+static const Reader date_front_reader = {{"date_front", {"text"}, 1}, make_date, DATE_FRONT, NO_PLACE};
+static const Reader time_front_reader = {{"time_front", {"text", "config"}, 2}, make_time, TIME_FRONT, NO_PLACE};
 static const Reader date_time_front_reader = {
-    {"date_time_front", {"text", "config"}, 2},
-    make_date_time,
-    parse_date_time_front,
-    NULL,
-    DATE_TIME_FRONT,
-    NO_PLACE};
+    {"date_time_front", {"text", "config"}, 2}, make_date_time, DATE_TIME_FRONT, NO_PLACE};
 
 #define CALL(name, read) \
     static PyObject *call_##name(GIVEN) { \
@@ -602,29 +684,58 @@ static Py_ssize_t place_in(PyObject *object, const Text *text, size_t place) {
     return size_in(object, text, place);
 }
 
+/* The place of an error in a text of a column, or a negative number. A column alone refuses a text without an offset,
+ * which is missing at its end, and a duration that is too large as a whole. */
+static Py_ssize_t place_in_column(int call, SpeedateConfig config, PyObject *object, const Text *text) {
+    size_t place = text->size;
+    int code = parsers[call].find_place(text, config, &place);
+    return code == SPEEDATE_OK && call == DURATION ? -1 : place_in(object, text, place);
+}
+
+/* The code by which a call refuses a text, and the place of the error in it. */
+static int find_error(int call, SpeedateConfig config, PyObject *object, Py_ssize_t *place) {
+    bool front = (call == DATE_FRONT || call == TIME_FRONT || call == DATE_TIME_FRONT) && is_long(object), whole = true;
+    for (Py_ssize_t size = FRONT;; size *= 8) {
+        Text text;
+        size_t at = 0;
+        if ((front ? take_front(object, size, &text, &whole) : take_text(object, -1, &text)) < 0)
+            return -1;
+        int code = parsers[call].find_place(&text, config, &at);
+        bool found = whole || (code != SPEEDATE_OK && at + BEYOND <= text.size);
+        if (found)
+            *place = place_in(object, &text, at);
+        Py_XDECREF(text.owner);
+        if (found)
+            return code;
+    }
+}
+
 /* The place of an error, from what a Fault keeps. */
 static PyObject *call_place(PyObject *module, PyObject *arguments) {
     (void)module;
-    PyObject *object, *found = NULL;
+    PyObject *object;
     int number;
     Text text;
-    size_t place;
+    Py_ssize_t place;
     if (!PyArg_ParseTuple(arguments, "Oi:_place", &object, &number))
         return NULL;
+    bool of_column = number >= OF_COLUMN;
     int call = number & 15;
     SpeedateConfig config = {
         .timestamp_unit = number >> 4 & 3, .overflow_behavior = number >> 6 & 1, .iso_order = number >> 7 & 1};
-    if (call == NO_PLACE || call >= ALL_PLACES || call_number(call, config) != number)
+    if (call == NO_PLACE || call >= ALL_PLACES || call_number(call, config) + (of_column ? OF_COLUMN : 0) != number)
         return PyErr_Format(PyExc_ValueError, "no call has the number %d", number);
-    if (take_text(object, -1, &text) < 0)
-        return NULL;
-    int code = find_place[call](&text, config, &place);
-    if (code >= 1 && code <= SPEEDATE_LAST_FAULT)
-        found = PyLong_FromSsize_t(place_in(object, &text, place));
-    else
-        PyErr_SetString(PyExc_ValueError, "the text is not refused");
-    Py_XDECREF(text.owner);
-    return found;
+    if (of_column) {
+        if (take_text(object, -1, &text) < 0)
+            return NULL;
+        place = place_in_column(call, config, object, &text);
+        Py_XDECREF(text.owner);
+        return place < 0 ? Py_INCREF(Py_None), Py_None : PyLong_FromSsize_t(place);
+    }
+    int code = find_error(call, config, object, &place);
+    if (code == SPEEDATE_OK || code > SPEEDATE_LAST_FAULT)
+        return PyErr_SetString(PyExc_ValueError, "the text is not refused"), NULL;
+    return code < 0 ? NULL : PyLong_FromSsize_t(place);
 }
 
 /* ---- Timestamps ---- */
@@ -642,7 +753,7 @@ static PyObject *call_date_from_timestamp(GIVEN) {
         take_flag("exact", bound[2], &exact) < 0 || take_config(state, bound[1], READS_ALL, &config) < 0)
         return NULL;
     int code = speedate_date_from_timestamp(timestamp, exact, config, &value.date);
-    return code == SPEEDATE_OK ? make_date(state, &value) : raise_fault(state, code);
+    return code == SPEEDATE_OK ? make_date(state, &value, NULL, NULL) : raise_fault(state, code);
 }
 
 static PyObject *call_time_from_timestamp(GIVEN) {
@@ -658,7 +769,7 @@ static PyObject *call_time_from_timestamp(GIVEN) {
         take_config(state, bound[2], READS_OFFSET, &config) < 0)
         return NULL;
     int code = speedate_time_from_timestamp((uint32_t)second, (uint32_t)microsecond, config, &value.time);
-    return code == SPEEDATE_OK ? make_time(state, &value) : raise_fault(state, code);
+    return code == SPEEDATE_OK ? make_time(state, &value, NULL, NULL) : raise_fault(state, code);
 }
 
 static PyObject *call_date_time_from_timestamp(GIVEN) {
@@ -674,7 +785,7 @@ static PyObject *call_date_time_from_timestamp(GIVEN) {
         take_config(state, bound[2], READS_ALL, &config) < 0)
         return NULL;
     int code = speedate_datetime_from_timestamp(timestamp, (uint32_t)microsecond, config, &value.date_time);
-    return code == SPEEDATE_OK ? make_date_time(state, &value) : raise_fault(state, code);
+    return code == SPEEDATE_OK ? make_date_time(state, &value, NULL, NULL) : raise_fault(state, code);
 }
 
 /* ---- Columns ---- */
@@ -684,16 +795,17 @@ static PyObject *call_date_time_from_timestamp(GIVEN) {
 #define BLOCK 32768        /* numbers at a time */
 #define BLOCK_BYTES 262144 /* of memory that may change, at a time */
 #define LONG_BYTES 65536   /* of lines, from which on other threads run meanwhile */
+#define REFUSED 256        /* lines at a time that are refused */
+#define ROWS 1024          /* of a table of faults, at a time */
 
-/* How the library reads lines into numbers, and into their codes, if there is a place for them. */
+/* How the library reads lines into numbers. */
 typedef int ReadLines(const Text *text, SpeedateConfig config, SpeedateColumnConfig column, int64_t *numbers,
-                      uint8_t *codes, size_t room, SpeedateProgress *progress);
+                      size_t room, SpeedateProgress *progress);
 
 #define READ_LINES(name, call, number) \
     static int name(const Text *text, SpeedateConfig config, SpeedateColumnConfig column, number *numbers, \
-                    uint8_t *codes, size_t room, SpeedateProgress *progress) { \
-        return codes ? call##_with_errors(BYTES, config, column, numbers, room, codes, room, progress) \
-                     : call(BYTES, config, column, numbers, room, progress); \
+                    size_t room, SpeedateProgress *progress) { \
+        return call(BYTES, config, column, numbers, room, progress); \
     }
 READ_LINES(read_date_times, speedate_datetime_column, int64_t)
 READ_LINES(read_durations, speedate_duration_column, int64_t)
@@ -701,9 +813,9 @@ READ_LINES(read_days, speedate_date_column, int32_t)
 
 /* Days have 32 bits in C, and 64 in NumPy. They are written to the later half of their places, and move forward. */
 static int read_dates(const Text *text, SpeedateConfig config, SpeedateColumnConfig column, int64_t *numbers,
-                      uint8_t *codes, size_t room, SpeedateProgress *progress) {
+                      size_t room, SpeedateProgress *progress) {
     int32_t *days = (int32_t *)numbers + room, day;
-    int code = read_days(text, config, column, days, codes, room, progress);
+    int code = read_days(text, config, column, days, room, progress);
     for (size_t i = 0; code == SPEEDATE_OK && i < progress->lines; i++) {
         memcpy(&day, (char *)days + i * sizeof day, sizeof day);
         numbers[i] = day == INT32_MIN ? NOT_A_TIME : day;
@@ -716,10 +828,11 @@ typedef struct ColumnReader ColumnReader;
 typedef int NumberOf(const ColumnReader *reader, const Text *text, const Value *value, int64_t *number);
 struct ColumnReader {
     ReadLines *read;
-    Parse *parse;
     NumberOf *number_of;
+    int parser; /* of a text of a list */
     SpeedateConfig config;
     SpeedateColumnConfig lines;
+    bool empty_is_nat, items_are_lines;
 };
 
 static int number_of_date_time(const ColumnReader *reader, const Text *text, const Value *value, int64_t *number) {
@@ -750,7 +863,7 @@ static int number_of_duration(const ColumnReader *reader, const Text *text, cons
 /* The number of a text, or its code, with NOT_A_TIME. */
 static inline int read_number(const ColumnReader *reader, const Text *text, int64_t *number) {
     Value value;
-    int code = reader->parse(text, reader->config, &value, NULL);
+    int code = parsers[reader->parser].parse(text, reader->config, &value, NULL);
     if (code == SPEEDATE_OK)
         code = reader->number_of(reader, text, &value, number);
     if (code != SPEEDATE_OK)
@@ -775,15 +888,29 @@ static inline void cut_line_end(const ColumnReader *reader, Text *line) {
         cut(line, '\r');
 }
 
+/* The index, the code and the place of each text that is refused, in arrays and in the rows that are being filled. */
+enum { INDICES, CODES, PLACES, TABLE };
+static const struct {
+    const char *name, *type;
+} table_columns[TABLE] = {[INDICES] = {"index", "q"}, [CODES] = {"code", "B"}, [PLACES] = {"place", "q"}};
+
+typedef struct {
+    PyObject *arrays[TABLE];
+    size_t count; /* of the rows */
+    int64_t indices[ROWS], places[ROWS];
+    uint8_t codes[ROWS];
+} Table;
+
 /* A column: the numbers so far, in an array and in the block that is being filled. */
 typedef struct {
     const State *state;
     ColumnReader reader;
-    PyObject *faults;  /* the list that they go to, or NULL */
+    PyObject *faults;  /* the list or the dict that they go to, or NULL */
+    Table *table;      /* what the dict gets */
+    PyObject *call;    /* what each Fault keeps of this call */
     PyObject *missing; /* what pandas has for a missing text, once that was asked for */
     PyObject *array;
     int64_t *numbers;
-    uint8_t *codes;     /* if there is a list of faults */
     size_t room, count; /* of the block */
     Py_ssize_t before;  /* how many numbers the array has */
 } Column;
@@ -795,24 +922,26 @@ static Py_ssize_t next_index(const Column *column) {
 static int start_block(Column *column, size_t texts) {
     column->room = texts < 1 ? 1 : texts < BLOCK ? texts : BLOCK;
     column->numbers = PyMem_Malloc(column->room * sizeof *column->numbers);
-    column->codes = column->faults ? PyMem_Malloc(column->room) : NULL;
-    return column->numbers && (column->codes || !column->faults) ? 0 : (PyErr_NoMemory(), -1);
+    return column->numbers ? 0 : (PyErr_NoMemory(), -1);
+}
+
+/* Adds what lies in memory to an array. */
+static int add_to_array(const State *state, PyObject *array, void *memory, size_t size) {
+    PyObject *view = PyMemoryView_FromMemory(memory, (Py_ssize_t)size, PyBUF_READ), *none = NULL;
+    if (view) {
+        none = PyObject_CallMethodObjArgs(array, state->held[FROMBYTES], view, NULL);
+        Py_DECREF(view);
+    }
+    Py_XDECREF(none);
+    return none ? 0 : -1;
 }
 
 /* Moves the numbers of the block to the array. Signals are heard, and other threads may run. */
 static int end_block(Column *column) {
-    Py_ssize_t count = (Py_ssize_t)column->count;
-    PyObject *view = PyMemoryView_FromMemory((char *)column->numbers, count * (Py_ssize_t)sizeof *column->numbers,
-                                             PyBUF_READ);
-    PyObject *none = NULL;
-    if (view) {
-        none = PyObject_CallMethodObjArgs(column->array, column->state->held[FROMBYTES], view, NULL);
-        Py_DECREF(view);
-    }
-    if (!none)
+    size_t count = column->count;
+    if (add_to_array(column->state, column->array, column->numbers, count * sizeof *column->numbers) < 0)
         return -1;
-    Py_DECREF(none);
-    column->before += count;
+    column->before += (Py_ssize_t)count;
     column->count = 0;
     if (count == BLOCK) {
         Py_BEGIN_ALLOW_THREADS
@@ -821,42 +950,189 @@ static int end_block(Column *column) {
     return PyErr_CheckSignals();
 }
 
-static int add_fault(Column *column, int code, Py_ssize_t index) {
-    PyObject *fault = new_fault_at(column->state, code, index);
+/* ---- Texts of columns that are refused ---- */
+
+static int start_table(Column *column) {
+    if (!(column->table = PyMem_Calloc(1, sizeof *column->table)))
+        return PyErr_NoMemory(), -1;
+    for (int i = 0; i < TABLE; i++)
+        if (!(column->table->arrays[i] =
+                  PyObject_CallFunction(column->state->held[ARRAY], "s", table_columns[i].type)))
+            return -1;
+    return 0;
+}
+
+static void drop_table(Table *table) {
+    for (int i = 0; table && i < TABLE; i++)
+        Py_XDECREF(table->arrays[i]);
+    PyMem_Free(table);
+}
+
+/* Moves the rows to the arrays. */
+static int end_rows(const State *state, Table *table) {
+    size_t count = table->count;
+    table->count = 0;
+    return add_to_array(state, table->arrays[INDICES], table->indices, count * sizeof *table->indices) < 0 ||
+                   add_to_array(state, table->arrays[CODES], table->codes, count) < 0 ||
+                   add_to_array(state, table->arrays[PLACES], table->places, count * sizeof *table->places) < 0
+               ? -1
+               : 0;
+}
+
+/* Puts the arrays into the dict. */
+static int end_table(Column *column) {
+    if (end_rows(column->state, column->table) < 0)
+        return -1;
+    for (int i = 0; i < TABLE; i++)
+        if (PyDict_SetItemString(column->faults, table_columns[i].name, column->table->arrays[i]) < 0)
+            return -1;
+    return 0;
+}
+
+static int add_row(Column *column, int code, Py_ssize_t index, PyObject *item, const Text *text) {
+    const ColumnReader *reader = &column->reader;
+    Table *table = column->table;
+    table->indices[table->count] = index;
+    table->codes[table->count] = (uint8_t)code;
+    table->places[table->count] = place_in_column(reader->parser, reader->config, item, text);
+    return ++table->count < ROWS ? 0 : end_rows(column->state, table);
+}
+
+/* What a Fault keeps of an item, of which a part may have been read, or of a line, which is none: a new reference. */
+static PyObject *kept_text(PyObject *item, const Text *text, size_t cut) {
+    if (item == Py_None || (cut > 0 && !PyUnicode_Check(item)))
+        return PyBytes_FromStringAndSize(text->bytes, (Py_ssize_t)text->size);
+    if (cut > 0)
+        return PyUnicode_Substring(item, 0, PyUnicode_GET_LENGTH(item) - (Py_ssize_t)cut);
+    PyObject *source = source_of(item, text);
+    Py_INCREF(source);
+    return source;
+}
+
+/* What a text has that alone refuses it. A line ending is looked for in an item that may not have one. */
+static int hint_of(const ColumnReader *reader, const Text *text, bool is_line) {
+    Text rest = has_mark(text) ? after_mark(text) : *text;
+    int64_t number;
+    int hint = has_mark(text) ? BYTE_ORDER_MARK : NO_HINT;
+    size_t size = rest.size;
+    if (!is_line)
+        cut_line_end(reader, &rest);
+    if (rest.size < size)
+        hint |= LINE_END;
+    return hint != NO_HINT && read_number(reader, &rest, &number) == SPEEDATE_OK ? hint : NO_HINT;
+}
+
+/* The Fault of a text, which it keeps. */
+static PyObject *fault_of_text(Column *column, int code, Py_ssize_t index, PyObject *item, const Text *text, size_t cut,
+                               bool is_line) {
+    const State *state = column->state;
+    const ColumnReader *reader = &column->reader;
+    PyObject *fault = new_fault_at(state, code, index);
+    if (!fault || code > LAST_OF_TEXTS || !PyObject_TypeCheck(fault, (PyTypeObject *)state->held[FAULT]))
+        return fault;
+    if (!column->call)
+        column->call = PyLong_FromLong(call_number(reader->parser, reader->config) + OF_COLUMN);
+    PyObject *source = column->call ? kept_text(item, text, cut) : NULL;
+    if (!source) {
+        Py_DECREF(fault);
+        return NULL;
+    }
+    keep(state, fault, SOURCE, source);
+    keep(state, fault, CALL_NUMBER, column->call);
+    Py_DECREF(source);
+    return with_hint(state, fault, hint_of(reader, text, is_line));
+}
+
+/* Ends the column at a text that is refused, or tells its fault and goes on. */
+static int refuse_text(Column *column, int code, Py_ssize_t index, PyObject *item, const Text *text, size_t cut,
+                       bool is_line) {
+    bool ends = !goes_on(&column->reader, code);
+    if (!ends && !column->faults)
+        return 0;
+    if (!ends && column->table)
+        return add_row(column, code, index, item, text);
+    PyObject *fault = fault_of_text(column, code, index, item, text, cut, is_line);
+    if (ends)
+        return raise_error(fault), -1;
     int status = fault ? PyList_Append(column->faults, fault) : -1;
     Py_XDECREF(fault);
     return status;
 }
 
-/* Adds the faults of the lines that have just been read into the block. */
-static int add_faults(Column *column, size_t lines) {
-    for (size_t i = 0; i < lines; i++) {
-        int code = column->codes[column->count + i];
-        if (code != SPEEDATE_OK && add_fault(column, code, next_index(column) + (Py_ssize_t)i) < 0)
-            return -1;
-    }
-    return 0;
+/* ---- Lines of columns ---- */
+
+/* A line that is refused, without its end. */
+typedef struct {
+    int code;
+    size_t place; /* in the block */
+    Text text;
+} Refused;
+
+/* How many lines have been read, and those of them that are refused. */
+typedef struct {
+    Refused refused[REFUSED];
+    size_t count, lines;
+} Read;
+
+/* Reads the next line, which is refused. An empty one may be no fault. */
+static int read_refused(const Column *column, Text *rest, SpeedateColumnConfig lines, int error, Read *read) {
+    const ColumnReader *reader = &column->reader;
+    SpeedateProgress progress;
+    size_t place = column->count + read->lines;
+    lines.goes_on = 1;
+    int code = reader->read(rest, reader->config, lines, column->numbers + place, 1, &progress);
+    if (code != SPEEDATE_OK)
+        return code;
+    Text line = {rest->bytes, progress.bytes, NULL};
+    cut_line_end(reader, &line);
+    if (line.size > 0 || !reader->empty_is_nat)
+        read->refused[read->count++] = (Refused){error, place, line};
+    rest->bytes += progress.bytes;
+    rest->size -= progress.bytes;
+    read->lines += progress.lines;
+    return SPEEDATE_OK;
 }
 
-/* Reads lines into the block, and tells how many bytes of them: lines that end, or a last one that does not. What has the
- * bytes keeps them as they are. */
-static int add_some_lines(Column *column, const Text *text, bool is_last, size_t *bytes) {
+/* Reads lines into the block, and leaves what follows them in the text. It needs no lock: what has the bytes keeps them
+ * as they are. */
+static int read_lines(const Column *column, Text *rest, SpeedateColumnConfig lines, Read *read) {
     const ColumnReader *reader = &column->reader;
-    SpeedateColumnConfig lines = reader->lines;
     SpeedateProgress progress = {0, 0, SPEEDATE_OK};
+    size_t most = reader->lines.goes_on ? REFUSED : 1;
+    int code;
+    /* The library ends at each line that is refused, if anyone wants to know of it. */
+    lines.goes_on = reader->lines.goes_on && !column->faults;
+    do {
+        size_t place = column->count + read->lines;
+        code = reader->read(rest, reader->config, lines, column->numbers + place, column->room - place, &progress);
+        if (code != SPEEDATE_OK)
+            return code;
+        rest->bytes += progress.bytes;
+        rest->size -= progress.bytes;
+        read->lines += progress.lines;
+        if (progress.error != SPEEDATE_OK)
+            code = read_refused(column, rest, lines, progress.error, read);
+    } while (code == SPEEDATE_OK && progress.error != SPEEDATE_OK && read->count < most &&
+             column->count + read->lines < column->room);
+    return code;
+}
+
+/* Reads lines into the block, and leaves in the text what follows them: lines that end, or a last one that does not. */
+static int add_some_lines(Column *column, Text *text, bool is_last) {
+    SpeedateColumnConfig lines = column->reader.lines;
+    Read read;
+    read.count = read.lines = 0;
     lines.more_follows = !is_last;
-    uint8_t *codes = column->codes ? column->codes + column->count : NULL;
     PyThreadState *thread = text->size >= LONG_BYTES ? PyEval_SaveThread() : NULL;
-    int code = reader->read(text, reader->config, lines, column->numbers + column->count, codes,
-                            column->room - column->count, &progress);
+    int code = read_lines(column, text, lines, &read);
     if (thread)
         PyEval_RestoreThread(thread);
-    if (column->faults && add_faults(column, progress.lines) < 0)
-        return -1;
-    column->count += progress.lines;
-    *bytes = progress.bytes;
-    if (code == SPEEDATE_OK)
-        code = progress.error;
+    for (size_t i = 0; i < read.count; i++) {
+        const Refused *it = &read.refused[i];
+        if (refuse_text(column, it->code, column->before + (Py_ssize_t)it->place, Py_None, &it->text, 0, true) < 0)
+            return -1;
+    }
+    column->count += read.lines;
     if (code != SPEEDATE_OK)
         return raise_error(new_fault_at(column->state, code, next_index(column))), -1;
     return column->count < column->room ? 0 : end_block(column);
@@ -864,9 +1140,11 @@ static int add_some_lines(Column *column, const Text *text, bool is_last, size_t
 
 /* Adds the lines that end, and leaves in the text what follows them. */
 static int add_ended_lines(Column *column, Text *text) {
-    for (size_t bytes = 1; text->size > 0 && bytes > 0; text->bytes += bytes, text->size -= bytes)
-        if (add_some_lines(column, text, false, &bytes) < 0)
+    for (size_t size = text->size + 1; text->size > 0 && text->size < size;) {
+        size = text->size;
+        if (add_some_lines(column, text, false) < 0)
             return -1;
+    }
     return 0;
 }
 
@@ -874,7 +1152,7 @@ static int add_fixed_lines(Column *column, const char *bytes, size_t size) {
     Text text = {bytes, size, NULL};
     if (add_ended_lines(column, &text) < 0)
         return -1;
-    return text.size == 0 ? 0 : add_some_lines(column, &text, true, &size);
+    return text.size == 0 ? 0 : add_some_lines(column, &text, true);
 }
 
 /* Lines in memory that may be written while they are read: a part is copied, and its lines are read there. */
@@ -965,13 +1243,17 @@ static int read_item(Column *column, PyObject *item, bool is_line, int64_t *numb
         return missing < 0 ? -1 : 0;
     if (take_text(item, next_index(column), &text) < 0)
         return -1;
+    size_t size = text.size;
     if (is_line)
         cut_line_end(&column->reader, &text);
-    int code = read_number(&column->reader, &text, number);
+    int status = 0;
+    if (text.size > 0 || !column->reader.empty_is_nat) {
+        int code = read_number(&column->reader, &text, number);
+        if (code != SPEEDATE_OK)
+            status = refuse_text(column, code, next_index(column), item, &text, size - text.size, is_line);
+    }
     Py_XDECREF(text.owner);
-    if (!goes_on(&column->reader, code))
-        return raise_error(new_fault_at(column->state, code, next_index(column))), -1;
-    return code == SPEEDATE_OK || !column->faults ? 0 : add_fault(column, code, next_index(column));
+    return status;
 }
 
 static int add_items(Column *column, PyObject *items, size_t count, bool are_lines) {
@@ -991,7 +1273,7 @@ static int add_items(Column *column, PyObject *items, size_t count, bool are_lin
 static int add_texts(Column *column, PyObject *texts) {
     PyObject *view;
     if (PyList_CheckExact(texts) || PyTuple_CheckExact(texts))
-        return add_items(column, texts, (size_t)Py_SIZE(texts), false);
+        return add_items(column, texts, (size_t)Py_SIZE(texts), column->reader.items_are_lines);
     if (PyBytes_Check(texts))
         return add_lines(column, PyBytes_AS_STRING(texts), PyBytes_GET_SIZE(texts), true);
     if (PyByteArray_Check(texts) && !PyByteArray_CheckExact(texts))
@@ -1003,57 +1285,69 @@ static int add_texts(Column *column, PyObject *texts) {
         Py_DECREF(view);
         return status;
     }
-    PyObject *by_lines = PyObject_CallFunctionObjArgs(column->state->held[BY_LINES], texts, NULL);
-    if (!by_lines)
-        return -1;
-    bool are_lines = by_lines == Py_True;
-    Py_DECREF(by_lines);
-    return add_items(column, texts, BLOCK, are_lines);
+    PyObject *items, *pair = PyObject_CallFunctionObjArgs(column->state->held[ITEMS], texts, NULL);
+    int are_lines, status = -1;
+    if (pair && PyArg_ParseTuple(pair, "Op", &items, &are_lines))
+        status = add_items(column, items, BLOCK, are_lines || column->reader.items_are_lines);
+    Py_XDECREF(pair);
+    return status;
 }
 
 static PyObject *column_of(Column *column, PyObject *texts) {
     column->array = PyObject_CallFunction(column->state->held[ARRAY], "s", "q");
-    if (!column->array || add_texts(column, texts) < 0 || end_block(column) < 0)
+    bool tells = column->faults && PyDict_Check(column->faults);
+    if (!column->array || (tells && start_table(column) < 0) || add_texts(column, texts) < 0 || end_block(column) < 0 ||
+        (tells && end_table(column) < 0))
         Py_CLEAR(column->array);
+    drop_table(column->table);
+    Py_XDECREF(column->call);
     Py_XDECREF(column->missing);
     PyMem_Free(column->numbers);
-    PyMem_Free(column->codes);
     return column->array;
 }
 
 /* Takes what becomes of texts that are refused: the first one ends the column, or all are NOT_A_TIME, with their faults
- * in a list or without. */
+ * in a list or a dict or without. */
 static int take_faults(Column *column, PyObject *value, bool *nat) {
-    if (value && PyList_Check(value)) {
+    if (value && (PyList_Check(value) || PyDict_Check(value))) {
         column->faults = value;
         *nat = true;
         return 0;
     }
     if (value && !PyUnicode_Check(value))
-        return wrong_type("faults", "str or list", value);
+        return wrong_type("faults", "str or list or dict", value);
     return take_choice(column->state, "faults", value, "raise", "nat", nat);
 }
 
-/* A call on columns. Its parameters stand in the order in which all have them, and its functions in that of the forms. */
-enum { TEXTS, CONFIGURATION, FAULTS, NEWLINE, TIMESTAMPS, STRICT, NAIVE, COLUMN_PARAMETERS };
+/* Takes whether date-times without an offset are in UTC, which has a name in capitals too. */
+static int take_naive(const State *state, PyObject *value, bool *out) {
+    *out = value && PyUnicode_CheckExact(value) && PyUnicode_CompareWithASCIIString(value, "UTC") == 0;
+    return *out ? 0 : take_choice(state, "naive", value, "error", "utc", out);
+}
+
+/* A call on columns. Its parameters stand in the order in which all have them, and its parsers in that of the forms. */
+enum { TEXTS, CONFIGURATION, FAULTS, NEWLINE, EMPTY, LINES, TIMESTAMPS, STRICT, NAIVE };
+#define OTHERS "config", "faults", "newline", "empty", "lines"
 typedef struct {
     Signature signature;
     ReadLines *read;
     NumberOf *number_of;
-    Parse *parse[SPEEDATE_FORM_STRICT + 1];
+    int parser[SPEEDATE_FORM_STRICT + 1];
 } ColumnCall;
 
 static PyObject *read_column(const ColumnCall *call, GIVEN) {
     Column column = {.state = PyModule_GetState(module)};
     ColumnReader *reader = &column.reader;
-    PyObject *bound[COLUMN_PARAMETERS] = {NULL};
+    PyObject *bound[COLUMN_ARGUMENTS] = {NULL};
     bool strict = false, timestamps = false, naive_is_utc = false, nat = false, return_is_text = false;
     if (bind(&call->signature, arguments, count, keywords, bound) < 0 ||
         take_flag("strict", bound[STRICT], &strict) < 0 ||
         take_flag("timestamps", bound[TIMESTAMPS], &timestamps) < 0 ||
-        take_choice(column.state, "naive", bound[NAIVE], "error", "utc", &naive_is_utc) < 0 ||
+        take_naive(column.state, bound[NAIVE], &naive_is_utc) < 0 ||
         take_faults(&column, bound[FAULTS], &nat) < 0 ||
         take_choice(column.state, "newline", bound[NEWLINE], "\r\n", "\n", &return_is_text) < 0 ||
+        take_choice(column.state, "empty", bound[EMPTY], "error", "nat", &reader->empty_is_nat) < 0 ||
+        take_flag("lines", bound[LINES], &reader->items_are_lines) < 0 ||
         take_config(column.state, bound[CONFIGURATION], timestamps ? READS_ALL : READS_NONE, &reader->config) < 0)
         return NULL;
     if (strict && timestamps) {
@@ -1065,26 +1359,26 @@ static PyObject *read_column(const ColumnCall *call, GIVEN) {
     reader->lines.drops_returns = !return_is_text;
     reader->lines.goes_on = nat;
     reader->read = call->read;
-    reader->parse = call->parse[reader->lines.form];
     reader->number_of = call->number_of;
+    reader->parser = call->parser[reader->lines.form];
     return column_of(&column, bound[TEXTS]);
 }
 
 static const ColumnCall date_time_column_reader = {
-    {"date_time_column", {"texts", "config", "faults", "newline", "timestamps", "strict", "naive"}, 2},
+    {"date_time_column", {"texts", OTHERS, "timestamps", "strict", "naive"}, 2},
     read_date_times,
     number_of_date_time,
-    {parse_date_time, parse_date_time_or_timestamp, parse_date_time_strict}};
+    {DATE_TIME, DATE_TIME_OR_TIMESTAMP, DATE_TIME_STRICT}};
 static const ColumnCall date_column_reader = {
-    {"date_column", {"texts", "config", "faults", "newline", "timestamps"}, 2},
+    {"date_column", {"texts", OTHERS, "timestamps"}, 2},
     read_dates,
     number_of_date,
-    {parse_date, parse_date_or_timestamp, NULL}};
+    {DATE, DATE_OR_TIMESTAMP, NO_PLACE}};
 static const ColumnCall duration_column_reader = {
-    {"duration_column", {"texts", "config", "faults", "newline"}, 2},
+    {"duration_column", {"texts", OTHERS}, 2},
     read_durations,
     number_of_duration,
-    {parse_duration, NULL, NULL}};
+    {DURATION, NO_PLACE, NO_PLACE}};
 
 CALL(date_time_column, read_column)
 CALL(date_column, read_column)
@@ -1305,7 +1599,7 @@ static int hold_fault(State *state, int code) {
 
 /* Gives the package the classes, so that it has these even if it, or _types.py, is loaded once more. */
 static int give_classes(PyObject *module, const State *state) {
-    for (int i = CONFIG; i <= UNREPRESENTABLE; i++)
+    for (int i = CONFIG; i <= REFUSAL; i++)
         if (PyObject_SetAttrString(module, imports[i].name, state->held[i]) < 0)
             return -1;
     return 0;
@@ -1316,9 +1610,13 @@ static int start(PyObject *module) {
     if (hold_imports(state) < 0 || find_slots(state) < 0 || give_classes(module, state) < 0 ||
         hold(state, NUMBERS, PyUnicode_InternFromString("_numbers")) < 0 ||
         hold(state, INDEX, PyUnicode_InternFromString("index")) < 0 ||
+        hold(state, HINT, PyUnicode_InternFromString("hint")) < 0 ||
         hold(state, UTCOFFSET, PyUnicode_InternFromString("utcoffset")) < 0 ||
         hold(state, FROMBYTES, PyUnicode_InternFromString("frombytes")) < 0)
         return -1;
+    for (int i = BYTE_ORDER_MARK; i <= BOTH_HINTS; i++)
+        if (hold(state, HINTS + i, PyUnicode_InternFromString(hint_words[i])) < 0)
+            return -1;
     for (int code = 1; code <= SPEEDATE_LAST_FAULT; code++)
         if (hold_fault(state, code) < 0)
             return -1;
@@ -1359,7 +1657,8 @@ static PyMethodDef methods[] = {
            ">>> time(\"12:13:14,5Z\")\n"
            "datetime.time(12, 13, 14, 500000, tzinfo=datetime.timezone.utc)\n"),
     METHOD(date_time, "(text, config=None, *, timestamps=False)",
-           "Parses a date-time. With `timestamps=True` also a timestamp, whole or decimal: `20200229` is one.\n\n"
+           "Parses a date-time. With `timestamps=True` also a timestamp, whole or decimal: `20200229` is one. If the configuration\n"
+           "names no unit, numbers up to 20,000,000,000 are seconds and larger ones milliseconds.\n\n"
            ">>> date_time(\"2020-02-29 12:13\")\n"
            "datetime.datetime(2020, 2, 29, 12, 13)\n"
            ">>> date_time(\"1654646404.25\", Config(timestamp_offset=0), timestamps=True)\n"
@@ -1368,7 +1667,9 @@ static PyMethodDef methods[] = {
            "Parses a duration. A year is 365 days, a month 30; `-PT0S` is `timedelta(0)`.\n\n"
            "Its sign covers the whole text, while in `str()` of a timedelta it covers the days alone: print by `text`.\n\n"
            ">>> duration(\"-1 day, 23:59:59\")\n"
-           "datetime.timedelta(days=-2, seconds=1)\n"),
+           "datetime.timedelta(days=-2, seconds=1)\n"
+           ">>> duration(text(datetime.timedelta(seconds=-1)))\n"
+           "datetime.timedelta(days=-1, seconds=86399)\n"),
     METHOD(time_strict, "(text, config=None)",
            "Parses a time of RFC 3339 and nothing else.\n\n"
            ">>> time_strict(\"12:13+01:00\")\n"
@@ -1406,48 +1707,62 @@ static PyMethodDef methods[] = {
            ">>> date_time_from_timestamp(1582978394000, 500_000, Config(timestamp_unit=\"ms\", timestamp_offset=0))\n"
            "datetime.datetime(2020, 2, 29, 12, 13, 14, 500000, tzinfo=datetime.timezone.utc)\n"),
     METHOD(date_time_column,
-           "(texts, config=None, *, strict=False, timestamps=False, naive='error', faults='raise', newline='\\r\\n')",
+           "(texts, config=None, *, strict=False, timestamps=False, naive='error', faults='raise', newline='\\r\\n', "
+           "empty='error', lines=False)",
            "The microseconds from 1970-01-01T00:00Z to each date-time, as an `array.array(\"q\")`.\n\n"
            "`texts` is an iterable of texts, each as `date_time` takes it; or a file, or bytes in memory, such as `bytes` and an\n"
-           "`mmap`, whose lines they are. A line feed ends a line, which the last one may lack. A carriage return at the end\n"
-           "of a line is dropped; with `newline=\"\\n\"` it is part of the text. A mapping and a DataFrame are a `TypeError`: pass\n"
-           "one column. With `strict=True` texts are parsed as by `date_time_strict`, and with `timestamps=True` they may be\n"
-           "timestamps.\n\n"
+           "`mmap`, whose lines they are. A file is read from where it stands: one that was just written stands at its end, so\n"
+           "`seek(0)` comes first. A line feed ends a line, which the last one may lack. A carriage return at the end of a line\n"
+           "is dropped; with `newline=\"\\n\"` it is part of the text. With `lines=True` the items of an iterable, such as\n"
+           "`list(file)`, are lines too. A mapping and a DataFrame are a `TypeError`: pass one column.\n\n"
+           "With `strict=True` texts are parsed as by `date_time_strict`, and with `timestamps=True` they may be timestamps, of\n"
+           "which `timestamp_unit` should name the unit: otherwise each number has a unit of its own, and 13000000000 is seconds,\n"
+           "of the year 2381. The year 0 is accepted, although `date_time` has no such value.\n\n"
            "A text without an offset fails with `tz_required`, or is taken as UTC with `naive=\"utc\"`; so is a timestamp, unless\n"
            "the configuration has an offset: for Unix time it is `Config(timestamp_offset=0)`.\n\n"
-           "The first text that is refused raises its `Fault`, whose `index` is its place. With `faults=\"nat\"` the smallest\n"
-           "number, NumPy's NaT, stands in the place of each such text. If `faults` is a list, their faults are appended to it\n"
-           "too. `None`, NaN, `pandas.NA` and `pandas.NaT` are NaT, and no fault.\n\n"
+           "The first text that is refused raises its `Fault`, whose `index` is its place in the column. With `faults=\"nat\"` the\n"
+           "smallest number, NumPy's NaT, stands in the place of each such text. If `faults` is a list, their faults are appended\n"
+           "to it too. If it is a dict, it gets arrays with the `index`, the `code` and the `place` of each fault instead, which\n"
+           "cost little; a place of -1 is none, and a call that fails leaves it as it was. `None`, NaN, `pandas.NA` and\n"
+           "`pandas.NaT` are NaT, and no fault. So is an empty text with `empty=\"nat\"`.\n\n"
            ">>> date_time_column([\"1970-01-01T00:00:01Z\", \"1970-01-01T01:00+01:00\"])\n"
            "array('q', [1000000, 0])\n"
            ">>> faults = []\n"
            ">>> date_time_column(b\"1970-01-01 00:00\\nnever\\n\", naive=\"utc\", faults=faults)\n"
            "array('q', [0, -9223372036854775808])\n"
            ">>> faults\n"
-           "[<Fault too_short in text 1>]\n\n"
+           "[<Fault too_short in text 1>]\n"
+           ">>> faults = {}\n"
+           ">>> column = date_time_column(b\"1970-01-01 00:00\\nnever\\n\", naive=\"utc\", faults=faults)\n"
+           ">>> faults\n"
+           "{'index': array('q', [1]), 'code': array('B', [1]), 'place': array('q', [5])}\n\n"
            "NumPy takes a column as it is, by `numpy.frombuffer(column, \"datetime64[us]\")`. pandas before 2 holds only the\n"
            "years 1677 to 2262.\n"),
-    METHOD(date_column, "(texts, config=None, *, timestamps=False, faults='raise', newline='\\r\\n')",
+    METHOD(date_column,
+           "(texts, config=None, *, timestamps=False, faults='raise', newline='\\r\\n', empty='error', lines=False)",
            "The days from 1970-01-01 to each date, as an `array.array(\"q\")`.\n\n"
            "The arguments are those of `date_time_column`. Each text is taken as by `date`: with `timestamps=True` it may be a\n"
-           "timestamp, if it is a midnight.\n\n"
+           "timestamp, if it is a midnight. The year 0 is accepted, although `date` has no such value.\n\n"
            ">>> date_column(b\"1970-01-02\\n1969-12-31\\n\")\n"
            "array('q', [1, -1])\n"
            ">>> date_column([\"1970-01-02\", None, \"1970-01-02T00:00\"], faults=\"nat\")\n"
            "array('q', [1, -9223372036854775808, -9223372036854775808])\n\n"
            "NumPy takes a column as it is, by `numpy.frombuffer(column, \"datetime64[D]\")`.\n"),
-    METHOD(duration_column, "(texts, config=None, *, faults='raise', newline='\\r\\n')",
+    METHOD(duration_column, "(texts, config=None, *, faults='raise', newline='\\r\\n', empty='error', lines=False)",
            "The microseconds of each duration, with its sign, as an `array.array(\"q\")`.\n\n"
            "The arguments are those of `date_time_column`. Each text is taken as by `duration`. One of 2**63 microseconds or\n"
            "more, which are over 106,751,991 days, is refused with `number_too_large`.\n\n"
+           "Hand a timedelta over by `text`: the sign of its `str()` covers the days alone, and here the whole text.\n\n"
            ">>> duration_column(b\"PT1.5S\\n-00:01:00\\n\")\n"
            "array('q', [1500000, -60000000])\n"
+           ">>> duration_column([\"-1 day, 23:59:59\", text(datetime.timedelta(seconds=-1))])\n"
+           "array('q', [-172799000000, -1000000])\n"
            ">>> duration_column([\"P106751992D\"])\n"
            "Traceback (most recent call last):\n"
            "speedate.Fault: number_too_large in text 0\n\n"
            "NumPy takes a column as it is, by `numpy.frombuffer(column, \"timedelta64[us]\")`.\n"),
     METHOD(text, "(value)",
-           "The one text of a value.\n\n"
+           "The one text of a value. A year is 365 days, a month 30: 400 days are `P1Y35D`, which other readers may refuse.\n\n"
            "It refuses with a `ValueError` an offset that is not whole minutes, a time in a zone whose offset depends on the\n"
            "date, and a value of a subclass that says more than its base class, such as nanoseconds.\n\n"
            ">>> text(date_time(\"2020-02-29 12:13Z\")), text(time(\"12:13:14,5\")), text(datetime.date(2020, 2, 29))\n"

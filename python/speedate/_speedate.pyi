@@ -2,15 +2,16 @@ import array
 import ctypes
 import datetime
 import mmap
-from typing import Any, Iterable, List, Literal, Optional, Tuple, Union
+from typing import Any, Dict, Iterable, List, Literal, Optional, Tuple, Union
 
-from ._types import Config as Config, Fault as Fault, Unrepresentable as Unrepresentable
+from ._types import Config as Config, Fault as Fault, Refusal as Refusal, Unrepresentable as Unrepresentable
 
 _Text = Union[str, bytes, bytearray, memoryview]
 _Bytes = Union[bytes, bytearray, memoryview, mmap.mmap, array.array[int], ctypes.Array[Any]]
 _Texts = Union[Iterable[Union[_Text, float, None]], _Bytes]
-_Faults = Union[Literal["raise", "nat"], List[Fault]]
+_Faults = Union[Literal["raise", "nat"], List[Fault], Dict[str, array.array[int]]]
 _Newline = Literal["\r\n", "\n"]
+_Empty = Literal["error", "nat"]
 
 def date(text: _Text, config: Optional[Config] = None, *, timestamps: bool = False) -> datetime.date: ...
 def time(text: _Text, config: Optional[Config] = None) -> datetime.time: ...
@@ -28,17 +29,20 @@ def date_time_from_timestamp(
 ) -> datetime.datetime: ...
 def date_time_column(
     texts: _Texts, config: Optional[Config] = None, *, strict: bool = False,
-    timestamps: bool = False, naive: Literal["error", "utc"] = "error",
-    faults: _Faults = "raise", newline: _Newline = "\r\n"
+    timestamps: bool = False, naive: Literal["error", "utc", "UTC"] = "error",
+    faults: _Faults = "raise", newline: _Newline = "\r\n",
+    empty: _Empty = "error", lines: bool = False
 ) -> array.array[int]: ...
 def date_column(
     texts: _Texts, config: Optional[Config] = None, *, timestamps: bool = False,
-    faults: _Faults = "raise", newline: _Newline = "\r\n"
+    faults: _Faults = "raise", newline: _Newline = "\r\n",
+    empty: _Empty = "error", lines: bool = False
 ) -> array.array[int]: ...
 def duration_column(
     texts: _Texts, config: Optional[Config] = None, *,
-    faults: _Faults = "raise", newline: _Newline = "\r\n"
+    faults: _Faults = "raise", newline: _Newline = "\r\n",
+    empty: _Empty = "error", lines: bool = False
 ) -> array.array[int]: ...
 def text(value: Union[datetime.date, datetime.time, datetime.timedelta]) -> str: ...
 def _words(code: int) -> Tuple[str, str]: ...
-def _place(source: _Text, call: int) -> int: ...
+def _place(source: _Text, call: int) -> Optional[int]: ...

@@ -8,13 +8,60 @@ import struct
 import sys
 
 
-class Fault(ValueError):
+class Refusal(ValueError):
+    """Why a text, or a number, has no value: a `Fault` or an `Unrepresentable`, by its `name`.
+
+    Its `text` is the text that was refused, of a column too: a `str`, otherwise its bytes. Its `place` is where the fault
+    lies in it, counted in characters of a `str`, otherwise in bytes. Both are `None` of a number, and of a refusal that no
+    call raised. The `place` is `None` of `number_too_large` too.
+
+    Its `index` is the place of the text in a column, and `None` in any other call.
+
+    >>> for text in ("2021-02-29", "0000-01-01"):
+    ...     try:
+    ...         date(text)
+    ...     except Refusal as refusal:
+    ...         refusal.name, refusal.text, refusal.place
+    ('out_of_range_day', '2021-02-29', 8)
+    ('year_zero', '0000-01-01', 0)
+    """
+
+    __module__ = "speedate"
+    # What the place is found from, if a call has refused a text: that text, and a number for the call. In a copy the place
+    # is the source itself.
+    __slots__ = "_source", "_call", "__weakref__"
+    name: str
+    index = None
+
+    def __init__(self, name):
+        super().__init__(name)
+        self.name = name
+
+    @property
+    def text(self):
+        if not hasattr(self, "_call"):
+            return None
+        return self._source.tobytes() if isinstance(self._source, memoryview) else self._source
+
+    @property
+    def place(self):
+        return self._found() if hasattr(self, "_call") else getattr(self, "_source", None)
+
+    def _found(self):
+        """The place in the text."""
+        from ._speedate import _place
+
+        return _place(self._source, self._call)
+
+    def __reduce__(self):
+        return type(self), self.args, {**vars(self), "_source": self.place}
+
+
+class Fault(Refusal):
     """Why the library refuses a text, or a number: the `name` of the fault, its `code` in C, and its `documentation`.
 
-    Its `place` is where the fault lies in the text of a date, a time or a date-time, counted in characters of a `str`,
-    otherwise in bytes. It is `None` for a duration, a number, a text of a column, and a `Fault` that no call raised.
-
-    Its `index` is the place of the text in a column, which `str` tells too, and `None` in any other call.
+    Its `text`, `place` and `index` are those of a `Refusal`. Its `str` tells the index too, and its `hint`. This is `None`,
+    or says what alone refuses the text: a byte order mark, or a line ending.
 
     >>> try:
     ...     time("12:13:60")
@@ -23,16 +70,17 @@ class Fault(ValueError):
     ('out_of_range_second', 25, 'second value is outside expected range of 0-59', 6)
     >>> Fault(23), Fault(23, 1000)
     (<Fault out_of_range_hour>, <Fault out_of_range_hour in text 1000>)
+    >>> date_column(["1970-01-01\\n"])
+    Traceback (most recent call last):
+    speedate.Fault: extra_characters in text 0: it has a line ending, which lines=True drops
     """
 
     __module__ = "speedate"
-    # What the place is found from, if a call has refused a text: that text, and a number for the call. In a copy the place
-    # is the source itself.
-    __slots__ = "_source", "_call", "__weakref__"
+    __slots__ = ()
     code: int
     name: str
     documentation: str
-    index = None
+    hint = None
 
     def __init__(self, code, index=None):
         from ._speedate import _words
@@ -41,28 +89,20 @@ class Fault(ValueError):
         if index is not None:
             self.index = _integer("index", index, 0, sys.maxsize)
         self.name, self.documentation = _words(self.code)
-        super().__init__(*(it for it in (self.code, self.index) if it is not None))
-
-    @property
-    def place(self):
-        if not hasattr(self, "_call"):
-            return getattr(self, "_source", None)
-        from ._speedate import _place
-
-        return _place(self._source, self._call)
-
-    def __reduce__(self):
-        return type(self), self.args, {**vars(self), "_source": self.place}
+        ValueError.__init__(self, *(it for it in (self.code, self.index) if it is not None))
 
     def __str__(self):
-        return self.name if self.index is None else f"{self.name} in text {self.index}"
+        told = self.name if self.index is None else f"{self.name} in text {self.index}"
+        return told if self.hint is None else f"{told}: {self.hint}"
 
     def __repr__(self):
         return f"<{type(self).__name__} {self}>"
 
 
-class Unrepresentable(ValueError):
+class Unrepresentable(Refusal):
     """A value that the library has and Python has not: its `name` is `year_zero` or `duration_too_small`.
+
+    Its `text` and `place` are those of a `Refusal`: the whole value is wrong, so the place is 0.
 
     >>> date("0000-01-01")
     Traceback (most recent call last):
@@ -73,11 +113,10 @@ class Unrepresentable(ValueError):
     """
 
     __module__ = "speedate"
-    name: str
+    __slots__ = ()
 
-    def __init__(self, name):
-        super().__init__(name)
-        self.name = name
+    def _found(self):
+        return 0
 
 
 def _wrong(name, value, *kinds):
@@ -85,7 +124,8 @@ def _wrong(name, value, *kinds):
 
 
 def _integer(name, value, low, high):
-    if isinstance(value, bool) or not hasattr(value, "__index__"):
+    # The truth values of NumPy have an index in some of its versions.
+    if isinstance(value, (bool, getattr(sys.modules.get("numpy"), "bool_", bool))) or not hasattr(value, "__index__"):
         raise _wrong(name, value, int)
     number = operator.index(value)
     if not low <= number <= high:
@@ -180,12 +220,22 @@ def _missing():
     return getattr(pandas, "NA", None), getattr(pandas, "NaT", None)
 
 
-def _by_lines(texts):
-    """Whether the items of what is no bytes are lines of a file. It refuses what has other items than texts."""
+def _items(texts):
+    """The items of what is no bytes, and whether they are lines of a file. It refuses what has other items than texts."""
     from collections.abc import Mapping
 
     if isinstance(texts, str):
         raise TypeError(f"texts has to be an iterable of texts, a file, or bytes, not {type(texts).__name__}")
     if isinstance(texts, Mapping) or hasattr(texts, "columns"):
         raise TypeError(f"texts has to be one column, not {type(texts).__name__}: pass its values, or one of its columns")
-    return hasattr(texts, "readline")
+    return _values(texts), hasattr(texts, "readline")
+
+
+def _values(texts):
+    """The array of a column of pandas that has objects, over which an iteration takes less time, or the texts themselves."""
+    pandas = sys.modules.get("pandas")
+    if isinstance(texts, (getattr(pandas, "Series", ()), getattr(pandas, "Index", ()))):
+        values = texts.to_numpy()
+        if values.dtype == object:
+            return values
+    return texts

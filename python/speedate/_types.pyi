@@ -1,16 +1,23 @@
-from typing import Literal, Optional, final
+from typing import Literal, Optional, Union, final
 
-class Fault(ValueError):
+class Refusal(ValueError):
+    name: str
+    index: Optional[int]
+    def __init__(self, name: str) -> None: ...
+    @property
+    def text(self) -> Union[str, bytes, None]: ...
+    @property
+    def place(self) -> Optional[int]: ...
+
+class Fault(Refusal):
     name: str
     code: int
     documentation: str
     index: Optional[int]
+    hint: Optional[str]
     def __init__(self, code: int, index: Optional[int] = None) -> None: ...
-    @property
-    def place(self) -> Optional[int]: ...
 
-class Unrepresentable(ValueError):
-    name: str
+class Unrepresentable(Refusal):
     def __init__(self, name: str) -> None: ...
 
 @final

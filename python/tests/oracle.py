@@ -13,15 +13,25 @@ import itertools
 import pathlib
 import struct
 
-from speedate._types import _FIELDS, _by_lines, _choice, _integer, _missing, _plain, _wrong
+from speedate._types import _FIELDS, _choice, _integer, _items, _missing, _plain, _wrong
 
 
-class Fault(ValueError):
-    __slots__ = ("place",)  # no attribute of vars()
-    index = None
+HINTS = {
+    (True, False): "it begins with a byte order mark", (False, True): "it has a line ending, which lines=True drops",
+    (True, True): "it begins with a byte order mark, and has a line ending"}
+MARK = b"\xef\xbb\xbf"
+
+
+class Refusal(ValueError):
+    __slots__ = "place", "text"  # no attributes of vars()
+
+
+class Fault(Refusal):
+    __slots__ = ()
+    index = hint = None
 
     def __init__(self, code, index=None):
-        self.place = None
+        self.place = self.text = None
         self.code = _integer("code", code, 0, 2**31 - 1)
         self.name, self.documentation = _words(self.code)
         super().__init__(*[self.code, index][: 1 if index is None else 2])
@@ -29,13 +39,15 @@ class Fault(ValueError):
             self.index = index
 
     def __str__(self):
-        return self.name + (f" in text {self.index}" if self.index is not None else "")
+        return self.name + (f" in text {self.index}" if self.index is not None else "") + (f": {self.hint}" if self.hint else "")
 
 
-class Unrepresentable(ValueError):
+class Unrepresentable(Refusal):
+    __slots__ = ()
+
     def __init__(self, name):
         super().__init__(name)
-        self.name = name
+        self.name, self.place, self.text = name, None, None
 
 
 # ---- The library: the structs and calls of its header ----
@@ -223,15 +235,39 @@ def _value(out, code):
     return out.value()
 
 
+def _kept(text):
+    """What a refusal has as its text: a str or bytes as it is, otherwise the bytes."""
+    return text if isinstance(text, (str, bytes)) else _bytes(text)
+
+
+def _counted(text, place):
+    """A place as it is counted in a text: in a str it is how many characters end there or before."""
+    if not isinstance(text, str):
+        return place
+    return sum(it <= place for it in itertools.accumulate(len(it.encode("utf-8", "surrogatepass")) for it in text))
+
+
 def _fault(call, code, text, *numbers):
-    """The fault of a text, with its place, which in a str is how many characters end there or before."""
+    """The fault of a text, with its place, and a hint if nothing but a byte order mark refuses it."""
     fault, whole, place = Fault(code), _bytes(text), ctypes.c_size_t()
     name = call.__name__.replace("speedate_", "").replace("_parse", "_error_place")
-    if name in _PLACES:
-        assert getattr(_library, f"speedate_{name}")(whole, len(whole), *numbers, place) == code
-        ends = itertools.accumulate(len(it.encode("utf-8", "surrogatepass")) for it in (text if isinstance(text, str) else ""))
-        fault.place = sum(it <= place.value for it in ends) if isinstance(text, str) else place.value
+    assert getattr(_library, f"speedate_{name}")(whole, len(whole), *numbers, place) == code
+    fault.place, fault.text = _counted(text, place.value), _kept(text)
+    if whole.startswith(MARK):
+        *_, out = call.argtypes[: call.argtypes.index(_SIZE) if _SIZE in call.argtypes else None]
+        more = [ctypes.c_size_t()] if name.endswith("_front") else []
+        if call(whole[3:], len(whole) - 3, *numbers, out._type_(), *more) == 0:
+            fault.hint = HINTS[True, False]
     return fault
+
+
+def _value_of_text(out, text):
+    """The value that a call has written, of a text."""
+    try:
+        return out.value()
+    except Unrepresentable as error:
+        error.place, error.text = 0, _kept(text)
+        raise
 
 
 def _read_text(call, out, text, *numbers):
@@ -240,7 +276,7 @@ def _read_text(call, out, text, *numbers):
     code = call(whole, len(whole), *numbers, out)
     if code:
         raise _fault(call, code, text, *numbers)
-    return out.value()
+    return _value_of_text(out, text)
 
 
 def _read(call, out, text, config, read=()):
@@ -254,7 +290,7 @@ def _read_front(call, out, text, *numbers):
     code = call(whole, len(whole), *numbers, out, size)
     if code:
         raise _fault(call, code, text, *numbers)
-    value = out.value()
+    value = _value_of_text(out, text)
     return value, len(whole[: size.value].decode()) if isinstance(text, str) else size.value
 
 
@@ -328,52 +364,90 @@ def _view(texts):
     return view if view.itemsize == 1 and view.format.lstrip("@=<>!") in ("B", "b", "c") else None
 
 
-def _lines(texts, ends):
-    """The texts of a column. Of lines each of some ends, in their order, is cut off, if it is there."""
+def _cut(line, ends):
+    """A line without each of some ends, in their order, if it is there."""
+    for end in ends:
+        line = line[:-1] if line.endswith(end) else line
+    return line
+
+
+def _lines(texts, ends, lines):
+    """The texts of a column, and whether each is a line, without its ends."""
     view = None if isinstance(texts, (bytes, bytearray)) else _view(texts)
     if view is not None or isinstance(texts, (bytes, bytearray)):
         texts = io.BytesIO(view.tobytes() if view is not None else _bytes(texts))
-    if not _by_lines(texts):
-        yield from texts
-        return
+    are_lines = _items(texts)[1] or lines
     for it in texts:
-        if not isinstance(it, (str, bytes, bytearray)):
-            yield it
-            continue
-        line = _bytes(it)
-        for end in ends:
-            line = line[:-1] if line.endswith(end) else line
-        yield line
+        if are_lines and isinstance(it, str):
+            whole = _bytes(it)
+            it = str.__getitem__(it, slice(str.__len__(it) - len(whole) + len(_cut(whole, ends))))
+        elif are_lines and (isinstance(it, (bytes, bytearray)) or isinstance(it, memoryview) and it.format == "B"):
+            it = _cut(_bytes(it), ends)
+        yield it, are_lines
 
 
 def _is_missing(text):
     return text is None or isinstance(text, float) and text != text or any(text is it for it in _missing())
 
 
-def _column(read, texts, faults, newline):
-    """The numbers of texts, each by a call that gives it of the bytes, or raises a Fault."""
-    column = array.array("q")
-    for index, text in enumerate(_lines(texts, [b"\n", b"\r"] if newline == "\r\n" else [b"\n"])):
+def _column(read, place_of, texts, faults, newline, empty, lines):
+    """The numbers of texts, each by a call that gives it of the bytes, or raises a Fault, whose place another call gives."""
+    column, table = array.array("q"), {"index": array.array("q"), "code": array.array("B"), "place": array.array("q")}
+    ends = [b"\n", b"\r"] if newline == "\r\n" else [b"\n"]
+    for index, (text, is_line) in enumerate(_lines(texts, ends, lines)):
         if _is_missing(text):
             column.append(-(2**63))
             continue
+        whole = _bytes(text, f"text {index}")
+        if whole == b"" and empty == "nat":
+            column.append(-(2**63))
+            continue
         try:
-            column.append(read(_bytes(text, f"text {index}")))
+            column.append(read(whole))
         except Fault as fault:
+            fault = Fault(fault.code, index)
+            place = place_of(whole)
+            fault.text, fault.place = _kept(text), None if place is None else _counted(text, place)
+            _give_hint(fault, read, whole, [] if is_line else ends)
             if faults == "raise":
-                raise Fault(fault.code, index) from None
+                raise fault from None
             column.append(-(2**63))
             if isinstance(faults, list):
-                faults.append(Fault(fault.code, index))
+                faults.append(fault)
+            for name, it in table.items():
+                it.append(-1 if getattr(fault, name) is None else getattr(fault, name))
+    if isinstance(faults, dict):
+        faults.update(table)
     return column
 
 
-def _check_choices(faults, newline):
-    if not isinstance(faults, (str, list)):
-        raise _wrong("faults", faults, str, list)
+def _give_hint(fault, read, whole, ends):
+    rest = whole[3:] if whole.startswith(MARK) else whole
+    cut = _cut(rest, ends)
+    why = rest != whole, cut != rest
+    try:
+        if any(why):
+            read(cut)
+            fault.hint = HINTS[why]
+    except Fault:
+        pass
+
+
+def _place_in_column(call, whole, *numbers):
+    """The place of an error in bytes, or the end of them if they are refused by the column alone."""
+    place = ctypes.c_size_t(len(whole))
+    call(whole, len(whole), *numbers, place)
+    return place.value
+
+
+def _check_choices(faults, newline, empty, lines):
+    if not isinstance(faults, (str, list, dict)):
+        raise _wrong("faults", faults, str, list, dict)
     if isinstance(faults, str):
         _choice("faults", faults, "raise", "nat")
     _choice("newline", newline, "\r\n", "\n")
+    _choice("empty", empty, "error", "nat")
+    _flag("lines", lines)
 
 
 def _check(code):
@@ -381,10 +455,11 @@ def _check(code):
         raise Fault(code)
 
 
-def date_time_column(texts, config=None, *, strict=False, timestamps=False, naive="error", faults="raise", newline="\r\n"):
+def date_time_column(texts, config=None, *, strict=False, timestamps=False, naive="error", faults="raise", newline="\r\n", empty="error", lines=False):
     _flag("strict", strict), _flag("timestamps", timestamps)
+    naive = "utc" if naive == "UTC" else naive
     _choice("naive", naive, "error", "utc")
-    _check_choices(faults, newline)
+    _check_choices(faults, newline, empty, lines)
     numbers = _configured(config, _OF_TIMESTAMPS if timestamps else ())
     if strict and timestamps:
         raise ValueError("strict and timestamps exclude each other")
@@ -398,12 +473,15 @@ def date_time_column(texts, config=None, *, strict=False, timestamps=False, naiv
         _check(_library.speedate_datetime_timestamp_tz(out, second))
         return second.value * 1_000_000 + out.microsecond
 
-    return _column(read, texts, faults, newline)
+    def place_of(text):
+        return _place_in_column(getattr(_library, f"speedate_{name.replace('_parse', '_error_place')}"), text, numbers)
+
+    return _column(read, place_of, texts, faults, newline, empty, lines)
 
 
-def date_column(texts, config=None, *, timestamps=False, faults="raise", newline="\r\n"):
+def date_column(texts, config=None, *, timestamps=False, faults="raise", newline="\r\n", empty="error", lines=False):
     _flag("timestamps", timestamps)
-    _check_choices(faults, newline)
+    _check_choices(faults, newline, empty, lines)
     numbers = _configured(config, _OF_TIMESTAMPS if timestamps else ())
 
     def read(text):
@@ -415,11 +493,16 @@ def date_column(texts, config=None, *, timestamps=False, faults="raise", newline
         _check(_library.speedate_date_day_number(out, day))
         return day.value - 719_528  # from 0000-01-01 to 1970-01-01
 
-    return _column(read, texts, faults, newline)
+    def place_of(text):
+        if timestamps:
+            return _place_in_column(_library.speedate_date_error_place, text, numbers)
+        return _place_in_column(_library.speedate_date_error_place_rfc3339, text)
+
+    return _column(read, place_of, texts, faults, newline, empty, lines)
 
 
-def duration_column(texts, config=None, *, faults="raise", newline="\r\n"):
-    _check_choices(faults, newline)
+def duration_column(texts, config=None, *, faults="raise", newline="\r\n", empty="error", lines=False):
+    _check_choices(faults, newline, empty, lines)
     numbers = _configured(config)
 
     def read(text):
@@ -430,7 +513,11 @@ def duration_column(texts, config=None, *, faults="raise", newline="\r\n"):
             raise Fault(97)  # number_too_large
         return -size if out.negative else size
 
-    return _column(read, texts, faults, newline)
+    def place_of(text):
+        place = ctypes.c_size_t()
+        return place.value if _library.speedate_duration_error_place(text, len(text), numbers, place) else None
+
+    return _column(read, place_of, texts, faults, newline, empty, lines)
 
 
 def _clock(value):

@@ -3,6 +3,7 @@ import array
 import ctypes
 import datetime
 import functools
+import gc
 import gzip
 import importlib
 import io
@@ -17,6 +18,9 @@ import tempfile
 import threading
 import time
 import unittest
+import unittest.mock
+import warnings
+import weakref
 
 import speedate
 
@@ -181,7 +185,15 @@ class Sources(unittest.TestCase):
             self.assertEqual(column(texts, faults=faults), [1_000_000, NAT, 1_000_000])
             self.assertEqual(faults, [])
         self.assertEqual(column(pandas.Series([SECOND, None, SECOND], dtype="string")), [1_000_000, NAT, 1_000_000])
+        self.assertEqual(column(pandas.Series([None, float("nan")])), [NAT, NAT])
+        self.assertEqual(column(pandas.Series([None], dtype="datetime64[ns]")), [NAT])
+        # It is read from its array, over which an iteration takes less time.
+        with unittest.mock.patch.object(pandas.Series, "__iter__", side_effect=AssertionError):
+            self.assertEqual(column(pandas.Series([SECOND, None], index=[5, 3])), [1_000_000, NAT])
         self.assertEqual(column(pandas.Index([SECOND])), [1_000_000])
+        faults = {}
+        column(["x", SECOND, "1970-01-01"], faults=faults)
+        self.assertEqual(pandas.DataFrame(faults).values.tolist(), [[0, 1, 1], [2, 3, 10]])
         frame = pandas.read_csv(io.StringIO(f"name,moment\na,{SECOND}\nb,\n"))
         self.assertEqual(column(frame["moment"]), [1_000_000, NAT])
         self.assertEqual(column(frame["moment"].astype("category")), [1_000_000, NAT])
@@ -226,6 +238,9 @@ class Blocks(unittest.TestCase):
             # The difference of such lists would take minutes.
             self.assertTrue(column(lines, faults=faults) == [NAT] * 70_000)
             self.assertTrue([it.index for it in faults] == list(range(70_000)))
+            table = {}
+            self.assertTrue(column(lines, faults=table) == [NAT] * 70_000)
+            self.assertTrue([it.tolist() for it in table.values()] == [list(range(70_000)), [1] * 70_000, [1] * 70_000])
 
     def test_long_lines(self):
         for size in (1, 262_142, 262_143, 262_144, 262_145, 600_000):
@@ -253,6 +268,145 @@ class Blocks(unittest.TestCase):
             column(together, faults=together)
         self.assertEqual(column(["x"], faults=faults), [NAT])
         self.assertEqual((faults[0], faults[1].name), (5, "too_short"))
+
+
+class Refusals(unittest.TestCase):
+    """What a column tells of the texts that it refuses."""
+
+    def test_texts_and_places(self):
+        texts = ["x", f"{SECOND}\u00e9", "1970-01-01T00:00", SECOND, "", "2020-02-30T00:00Z"]
+        places = [1, 20, 16, 0, 8]
+        for make in (list, iter, lambda it: [one.encode() for one in it], lambda it: "\n".join(it).encode(), lambda it: bytearray("\r\n".join([*it, ""]).encode()),
+                     lambda it: io.BytesIO("\r\n".join(it).encode()), lambda it: io.StringIO("\n".join(it)), lambda it: [memoryview(one.encode()) for one in it]):
+            faults = []
+            column(make(texts), faults=faults)
+            self.assertEqual([(it.index, it.place) for it in faults], list(zip((0, 1, 2, 4, 5), places)), make(texts))
+            kept = [it.text for it in faults]
+            self.assertEqual([it if isinstance(it, str) else it.decode() for it in kept], [texts[it.index] for it in faults])
+            for it in faults:
+                with self.assertRaises(speedate.Fault) as caught:
+                    speedate.date_time_column([it.text])
+                self.assertEqual((caught.exception.name, caught.exception.place), (it.name, it.place))
+
+    def test_written_later(self):
+        data = bytearray(b"1970-01-01T00:00Z\n24:00\n")
+        for source in (data, [data[18:23]], [memoryview(data)[18:23]]):
+            faults = []
+            column(source, faults=faults)
+            data[18:23] = b"12:13"
+            self.assertEqual((faults[0].text, faults[0].place), (b"24:00", 5))
+            data[18:23] = b"24:00"
+        del source
+
+    def test_kept_item(self):
+        class Text(str):
+            pass
+
+        text = Text("24:00")
+        text.faults = []
+        column([text], faults=text.faults)
+        gone = weakref.ref(text)
+        self.assertIs(text.faults[0].text, text)
+        del text
+        gc.collect()
+        self.assertIsNone(gone())
+
+    def test_many(self):
+        """The arrays of a dict beside the faults of a list, over blocks and rows."""
+        texts = ["" if it % 3 == 0 else "x" * (it % 40) if it % 3 == 1 else SECOND for it in range(70_000)]
+        for make in (list, lambda it: "\n".join([*it, ""]).encode(), lambda it: bytearray("\r\n".join([*it, ""]).encode())):
+            for options in ({}, {"empty": "nat"}):
+                faults, table = [], {}
+                told = column(make(texts), faults=faults, **options)
+                self.assertTrue(column(make(texts), faults=table, **options) == told)
+                for name in ("index", "code", "place"):
+                    self.assertTrue(table[name].tolist() == [getattr(it, name) for it in faults], name)
+                empty = [] if options else range(0, 70_000, 3)
+                wanted = sorted([*empty, *(it for it in range(1, 70_000, 3) if it % 40 or not options)])
+                self.assertTrue(table["index"].tolist() == wanted)
+                self.assertTrue([it.text for it in faults] == [texts[it] if make is list else texts[it].encode() for it in wanted])
+        self.assertEqual({name: it.typecode for name, it in table.items()}, {"index": "q", "code": "B", "place": "q"})
+
+    def test_dict_of_a_call_that_fails(self):
+        table = {"index": 5}
+        with self.assertRaises(TypeError):
+            column(["x", 5], faults=table)
+        self.assertEqual(table, {"index": 5})
+
+    def test_empty_is_raised_past(self):
+        lines = b"\n" * 70_000 + b"x\n"
+        for it in (lines, bytearray(lines), io.BytesIO(lines), lines.decode().split("\n")):
+            with self.assertRaisesRegex(speedate.Fault, "^too_short in text 70000$"):
+                column(it, faults="raise", empty="nat")
+        self.assertTrue(column(lines[:-2], faults="raise", empty="nat") == [NAT] * 70_000)
+        for read in (speedate.date_column, speedate.duration_column):
+            self.assertTrue(read(lines[:-2], empty="nat").tolist() == [NAT] * 70_000)
+
+    def test_lines(self):
+        with tempfile.TemporaryDirectory() as folder:
+            path = pathlib.Path(folder, "moments.txt")
+            path.write_bytes(LINES)
+            for make in (list, tuple, lambda it: itertools.islice(it, 3), lambda it: (one for one in it)):
+                for mode, options in (("r", {}), ("r", {"newline": ""}), ("rb", {})):
+                    with open(path, mode, **options) as file:
+                        self.assertEqual(column(make(file), lines=True), NUMBERS)
+                    faults = []
+                    with open(path, mode, **options) as file:
+                        self.assertEqual(column(make(file), faults=faults), [NAT] * 3)
+                    self.assertEqual([it.hint for it in faults], ["it has a line ending, which lines=True drops", None, "it has a line ending, which lines=True drops"])
+            with open(path, "w+") as file:
+                file.write(f"{SECOND}\n")
+                self.assertEqual(column(file), [])
+                file.seek(0)
+                self.assertEqual(column(file), [1_000_000])
+        self.assertEqual(column(LINES, lines=True), NUMBERS)
+
+    def test_byte_order_mark(self):
+        lines = b"\xef\xbb\xbf" + LINES
+        for it in (lines, io.BytesIO(lines), io.StringIO(lines.decode(), newline="")):
+            faults = []
+            self.assertEqual(column(it, faults=faults), [NAT, NAT, 2_500_000])
+            self.assertEqual([(it.name, it.hint) for it in faults], [("invalid_char_year", "it begins with a byte order mark"), ("too_short", None)])
+        self.assertEqual(column(io.TextIOWrapper(io.BytesIO(lines), encoding="utf-8-sig")), NUMBERS)
+
+    @unittest.skipUnless(numpy, "NumPy is not installed")
+    def test_truth_values_of_numpy(self):
+        with warnings.catch_warnings():
+            warnings.simplefilter("ignore")
+            for call in (speedate.date_from_timestamp, speedate.date_time_from_timestamp, speedate.time_from_timestamp, speedate.Fault, lambda it: speedate.Config(timestamp_offset=it)):
+                with self.assertRaisesRegex(TypeError, "has to be int, not bool_?$"):
+                    call(numpy.True_)
+                call(numpy.int64(1) if call is not speedate.date_from_timestamp else numpy.int64(86_400))
+
+
+class Fronts(unittest.TestCase):
+    def test_long_text(self):
+        """No more of a text than its front is encoded, and nothing of that stays in the text."""
+        for read, front in ((speedate.date_front, "2020-02-29"), (speedate.time_front, "12:13"), (speedate.date_time_front, "2020-02-29T12:13\u221201:00")):
+            for wrong in (front, front[:-1] + "x"):
+                text = wrong + " \u00e9" * 100_000
+                before, wanted = sys.getsizeof(text), front_of(read, wrong + " \u00e9" * 10)
+                self.assertEqual(front_of(read, text), wanted)
+                self.assertEqual(sys.getsizeof(text), before)
+
+    def test_every_size(self):
+        """Fronts that end near what is looked at, beside those of the whole text."""
+        cut = speedate.Config(overflow_behavior="truncate")
+        for size in [*range(150, 300), *range(1_900, 2_100)]:
+            for end in ("Z", "+01:00", "\u221201:00", "+1", "+01:60", "x"):
+                for after in ("\u00e9", "\u00e9" * 100, " \u00e9" * 2_000):
+                    text = f"2020-02-29T12:13:14.{'1' * size}{end}{after}"
+                    told, size = front_of(speedate.date_time_front, text, cut)
+                    self.assertEqual((told, len(text[:size].encode())), front_of(speedate.date_time_front, text.encode(), cut))
+        self.assertEqual(front_of(speedate.date_time_front, "2020-02-29T12:13:14." + "1" * 300 + "\u00e9"), ("second_fraction_too_long", 26))
+
+
+def front_of(read, text, *config):
+    """The value at the front of a text and its size, or its fault and the place."""
+    try:
+        return read(text, *config)
+    except speedate.Fault as fault:
+        return fault.name, fault.place
 
 
 class Others(unittest.TestCase):
@@ -409,6 +563,7 @@ print((resource.getrusage(resource.RUSAGE_SELF).ru_maxrss - before) * 1024 / 32_
         others = [functools.partial(call, lines, faults="nat") for call, lines in ((speedate.date_column, b"1970-01-01\nx"), (speedate.duration_column, b"PT0S\nx"))]
         makers = [
             *(lambda it=it: it for it in others),
+            *(lambda it=it: functools.partial(read, it, faults={}) for it in (texts, LINES, bytearray(LINES))),
             *map(listed, [lambda: texts, lambda: iter(texts), lambda: LINES, lambda: bytearray(LINES * 3), lambda: spread(LINES), lambda: io.BytesIO(LINES)]),
             lambda: functools.partial(read, LINES), lambda: functools.partial(read, [5], faults="nat"), lambda: functools.partial(speedate.Config, "s", 0),
             lambda: functools.partial(speedate.time, "24:00"), lambda: functools.partial(speedate.time, type("Text", (str,), {})("12:13"))]

@@ -23,7 +23,7 @@ from speedate import _speedate
 
 COUNT = 100_000
 SIDES = (speedate, oracle)
-CALLS = [name for name in speedate.__all__ if inspect.isbuiltin(getattr(speedate, name))]
+CALLS = [name for name in ("time", *speedate.__all__) if inspect.isbuiltin(getattr(speedate, name))]
 DAY = datetime.date(2020, 2, 29)
 # A good text of each call on columns.
 COLUMNS = {"date_time_column": "1970-01-01T00:00Z", "date_column": "1970-01-01", "duration_column": "PT0S"}
@@ -139,6 +139,8 @@ def drawn_column(draw, name):
     end = draw.choice([b"\n", b"\n", b"\r\n", b"\r"])
     lines = joined(texts, end)
     items = [draw.choice([it] * 9 + [None, float("nan")]) for it in texts]
+    if draw.random() < 0.1:
+        lines, items = b"\xef\xbb\xbf" + lines, [f"\ufeff{it}" if type(it) is str else it for it in items]
     return draw.choice([
         lambda: items, lambda: tuple(items), lambda: iter(items), lambda: lines, lambda: bytearray(lines), lambda: memoryview(lines + end),
         lambda: memoryview(b"x".join(lines[i:i + 1] for i in range(len(lines))))[::2], lambda: array.array("b", lines), lambda: io.BytesIO(lines + end),
@@ -146,14 +148,15 @@ def drawn_column(draw, name):
 
 
 def drawn_faults(draw, name):
-    return draw.choice([lambda: "raise", lambda: "nat", list])
+    return draw.choice([lambda: "raise", lambda: "nat", list, dict])
 
 
 # The drawn values of a parameter, and what makes those that a call changes or uses up.
 DRAWN = {
     "text": drawn_text, "value": drawn_value, "timestamp": drawn_integer, "second": drawn_integer, "microsecond": drawn_integer,
-    **dict.fromkeys(["timestamps", "exact", "strict"], lambda draw, name: draw.random() < 0.5),
-    "naive": lambda draw, name: draw.choice(["error", "utc"]), "newline": lambda draw, name: draw.choice(["\r\n", "\n"])}
+    **dict.fromkeys(["timestamps", "exact", "strict", "lines"], lambda draw, name: draw.random() < 0.5),
+    "naive": lambda draw, name: draw.choice(["error", "utc", "UTC"]), "newline": lambda draw, name: draw.choice(["\r\n", "\n"]),
+    "empty": lambda draw, name: draw.choice(["error", "nat"])}
 MADE = {"texts": drawn_column, "faults": drawn_faults}
 PARAMETERS = {name: list(inspect.signature(getattr(speedate, name)).parameters.values()) for name in CALLS}
 
@@ -183,13 +186,14 @@ def outcome(side, name, positional=(), named={}):
         told = type(value).__name__, repr(value)
     except Exception as error:
         told = told_error(error)
-    return (*told, *map(told_error, named["faults"])) if type(named.get("faults")) is list else told
+    faults = named.get("faults")
+    return (*told, *map(told_error, faults)) if type(faults) is list else (*told, faults) if type(faults) is dict else told
 
 
 def told_error(error):
     if not isinstance(error, Exception):
         return error
-    return type(error).__name__, str(error), error.args, dict(vars(error)), getattr(error, "place", None)
+    return type(error).__name__, str(error), error.args, dict(vars(error)), getattr(error, "place", None), getattr(error, "text", None)
 
 
 # ---- Wrong types ----
@@ -376,7 +380,7 @@ class Extension(unittest.TestCase):
                 options["config"] = configured("infer", None, draw.choice(["error", "truncate"]), draw.choice(["lax", "strict"]))
             lines = joined(texts, draw.choice([b"\n", b"\r\n"]))
             for make in (lambda: texts, lambda: lines, lambda: bytearray(lines), lambda: io.BytesIO(lines)):
-                for faults in (lambda: "nat", list):
+                for faults in (lambda: "nat", list, dict):
                     call = name, [anew(make)], {**options, "faults": anew(faults)}
                     self.assertTrue(outcome(speedate, *call) == outcome(oracle, *call), (name, type(make())))
             numbers[name] += sum(it != -(2**63) for it in getattr(speedate, name)(texts, faults="nat"))
@@ -421,7 +425,7 @@ class Extension(unittest.TestCase):
             if name in COLUMNS:
                 options = {"timestamps": True} if name == "date_column" else {}
                 object.__setattr__(config, "_numbers", bytes([0] * 6 + [0xFF, 0]))
-                for faults in ("nat", []):
+                for faults in ("nat", [], {}):
                     for texts in ([COLUMNS[name]], COLUMNS[name].encode(), b"\n"):
                         with self.assertRaisesRegex(speedate.Fault, "^config_out_of_range in text 0$"):
                             getattr(speedate, name)(texts, config, faults=faults, **options)
@@ -452,7 +456,7 @@ class Extension(unittest.TestCase):
                     call(*positional, **named)
                 except Exception as error:
                     getattr(error, "place", None)
-                if type(named.get("faults")) is list:
+                if type(named.get("faults")) in (list, dict):
                     named["faults"].clear()
 
             def grown():
@@ -520,14 +524,15 @@ class Extension(unittest.TestCase):
         sources = [lambda: texts, lambda: iter(texts), lambda: lines, lambda: bytearray(lines), lambda: memoryview(lines), lambda: array.array("B", lines),
                    lambda: io.BytesIO(lines), lambda: memoryview(lines)[::2], lambda: [*texts, 5], lambda: {}, lambda: long, lambda: [None] * 1_000]
         for make in sources:
-            for faults in (lambda: "raise", lambda: "nat", list):
-                once = lambda: outcome(speedate, name, [anew(make)], {"faults": anew(faults)})
+            # A dict gets arrays, whatever the texts are.
+            for faults in (lambda: "raise", lambda: "nat", list, *[dict] * (make in sources[:3] or make is sources[8])):
+                once = lambda: outcome(speedate, name, [anew(make)], {"faults": anew(faults), "lines": same(True)})
                 self.assertLess(growth(once, 20), 0.5, (make(), faults))
 
     def test_imports(self):
         # What is left behind by an import that leaks are all its zones, faults and functions.
         self.assertLess(growth(import_anew, 20), 20)
-        failing = [("datetime", {"datetime_CAPI": None}), *(("speedate._types", it) for it in ({"Config": None}, {"_by_lines": None}, {"Fault": KeyError}, {"Fault": 5}, {"Fault": ValueError}))]
+        failing = [("datetime", {"datetime_CAPI": None}), *(("speedate._types", it) for it in ({"Config": None}, {"_items": None}, {"Fault": KeyError}, {"Fault": 5}, {"Fault": ValueError}))]
         for module, names in failing:
             with self.subTest(module, names=names):
                 self.assertRegex(fail_import(module, **names), "^speedate needs|^speedate.Fault is no ValueError|^speedate.Fault has no slot _source")

@@ -28,6 +28,10 @@ date("20200229", timestamps=True) -> Fault: date_not_exact
 date("86400000", Config("ms", 3600), timestamps=True) -> datetime.date(1970, 1, 2)
 date("") -> Fault: too_short
 date("2020-02-2\ud800") -> Fault: invalid_char_day
+date("\ufeff2020-02-29"), date_time_front("\ufeff2020-02-29T12:13") -> Fault: invalid_char_year: it begins with a byte order mark
+date_front(b"\xef\xbb\xbf2020-02-29 x") -> Fault: invalid_char_year: it begins with a byte order mark
+date("\ufeff2020-02-30") -> Fault: invalid_char_year
+date_time("\ufeff1", timestamps=True) -> Fault: too_short: it begins with a byte order mark
 date("\ud800" * 4) -> Fault: invalid_char_year
 date(subclass(str)("\ud800" * 4)) -> Fault: invalid_char_year
 date("2020-02-29", Config(timestamp_unit="s")) -> TypeError: config has a timestamp_unit, which is not read here: date and date_time do with timestamps=True
@@ -67,7 +71,25 @@ date_time_column(b"1970-01-01T00:00Z\r", newline="\n") -> Fault: extra_character
 date_time_column(b"1970-01-01T00:00Z\r\r") -> Fault: extra_characters in text 0
 date_time_column(b"1970-01-01T00:00Z\r\r\n") -> Fault: extra_characters in text 0
 date_time_column(b"1970-01-01T00:00Z\n\r\n") -> Fault: too_short in text 1
-date_time_column(["1970-01-01T00:00Z\n"]) -> Fault: extra_characters in text 0
+date_time_column(["1970-01-01T00:00Z\n"]) -> Fault: extra_characters in text 0: it has a line ending, which lines=True drops
+date_time_column(["1970-01-01T00:00Z\n", "1970-01-01T00:00:01Z\r\n", b"1970-01-01T00:00:02Z\r"], lines=True) -> array('q', [0, 1000000, 2000000])
+date_time_column(["1970-01-01T00:00Z\r\n"], lines=True, newline="\n") -> Fault: extra_characters in text 0
+date_time_column(["1970-01-01T00:00\n"]) -> Fault: invalid_char_tz_sign in text 0
+date_time_column(["1970-01-01T00:00\n"], naive="UTC") -> Fault: invalid_char_tz_sign in text 0: it has a line ending, which lines=True drops
+date_time_column([], lines=1) -> TypeError: lines has to be bool, not int
+date_time_column(["\ufeff1970-01-01T00:00Z"]) -> Fault: invalid_char_year in text 0: it begins with a byte order mark
+date_time_column(b"\xef\xbb\xbf1970-01-01T00:00Z\n1970-01-01T00:00Z\n") -> Fault: invalid_char_year in text 0: it begins with a byte order mark
+date_time_column(["\ufeff1970-01-01T00:00Z\n"]) -> Fault: invalid_char_year in text 0: it begins with a byte order mark, and has a line ending
+date_time_column(["\ufeff1970-01-01T00:00Z\n"], lines=True) -> Fault: invalid_char_year in text 0: it begins with a byte order mark
+date_time_column(["\ufeff1970-01-01"]) -> Fault: invalid_char_year in text 0
+date_time_column(["1970-01-01T00:00"], naive="UTC") -> array('q', [0])
+date_time_column(["", b"", None, "1970-01-01T00:00Z"], empty="nat") -> array('q', [-9223372036854775808, -9223372036854775808, -9223372036854775808, 0])
+date_time_column(b"\n\r\n1970-01-01T00:00Z\n\n", empty="nat") -> array('q', [-9223372036854775808, -9223372036854775808, 0, -9223372036854775808])
+date_time_column(b"\n \n", empty="nat") -> Fault: too_short in text 1
+date_time_column(b"\n\r\n", empty="nat", newline="\n") -> Fault: too_short in text 1
+date_time_column([], empty="NaT") -> ValueError: empty has to be error or nat
+date_time_column([], errors="coerce") -> TypeError: date_time_column() got an unexpected keyword argument 'errors': the word is faults, and faults='nat' does what errors='coerce' does in pandas
+date_time("", errors="coerce") -> TypeError: date_time() got an unexpected keyword argument 'errors'
 date_time_column([], newline="\r") -> ValueError: newline has to be '\r\n' or '\n'
 date_time_column(bytearray(b"1970-01-01T00:00:00.000001Z\n1969-12-31T23:59:59Z")) -> array('q', [1, -1000000])
 date_time_column(memoryview(b"1970-01-01T00:00Z\n\n"), faults="nat") -> array('q', [0, -9223372036854775808])
@@ -86,7 +108,7 @@ faulted([None, "1970-01-01T00:00Z", "", "1970-01-01T00:00", None]) -> (5, ['too_
 faulted(b"\n1970-01-01T00:00Z\r\n1970-01-01\n") -> (3, ['too_short in text 0', 'invalid_char_date_time_sep in text 2'])
 faulted(["1970-01-01T00:00Z"]) -> (1, [])
 faulted(["x", 5]) -> TypeError: text 1 has to be str or bytes or bytearray or memoryview, not int
-date_time_column([], faults=()) -> TypeError: faults has to be str or list, not tuple
+date_time_column([], faults=()) -> TypeError: faults has to be str or list or dict, not tuple
 date_time_column(["1970-01-01T00:00:01"]) -> Fault: tz_required in text 0
 date_time_column(["1970-01-01T00:00:01"], naive="utc") -> array('q', [1000000])
 date_time_column(["1970-01-01T00:00:01"], naive="utc", strict=True) -> Fault: tz_required in text 0
@@ -103,7 +125,9 @@ date_column(["1970-01-02", b"0000-01-01", None, "9999-12-31"]) -> array('q', [1,
 date_column(b"1970-01-02\r\n1969-12-31\n1970-01-01") -> array('q', [1, -1, 0])
 date_column(b"1970-01-02\n1970-01-01\r") -> array('q', [1, 0])
 date_column(b"1970-01-02\r\n", newline="\n") -> Fault: extra_characters in text 0
-date_column(["1970-01-02\n"]) -> Fault: extra_characters in text 0
+date_column(["1970-01-02\n"]) -> Fault: extra_characters in text 0: it has a line ending, which lines=True drops
+date_column(["1970-01-02\n", ""], lines=True, empty="nat"), date_column(b"1970-01-02\n\n", empty="nat") -> (array('q', [1, -9223372036854775808]), array('q', [1, -9223372036854775808]))
+date_column(["0000-01-01"]), date_time_column(["0000-01-01T00:00Z"]) -> (array('q', [-719528]), array('q', [-62167219200000000]))
 date_column([""], faults="nat"), date_column(b"\n", faults="nat") -> (array('q', [-9223372036854775808]), array('q', [-9223372036854775808]))
 date_column(["1970-01-02T00:00Z"]) -> Fault: extra_characters in text 0
 date_column(["86400"]) -> Fault: too_short in text 0
@@ -118,7 +142,9 @@ duration_column(b"PT1.5S\r\n-00:01:00\n1 day") -> array('q', [1500000, -60000000
 duration_column(["P106751991DT4H54.775807S"]) -> array('q', [9223372036854775807])
 duration_column(["-P106751991DT4H54.775808S"]) -> Fault: number_too_large in text 0
 duration_column(b"PT0S\nP106751992D") -> Fault: number_too_large in text 1
-duration_column(["PT0S\n"]) -> Fault: duration_invalid_number in text 0
+duration_column(["PT0S\n"]) -> Fault: duration_invalid_number in text 0: it has a line ending, which lines=True drops
+duration_column(["PT1S\n", ""], lines=True, empty="nat"), duration_column(b"PT1S\n\n", empty="nat") -> (array('q', [1000000, -9223372036854775808]), array('q', [1000000, -9223372036854775808]))
+duration_column([text(datetime.timedelta(seconds=-1)), str(datetime.timedelta(seconds=-1))]) -> array('q', [-1000000, -172799000000])
 duration_column(b"P1D1Y\nPT1S", Config(iso_order="strict"), faults="nat") -> array('q', [-9223372036854775808, 1000000])
 duration_column(["PT0.1234567S", "00:00:00.1234567"], Config(overflow_behavior="truncate")) -> array('q', [123457, 123456])
 duration_column([], timestamps=True) -> TypeError: duration_column() got an unexpected keyword argument 'timestamps'
@@ -174,7 +200,23 @@ place(date_time_strict, "2020-02-29T12:13:14+0100"), place(date_time, "2020-02-2
 place(date_front, "2020-02-3 opening"), place(date_time_front, "2020-02-29 opening"), place(time_front, "12:13\u22121") -> (8, 11, 6)
 place(time, memoryview(b"2x1x.x2x1")[::-2]), place(time, memoryview(bytearray(b"12:13:60"))) -> (2, 6)
 place(date, "2020-02-29"), place(duration, "x"), place(duration, b"P1D ") -> (None, 0, 3)
-place(date_from_timestamp, 1), place(time_from_timestamp, 86_400), place(Fault, 43), place(date_column, ["x"]) -> (None, None, None, None)
+place(date_from_timestamp, 1), place(time_from_timestamp, 86_400), place(Fault, 43) -> (None, None, None)
+place(date_column, ["x"]), place(date_column, b"1970-01-01\n2020-02-30"), place(date_column, ["2020-1\u00e901"]), place(date_column, ["2020-1\u00e901".encode()]) -> (1, 8, 5, 5)
+place(date_time_column, ["1970-01-01T00:00"]), place(date_time_column, b"1970-01-01 00:00:00.5\r\n"), place(date_time_column, ["1"], timestamps=True) -> (16, 21, 1)
+place(date_time_column, ["1970-01-01T00:00"], strict=True), place(date_time_column, ["1.0000000"], timestamps=True) -> (16, 8)
+place(duration_column, ["P1D1Q"]), place(duration_column, b"P106751992D"), place(duration_column, ["P1D1Y"], Config(iso_order="strict")) -> (4, None, 4)
+refusal(date, "2020-02-30"), refusal(date, bytearray(b"2020-02-30")), refusal(date, memoryview(b"2020-02-30")) -> (('2020-02-30', 8), (b'2020-02-30', 8), (b'2020-02-30', 8))
+refusal(date, "0000-01-01"), refusal(date_time, b"0000-01-01T00:00"), refusal(date_front, memoryview(b"0000-01-01 x")) -> (('0000-01-01', 0), (b'0000-01-01T00:00', 0), (b'0000-01-01 x', 0))
+refusal(duration, "-P999999999DT1S"), refusal(date_from_timestamp, -62167219200), refusal(date_from_timestamp, 1) -> (('-P999999999DT1S', 0), (None, None), (None, None))
+refusal(date_column, ["1970-01-01", "x"]), refusal(date_column, b"1970-01-01\nx\r\n"), refusal(date_column, ["x\r\n"], lines=True) -> (('x', 1), (b'x', 1), ('x', 1))
+refusal(date_column, [bytearray(b"x")]), refusal(duration_column, ["PT1S", "P106751992D"]), refusal(date_column, bytearray(b"y")) -> ((b'x', 1), ('P106751992D', None), (b'y', 1))
+Unrepresentable.__mro__[1:3], Fault.__mro__[1:3] -> ((<class 'speedate.Refusal'>, <class 'ValueError'>), (<class 'speedate.Refusal'>, <class 'ValueError'>))
+listed(["x", "1970-01-01T00:00", None, "1970-01-01T00:00Z", b"2020-02-30T00:00Z"]) -> ([0, 1, 4], [1, 19, 22], [1, 16, 8])
+listed(b"x\n1970-01-01T00:00\n1970-01-01T00:00Z\n\n2020-02-30T00:00Z") -> ([0, 1, 3, 4], [1, 19, 1, 22], [1, 16, 0, 8])
+listed(b"PT1S\nP106751992D\nP1D1Q\n", duration_column), listed(["1970-01-01"], date_column) -> (([1, 2], [97, 33], [-1, 4]), ([], [], []))
+speedate.datetime -> AttributeError: module 'speedate' has no attribute 'datetime'
+text(datetime.timedelta(days=400)) -> 'P1Y35D'
+date_time_column(["13000000000", "20200229121314"], timestamps=True, naive="utc") -> array('q', [13000000000000000, 20200229121314000])
 Fault(1).place, Fault(1, 0).place, copy.copy(Fault(1)).place -> (None, None, None)
 Fault(43) -> Fault: value_out_of_range
 Fault(2**31) -> ValueError: code has to be from 0 to 2147483647
@@ -238,6 +280,26 @@ def again(fault):
     return told(copies[0])
 
 
+def refusal(call, *given, **named):
+    """The text of a refusal and its place, which its copies have without the text."""
+    try:
+        call(*given, **named)
+    except speedate.Refusal as error:
+        for it in (copy.copy(error), pickle.loads(pickle.dumps(copy.copy(error)))):
+            assert (it.text, it.place, it.index, it.name, str(it)) == (None, error.place, error.index, error.name, str(error))
+        return error.text, error.place
+
+
+def listed(texts, read=speedate.date_time_column):
+    """The indices, the codes and the places of the faults of a column, which those of a list have too."""
+    faults, others = [], {"index": 5, "other": 6}
+    assert read(texts, faults=faults) == read(texts, faults=others)
+    told = tuple(others[name].tolist() for name in ("index", "code", "place"))
+    assert told == tuple([-1 if getattr(it, name) is None else getattr(it, name) for it in faults] for name in ("index", "code", "place"))
+    assert list(others) == ["index", "other", "code", "place"]
+    return told
+
+
 def place(call, *given, **named):
     """The place of the fault that a call raises, which its copies have too, or `None`."""
     try:
@@ -261,14 +323,15 @@ def subclass(kind, **members):
     return type("Other", (kind,), members)
 
 
-CALLS = [getattr(speedate, name) for name in speedate.__all__ if name not in ("Unrepresentable", "__version__")]
+CALLS = [getattr(speedate, name) for name in ("time", *speedate.__all__) if name not in ("Refusal", "Unrepresentable", "__version__")]
 # Of each argument one that is right, and its types among the wrong ones.
 NUMBER, FLAG, NAME = (1, int), (True, bool), ("us", str)
 ARGUMENTS = {
     "text": ("2020-02-29", str, bytes), "config": (None, type(None), speedate.Config), "timestamps": FLAG, "exact": FLAG,
     "timestamp": NUMBER, "second": NUMBER, "microsecond": NUMBER, "code": NUMBER, "value": (None, datetime.date),
     "timestamp_unit": NAME, "timestamp_offset": (0, int, type(None)), "overflow_behavior": NAME, "iso_order": NAME,
-    "texts": ([], bytes, list), "strict": FLAG, "naive": ("utc", str), "faults": ("nat", str, list), "newline": ("\n", str),
+    "texts": ([], bytes, list), "strict": FLAG, "naive": ("utc", str), "faults": ("nat", str, list, dict), "newline": ("\n", str),
+    "empty": ("nat", str), "lines": FLAG,
     "index": (None, int, type(None)),
 }
 WRONG = [None, True, 0, 1.0, 3j, "1", b"1", [], {}, object(), speedate.text, array.array("d", [1]), memoryview(b"12345678").cast("d"),
@@ -468,12 +531,19 @@ class Speedate(unittest.TestCase):
 
     def test_docstrings(self):
         self.assertEqual([it.__name__ for it in CALLS if ">>> " not in it.__doc__], [])
-        self.assertEqual(doctest.testmod(speedate).failed, 0)
+        self.assertEqual(doctest.testmod(speedate, extraglobs={"datetime": datetime}).failed, 0)
 
     def test_names(self):
         functions = [name for name, it in vars(_speedate).items() if inspect.isbuiltin(it) and not name.startswith("_")]
-        self.assertEqual(sorted(speedate.__all__), sorted([*functions, "Config", "Fault", "Unrepresentable", "__version__"]))
+        self.assertEqual(sorted(["time", *speedate.__all__]), sorted([*functions, "Config", "Fault", "Refusal", "Unrepresentable", "__version__"]))
         self.assertEqual([name for name in speedate.__all__ if not hasattr(speedate, name)], [])
+        # No other name is public, nor is a module, and a module that was imported before keeps its name.
+        self.assertEqual({name for name in vars(speedate) if not name.startswith("_")}, {"time", *speedate.__all__} - {"__version__"})
+        if sys.version_info >= (3, 10):
+            run = subprocess.run([sys.executable, "-c", "import speedate; speedate.datetime('2020-02-29T12:13')"], stderr=subprocess.PIPE, universal_newlines=True)
+            self.assertIn("Did you mean: 'date_time'?", run.stderr)
+        names = {}
+        exec("import time, datetime; from speedate import *; time.sleep(0); datetime.date; date('2020-02-29')", names)
 
     def test_types(self):
         package = pathlib.Path(speedate.__file__).parent
@@ -491,7 +561,7 @@ class Speedate(unittest.TestCase):
                 made = next(member for member in it.body if isinstance(member, ast.FunctionDef) and member.name in ("__init__", "__new__"))
                 self.assertEqual(parameters(made)[1:], shown(inspect.signature(getattr(module, word))), word)
         fields = {it.target.id: ast.unparse(it.annotation) if hasattr(ast, "unparse") else None for it in classes["Fault"].body if isinstance(it, ast.AnnAssign)}
-        self.assertEqual(set(fields), {*vars(speedate.Fault(1)), "index"})
+        self.assertEqual(set(fields), {*vars(speedate.Fault(1)), "index", "hint"})
         for name, kind in speedate.Fault.__annotations__.items():
             self.assertIs(type(getattr(speedate.Fault(1), name)), kind)
             self.assertIn(fields[name], (kind.__name__, None))
