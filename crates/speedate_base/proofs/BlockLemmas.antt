@@ -23,7 +23,8 @@ pub block-all : (bytes : List ℕ) (place count : ℕ) → place + 8 ≤ length 
     → list_all is_ascii_digit (block bytes place) ≡ true
 block-all bytes place count within is full = search rules
 
--- bytes that pass a test from a place on, counted in a block of them: fewer than the block end there
+-- bytes that pass a test from a place on, counted in a block: if fewer than the whole block do, they
+-- end there
 pub prefix_ends : (p : ℕ → Bool) (bytes : List ℕ) (place size count : ℕ)
     → place + size ≤ length bytes → count ≡ prefix_len p (take size (drop place bytes))
     → count < size → prefix_len p (drop place bytes) ≡ count
@@ -54,7 +55,7 @@ prefix_on p bytes place size count within is full =
     )
 
 -- a run goes on after digits
-pub digits_on : (bytes : List ℕ) (place count : ℕ) → place + count ≤ length bytes
+digits_on : (bytes : List ℕ) (place count : ℕ) → place + count ≤ length bytes
     → list_all is_ascii_digit (take count (drop place bytes)) ≡ true
     → run_length bytes place ≡ count + run_length bytes (place + count)
 digits_on bytes place count within all =

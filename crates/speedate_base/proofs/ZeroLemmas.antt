@@ -18,23 +18,6 @@ use Rattle.speedate_base.proofs.DigitRunLemmas.{run-on, run-whole, digits_value-
 use Rattle.speedate_base.proofs.BlockLemmas.{number_or_place}
 use Rattle.speedate_base.proofs.NearestLemmas.{scale-some}
 
--- where the first bytes are zeros, the zeros go on after them
-zeros-front : (bytes : List ℕ) (count : ℕ) → count ≤ length bytes
-    → list_all is_digit_zero (take count bytes) ≡ true
-    → zeros_length bytes ≡ count + zeros_length (drop count bytes)
-zeros-front bytes zero within all = omega arith
-zeros-front [] (suc count) within all = absurd (omega arith)
-zeros-front (byte ∷ bytes) (suc count) within all =
-    let parts = and_parts (is_digit_zero byte) _ all in
-    grind (arith, nat_tests, parts.0, zeros-front bytes count (omega arith) parts.1)
-
-pub zeros_on : (bytes : List ℕ) (place count : ℕ) → place + count ≤ length bytes
-    → list_all is_digit_zero (take count (drop place bytes)) ≡ true
-    → zeros_length (drop place bytes) ≡ count + zeros_length (drop (place + count) bytes)
-zeros_on bytes place count within all =
-    zeros-front (drop place bytes) count (omega (arith, length-drop place bytes, within)) all
-    ∙ ap (λ (rest : List ℕ). count + zeros_length rest) (drop-drop count place bytes)
-
 -- zeros are digits
 zeros-digits : (bytes : List ℕ)
     → list_all is_ascii_digit (take (zeros_length bytes) bytes) ≡ true

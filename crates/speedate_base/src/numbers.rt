@@ -44,7 +44,7 @@ pub fn int_parse_bytes(bytes: &[u8]) -> Option<i64>
     ensures answer { result ≡ whole_number bytes.now }
 {
     let (negative, start) = sign(bytes);
-    // Most texts that are no number show it here.
+    // A text of words shows here that it is no number.
     if !byte_at(bytes, start).is_ascii_digit() {
         return None;
     }
@@ -57,8 +57,8 @@ fn signed_number(negative: bool, digits: &[u8]) -> Option<i64>
     ensures value { result ≡ (if run_length digits.now 0 == length digits.now
         then signed_answer negative (digits_value digits.now) else None) }
 {
-    // Digits of which the first is no zero fit only if they are few. This calls nothing, so that the
-    // registers of short numbers need no room in memory.
+    // Digits of which the first is no zero fit only if they are few. This calls nothing, so that short
+    // numbers save no registers for a call.
     let digits = without_zeros(digits);
     if digits.len() > MOST_DIGITS {
         return None;
@@ -92,7 +92,7 @@ pub fn float_parse_bytes(bytes: &[u8]) -> IntFloat<'_>
     ensures joined { JoinsToFloat result bytes.now }
 {
     let (negative, start) = sign(bytes);
-    // Most texts that are no number show it here.
+    // A text of words shows here that it is no number.
     if !may_begin_digits(byte_at(bytes, start)) {
         return IntFloat::Err;
     }
@@ -105,8 +105,8 @@ pub fn float_parse_bytes(bytes: &[u8]) -> IntFloat<'_>
     }
 }
 
-/// Whether the digits of a number, or its point before them, may begin with a byte. So may `/`, which
-/// stands between the point and the digits: one comparison tells these from all others.
+/// Whether a byte is a digit, `.` or `/`. No number begins with `/`, but it stands between the others, so
+/// that one comparison tells them.
 #[inline(always)]
 fn may_begin_digits(byte: u8) -> bool
     ensures { result ≡ (nat_le full_stop byte && nat_le byte (digit 9)) }

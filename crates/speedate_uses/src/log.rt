@@ -126,7 +126,7 @@ pub fn lines_between<'a, A: Allocator>(
 }
 
 /// Whether each date-time of a log is earlier than the one before it, by instant.
-fn fall(times: &[DateTime]) -> bool
+fn are_falling(times: &[DateTime]) -> bool
     ensures fall { IsAllAdjacentAnswer (λ time next answer. answer ≡ is_lt
         (instant_key_order (instant_key (date_and_time next)) (instant_key (date_and_time time))))
         times.now result }
@@ -162,7 +162,7 @@ pub fn sort_by_instant<A: Allocator>(alloc: A, times: &mut [DateTime]) -> Result
         if times.is_sorted_by_key(|time| instant_key(time)) {
             return Ok(());
         }
-        if fall(times) {
+        if are_falling(times) {
             times.reverse();
             return Ok(());
         }

@@ -75,7 +75,9 @@ fn many_date_times_by_instant(rt: HostRuntime) {
                 let heap = LocalHeap::new(rt.alloc(), bytes).ok().expect(&rt, order);
                 let sorted = sort_by_instant(&heap, &mut found[..size]);
                 assert!(rt;
-                    sorted.is_ok() == by_key.is_ok() && found == model,
+                    sorted.is_ok() == by_key.is_ok()
+                        && (sorted.is_ok() || bytes < 2_000)
+                        && found == model,
                     "{order}, {size} in {bytes} bytes"
                 );
             }

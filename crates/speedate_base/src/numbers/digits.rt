@@ -34,7 +34,7 @@ const FEW: usize = 6;
 /// How many digits `u64::MAX` has.
 pub(crate) const MOST_DIGITS: usize = 20;
 
-/// How many bytes are parsed as a number eight at a time, also if zeros are at their front.
+/// How many bytes are parsed as a number eight at a time, even with zeros at their front.
 const MOST_BY_EIGHTS: usize = 40;
 
 /// The run of digits at the front of bytes: 3 digits that spell 120 for `b"120.5"`, none for `b".5"`.
@@ -178,7 +178,7 @@ fn long_number(digits: &[u8]) -> Result<u64, usize>
     number_by_eights(&digits[zeros..])
 }
 
-/// Bytes without the zeros at their front, if they are more than the digits of `u64::MAX`: `b"12"` for
+/// Bytes without the zeros at their front, if they are more than twenty: `b"12"` for
 /// forty zeros and `12`, and `b"0012"` for itself.
 #[inline(always)]
 pub(crate) fn without_zeros(bytes: &[u8]) -> &[u8]

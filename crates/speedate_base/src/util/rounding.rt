@@ -77,8 +77,8 @@ fn told_by_sixteen(digits: &[u8], unit: u64, up: bool) -> Option<u64>
     if least == most { Some(least) } else { None }
 }
 
-/// Bounds of twice the microseconds of digits, as far as whether they are all zeros tells them: 0 and
-/// 1,999,999 for `b"25"` of a second, rounded down, and 1 and 2,000,000, rounded up.
+/// A lower and an upper bound of twice the microseconds of digits: 0 and 1,999,999 for `b"25"` of a
+/// second, rounded down, and 1 and 2,000,000, rounded up. Rounded up, both are 0 if all are zeros.
 #[tactic(auto, using(crate::proofs::RoundingLemmas::rest_rules))]
 fn rest_bounds(digits: &[u8], unit: u64, up: bool) -> (u64, u64)
     requires digits { IsTrue (list_all is_ascii_digit digits.now) }
@@ -89,7 +89,7 @@ fn rest_bounds(digits: &[u8], unit: u64, up: bool) -> (u64, u64)
         ≤ result.1 }
     ensures within { result.1 ≤ 2 * unit }
 {
-    // Digits are less than a whole unit.
+    // A fraction is less than a whole unit.
     if !up {
         return (0, (2 * unit).saturating_sub(1));
     }

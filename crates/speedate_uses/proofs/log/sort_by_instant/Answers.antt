@@ -13,7 +13,7 @@ use Rattle.speedate_uses.proofs.LogLemmas.{
 }
 use Rattle.speedate_uses.proofs.log.sort_by_instant.Goals.{
   else-times-gt-FEW,
-  then-times-gt-FEW+else-is_sorted_by_key+else-fall+else-is_ok,
+  then-times-gt-FEW+else-is_sorted_by_key+else-are_falling+else-is_ok,
 }
 use Rattle.speedate_uses.proofs.log.sort_by_instant.Goals as goal
 
@@ -24,15 +24,15 @@ returns-then-is_sorted_by_key-clause-sorted g c =
     (c.if-is_sorted_by_key.ensures.cases (λ time. instant_key (date_and_time time))
     (answers_always _ _ _ (λ closure time key after called. search rules)))
 
-pub returns-then-fall-clause-sorted : goal.returns-then-fall-clause-sorted
-returns-then-fall-clause-sorted g c =
+pub returns-then-are_falling-clause-sorted : goal.returns-then-are_falling-clause-sorted
+returns-then-are_falling-clause-sorted g c =
     reversed-sorted-by (λ time. instant_key (date_and_time time)) c.args.times.now
-    c.reverse.new.self c.if-fall.ensures.fall c.reverse.ensures.after
+    c.reverse.new.self c.if-are_falling.ensures.fall c.reverse.ensures.after
 
-pub returns-then-fall-clause-stable : goal.returns-then-fall-clause-stable
-returns-then-fall-clause-stable g c =
+pub returns-then-are_falling-clause-stable : goal.returns-then-are_falling-clause-stable
+returns-then-are_falling-clause-stable g c =
     reversed-stable-by (λ time. instant_key (date_and_time time)) c.args.times.now
-    c.reverse.new.self c.if-fall.ensures.fall c.reverse.ensures.after
+    c.reverse.new.self c.if-are_falling.ensures.fall c.reverse.ensures.after
 
 pub returns-then-is_ok-clause-sorted : goal.returns-then-is_ok-clause-sorted
 returns-then-is_ok-clause-sorted g c =
@@ -56,7 +56,7 @@ returns-clause-sorted g c =
 pub returns-clause-stable : goal.returns-clause-stable
 returns-clause-stable g c =
     let same : c.if-times-gt-FEW.times ≡ c.args.times.now = elim c.if-times-gt-FEW.branch [
-      | then-times-gt-FEW+else-is_sorted_by_key+else-fall+else-is_ok w ↦
+      | then-times-gt-FEW+else-is_sorted_by_key+else-are_falling+else-is_ok w ↦
           w.times-is
           ∙ at-err w.sort_by_cached_key.result (search rules) w.sort_by_cached_key.ensures.err
       | else-times-gt-FEW w ↦ w.times-is

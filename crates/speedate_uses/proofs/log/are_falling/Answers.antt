@@ -3,7 +3,7 @@ use Rattle.speedate.specs.DateTime.{date_and_time}
 use Rattle.speedate_uses.specs.Log.{instant_key, instant_key_order}
 use Rattle.speedate_uses.proofs.LogLemmas.{key-read}
 use Rattle.speedate_uses.proofs.OrderLemmas.{read-all, read-first, read-next, read-stopped}
-use Rattle.speedate_uses.proofs.log.fall.Goals as goal
+use Rattle.speedate_uses.proofs.log.are_falling.Goals as goal
 
 pub loop-place-init : goal.loop-place-init
 loop-place-init c =

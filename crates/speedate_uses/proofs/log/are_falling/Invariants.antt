@@ -2,7 +2,7 @@ use Rattle.std.proofs.Common.{ℕ, ℤ, is_lt}
 use Rattle.speedate_uses.specs.Log.{instant_key, instant_key_order}
 use Rattle.speedate.specs.DateTime.{date_and_time}
 use Rattle.speedate_uses.proofs.OrderLemmas.{IsReadUpTo}
-use Rattle.speedate_uses.proofs.log.fall.Given as goal
+use Rattle.speedate_uses.proofs.log.are_falling.Given as goal
 
 abbrev pub invariant-loop-place : goal.invariant-loop-place
 invariant-loop-place l =
