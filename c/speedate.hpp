@@ -90,7 +90,7 @@ template <class T> class [[nodiscard]] Result {
     bool has_value() const noexcept { return value_.has_value(); }
     explicit operator bool() const noexcept { return has_value(); }
 
-    /* The value. As of a std::optional, they may be called only if there is one. */
+    /* The value. As with a std::optional, call these only if there is one. */
     const T &operator*() const noexcept { return *value_; }
     const T *operator->() const noexcept { return &*value_; }
 
@@ -108,7 +108,7 @@ template <class T> class [[nodiscard]] Result {
 
     T value_or(const T &other) const { return value_ ? *value_ : other; }
 
-    /* The error, which may be called only if there is no value. */
+    /* The error. Call it only if there is no value. */
     Error error() const noexcept { return error_; }
 
   private:
@@ -291,7 +291,7 @@ class Date : public detail::Ordered<Date> {
             [&](auto... out) { return speedate_date_parse_front(text.data(), text.size(), out...); });
     }
 
-    /* Where a text is wrong for the parser of that name; nothing if it is accepted. */
+    /* Where a text is wrong for the parser of that name; nothing if it is accepted, or the configuration is out of range. */
     static std::optional<std::size_t> error_place(std::string_view text, const Config &config = {}) {
         return detail::place(
             [&](auto *out) { return speedate_date_error_place(text.data(), text.size(), config.c(), out); });
@@ -406,7 +406,7 @@ class Time : public detail::Equal<Time> {
             [&](auto... out) { return speedate_time_parse_front(text.data(), text.size(), config.c(), out...); });
     }
 
-    /* Where a text is wrong for the parser of that name; nothing if it is accepted. */
+    /* Where a text is wrong for the parser of that name; nothing if it is accepted, or the configuration is out of range. */
     static std::optional<std::size_t> error_place(std::string_view text, const Config &config = {}) {
         return detail::place(
             [&](auto *out) { return speedate_time_error_place(text.data(), text.size(), config.c(), out); });
@@ -489,7 +489,7 @@ class DateTime : public detail::Equal<DateTime> {
             [&](auto... out) { return speedate_datetime_parse_front(text.data(), text.size(), config.c(), out...); });
     }
 
-    /* Where a text is wrong for the parser of that name; nothing if it is accepted. */
+    /* Where a text is wrong for the parser of that name; nothing if it is accepted, or the configuration is out of range. */
     static std::optional<std::size_t> error_place(std::string_view text, const Config &config = {}) {
         return detail::place(
             [&](auto *out) { return speedate_datetime_error_place(text.data(), text.size(), config.c(), out); });
@@ -594,7 +594,7 @@ class Duration : public detail::Ordered<Duration> {
     static Result<Duration> parse(std::string_view text, const Config &config = {}) {
         return from_c([&](auto *out) { return speedate_duration_parse(text.data(), text.size(), config.c(), out); });
     }
-    /* Where a text is wrong; nothing if it is accepted. */
+    /* Where a text is wrong; nothing if it is accepted, or the configuration is out of range. */
     static std::optional<std::size_t> error_place(std::string_view text, const Config &config = {}) {
         return detail::place(
             [&](auto *out) { return speedate_duration_error_place(text.data(), text.size(), config.c(), out); });

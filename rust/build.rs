@@ -73,10 +73,14 @@ impl Installed {
         for variable in [&*of_target, "SPEEDATE_DIR"] {
             if let Some(prefix) = prefix_by(variable)? {
                 let of_several = format!("lib/{}-linux-gnu", processor.name);
-                let mut rooms = vec![prefix.join("lib"), prefix.join("lib64"), prefix.join(of_several)];
                 let files = fs::read_to_string(prefix.join("share/doc/speedate/FILES")).unwrap_or_default();
                 let listed = files.lines().filter_map(|it| it.strip_suffix("/libspeedate.a"));
-                rooms.extend(listed.map(|it| prefix.join(it)));
+                let mut rooms: Vec<_> = listed.map(|it| prefix.join(it)).collect();
+                for room in ["lib", "lib64", &*of_several].map(|it| prefix.join(it)) {
+                    if !rooms.contains(&room) {
+                        rooms.push(room);
+                    }
+                }
                 // First those that have an archive for the target, then those that have another one.
                 rooms.sort_by_key(|it| {
                     let bytes = fs::read(archive_of(it));

@@ -21,7 +21,7 @@ an offset of timestamps in a call that parses none: `date`, `date_time` and thei
 from ._version import __version__
 from ._speedate import (
     Config, Fault, Refusal, Unrepresentable, date, date_column, date_from_timestamp, date_front, date_time, date_time_column,
-    date_time_from_timestamp, date_time_front, date_time_strict, duration, duration_column, text, time, time_from_timestamp,
+    date_time_from_timestamp, date_time_front, date_time_strict, duration, duration_column, text, time as time, time_from_timestamp,
     time_front, time_strict)
 
 # `time` is left out: `from speedate import *` would hide the module of that name.

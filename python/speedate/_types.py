@@ -12,8 +12,8 @@ class Refusal(ValueError):
     """Why a text, or a number, has no value: a `Fault` or an `Unrepresentable`, by its `name`.
 
     Its `text` is the text that was refused, of a column too: a `str`, otherwise its bytes. Its `place` is where the fault
-    lies in it, counted in characters of a `str`, otherwise in bytes. Both are `None` of a number, and of a refusal that no
-    call raised. The `place` is `None` of `number_too_large` too.
+    lies in it, counted in characters of a `str`, otherwise in bytes. Both are `None` for a number, and for a refusal that no
+    call raised. The `place` is `None` for `number_too_large` too.
 
     Its `index` is the place of the text in a column, and `None` in any other call.
 

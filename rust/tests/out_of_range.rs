@@ -60,7 +60,7 @@ fn keep_files() {
     });
 }
 
-/// Asserts that each call panics, and names the field and, but from Display, the caller's file.
+/// Asserts that each call panics, and names the field and, except from Display, the caller's file.
 macro_rules! assert_panics {
     ($field:expr; $($call:expr),*) => {$(
         keep_files();

@@ -41,7 +41,8 @@ prefix_ends p bytes place size count within is less =
 -- and a whole block goes on after it
 pub prefix_on : (p : ℕ → Bool) (bytes : List ℕ) (place size count : ℕ)
     → place + size ≤ length bytes → count ≡ prefix_len p (take size (drop place bytes))
-    → size ≤ count → prefix_len p (drop place bytes) ≡ size + prefix_len p (drop (place + size) bytes)
+    → size ≤ count
+    → prefix_len p (drop place bytes) ≡ size + prefix_len p (drop (place + size) bytes)
 prefix_on p bytes place size count within is full =
     grind (
       arith,

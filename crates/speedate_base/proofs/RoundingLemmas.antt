@@ -144,8 +144,8 @@ rest-within true unit digits all =
 pub rest-below : (unit : ℕ) (digits : List ℕ) → list_all is_ascii_digit digits ≡ true
     → quotient false (2 * (digits_value digits * unit)) (10 ^ length digits) ≤ 2 * unit - 1
 rest-below unit digits all = elim (cases_lt 0 unit) [
-  | inl has ↦ part_below (digits_value digits) unit (10 ^ length digits) (digits_value-lt digits all)
-      has
+  | inl has ↦
+      part_below (digits_value digits) unit (10 ^ length digits) (digits_value-lt digits all) has
   | inr none ↦ grind (arith, scale-some (length digits), div-eq_of_lt)
 ]
 
@@ -178,13 +178,15 @@ sixteen-value digits long = omega (arith, block-more digits 8 long)
 pub sixteen-told : (up : Bool) (unit : ℕ) (digits : List ℕ) (value smallest largest least most : ℕ)
     → 16 ≤ length digits
     → value ≡ digits_value (take 16 digits)
-    → smallest ≤ quotient up (2 * (digits_value (drop 16 digits) * unit)) (10 ^ length (drop 16 digits))
-    → quotient up (2 * (digits_value (drop 16 digits) * unit)) (10 ^ length (drop 16 digits)) ≤ largest
+    → smallest
+    ≤ quotient up (2 * (digits_value (drop 16 digits) * unit)) (10 ^ length (drop 16 digits))
+    → quotient up (2 * (digits_value (drop 16 digits) * unit)) (10 ^ length (drop 16 digits))
+    ≤ largest
     → least ≡ quotient up (2 * (value * unit) + smallest) (10 ^ 16)
     → most ≡ quotient up (2 * (value * unit) + largest) (10 ^ 16)
     → least ≡ most
     → least ≡ quotient up (2 * (digits_value digits * unit)) (10 ^ length digits)
-sixteen-told up unit digits value smallest largest least most long is more less is_least is_most same =
+sixteen-told up unit digits value smallest largest least most long is more less one two same =
     let rest : List ℕ = drop 16 digits in
     let scale = 10 ^ length rest in
     let size = 2 * (value * unit) in
@@ -204,4 +206,4 @@ sixteen-told up unit digits value smallest largest least most long is more less 
     (omega (arith, more)) in
     let high = quotient-le up (size + later) (size + largest) (10 ^ 16) (scale-some 16)
     (omega (arith, less)) in
-    omega (arith, low, high, is_least, is_most, same, exact)
+    omega (arith, low, high, one, two, same, exact)

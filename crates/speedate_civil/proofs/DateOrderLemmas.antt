@@ -152,8 +152,8 @@ numbered-order : (first second : ℕ) (one two : Bool)
     IfSome (if two then Some (date_of_number second) else None) (λ other.
     date_order date other ≡ int_cmp (pos first) (pos second)))
 numbered-order first second true true =
-    date_order-day_number (date_of_number first) (date_of_number second) (date_of_number-IsDay first)
-    (date_of_number-IsDay second)
+    date_order-day_number (date_of_number first) (date_of_number second)
+    (date_of_number-IsDay first) (date_of_number-IsDay second)
     ∙ rw (day_number-date_of_number first, day_number-date_of_number second)
     (number-order first second)
 numbered-order first second true false = tt
