@@ -23,8 +23,8 @@ pub block-all : (bytes : List ℕ) (place count : ℕ) → place + 8 ≤ length 
     → list_all is_ascii_digit (block bytes place) ≡ true
 block-all bytes place count within is full = search rules
 
--- bytes that pass a test from a place on, counted in a block: if fewer than the whole block do, they
--- end there
+-- bytes that pass a test from a place on, counted in a block: if fewer than the whole block do,
+-- they end there
 pub prefix_ends : (p : ℕ → Bool) (bytes : List ℕ) (place size count : ℕ)
     → place + size ≤ length bytes → count ≡ prefix_len p (take size (drop place bytes))
     → count < size → prefix_len p (drop place bytes) ≡ count
