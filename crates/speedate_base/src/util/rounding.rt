@@ -111,8 +111,8 @@ fn sixteen_taken(first: u64, second: u64, rest: u64, unit: u64, up: bool) -> u64
         ≡ quotient up (2 * ((first * 100000000 + second) * unit) + rest) (10 ^ SIXTEEN) }
     ensures within { result ≤ 2 * unit }
 {
-    let later = digits_taken(second, rest, unit, up);
-    digits_taken(first, later, unit, up)
+    let later = halves_taken(second, rest, unit, up);
+    halves_taken(first, later, unit, up)
 }
 
 /// Twice the microseconds of a fraction of a unit, from all of its digits.
@@ -183,6 +183,7 @@ pub(super) fn power_of_ten(exponent: usize) -> u64
 /// Twice the microseconds of eight digits that spell a value, where `rest` is that of the digits after
 /// them.
 #[inline(always)]
+#[tactic(auto, using(crate::proofs::NearestLemmas::part_rules))]
 fn digits_taken(value: u64, rest: u64, unit: u64, up: bool) -> u64
     requires value { value < 100000000 }
     requires rest { rest ≤ 2 * unit }
@@ -190,15 +191,19 @@ fn digits_taken(value: u64, rest: u64, unit: u64, up: bool) -> u64
     ensures twice { result ≡ quotient up (2 * (value * unit) + rest) 100000000 }
     ensures within { result ≤ 2 * unit }
 {
-    // Up to a unit of a day the sum for all eight digits fits 64 bits.
+    // Up to a unit of a day the sum fits 64 bits; above that it needs 128, whose division is a call.
     if unit <= DAY_MICROSECONDS {
         return part_taken(value, rest, unit, 100_000_000, up);
     }
-    halves_taken(value, rest, unit, up)
+    let sum = 2 * (u128::from(value) * u128::from(unit)) + u128::from(rest);
+    if up {
+        ((sum + 99_999_999) / 100_000_000) as u64
+    } else {
+        (sum / 100_000_000) as u64
+    }
 }
 
-/// What [`digits_taken`] returns, with a sum that fits 64 bits for all units: a step for each four of the
-/// eight digits.
+/// What [`digits_taken`] returns, in 64 bits for all units: a step for each four of the eight digits.
 #[inline(always)]
 fn halves_taken(value: u64, rest: u64, unit: u64, up: bool) -> u64
     requires value { value < 100000000 }
