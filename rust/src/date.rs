@@ -81,8 +81,8 @@ impl Date {
         Ok(ffi::speedate_date_parse_front(bytes)?)
     }
 
-    /// The byte at which the error lies for which [`parse_bytes_with_config`](Self::parse_bytes_with_config) refuses an
-    /// input. It is `None` for an input that it accepts.
+    /// The byte offset of the error of [`parse_bytes_with_config`](Self::parse_bytes_with_config); `None` if the input
+    /// is accepted.
     ///
     /// ```
     /// use speedate::{Date, DateConfig};
@@ -95,8 +95,8 @@ impl Date {
         ffi::speedate_date_error_place(bytes, config)
     }
 
-    /// The byte at which the error lies for which [`parse_bytes_rfc3339`](Self::parse_bytes_rfc3339) refuses an input.
-    /// It is `None` for an input that it accepts.
+    /// The byte offset of the error of [`parse_bytes_rfc3339`](Self::parse_bytes_rfc3339); `None` if the input is
+    /// accepted.
     ///
     /// ```
     /// assert_eq!(speedate::Date::error_place_rfc3339(b"2020-01-01T12:13"), Some(10));
@@ -106,8 +106,7 @@ impl Date {
         ffi::speedate_date_error_place_rfc3339(bytes)
     }
 
-    /// The byte at which the error lies for which [`parse_front`](Self::parse_front) refuses an input. It is `None` for
-    /// an input that it accepts.
+    /// The byte offset of the error of [`parse_front`](Self::parse_front); `None` if the input is accepted.
     ///
     /// ```
     /// assert_eq!(speedate::Date::error_place_front(b"2026-11-2"), Some(9));

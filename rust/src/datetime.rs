@@ -6,8 +6,8 @@ use crate::ffi::{self, Config};
 use crate::value::{value, Value};
 use crate::{Date, DateTimeConfig, MicrosecondsPrecisionOverflowBehavior, ParseError, Time, TimeConfig, TimestampUnit};
 
-/// A date and a time of day, as a clock at the offset of the time shows them. Its text is that of the [`Date`], then `T`,
-/// `t`, `_` or a space, and that of the [`Time`].
+/// A date and a time of day, as a clock at the offset of the time shows them. It is printed as the [`Date`], `T` and
+/// the [`Time`]. For the `T` the parsers also accept `t`, `_` or a space.
 ///
 /// ```
 /// use speedate::{Date, DateTime, Time};
@@ -127,8 +127,8 @@ impl DateTime {
         Ok(ffi::speedate_datetime_parse_front(bytes, config)?)
     }
 
-    /// The byte at which the error lies for which [`parse_bytes_with_config`](Self::parse_bytes_with_config) refuses an
-    /// input. It is `None` for an input that it accepts, and if the configured offset is a day or more.
+    /// The byte offset of the error of [`parse_bytes_with_config`](Self::parse_bytes_with_config); `None` if the input
+    /// is accepted, or the configured offset is a day or more.
     ///
     /// ```
     /// assert_eq!(speedate::DateTime::error_place(b"2020-02-29T12:13:60", &Default::default()), Some(17));
@@ -138,9 +138,8 @@ impl DateTime {
         ffi::speedate_datetime_error_place(bytes, config)
     }
 
-    /// The byte at which the error lies for which
-    /// [`parse_bytes_rfc3339_with_config`](Self::parse_bytes_rfc3339_with_config) refuses an input. It is `None` for an
-    /// input that it accepts.
+    /// The byte offset of the error of [`parse_bytes_rfc3339_with_config`](Self::parse_bytes_rfc3339_with_config);
+    /// `None` if the input is accepted.
     ///
     /// ```
     /// assert_eq!(speedate::DateTime::error_place_rfc3339(b"2020-02-29", &Default::default()), Some(10));
@@ -150,8 +149,8 @@ impl DateTime {
         ffi::speedate_datetime_error_place_rfc3339(bytes, config)
     }
 
-    /// The byte at which the error lies for which [`parse_bytes_strict`](Self::parse_bytes_strict) refuses an input. It
-    /// is `None` for an input that it accepts.
+    /// The byte offset of the error of [`parse_bytes_strict`](Self::parse_bytes_strict); `None` if the input is
+    /// accepted.
     ///
     /// ```
     /// use speedate::{DateTime, MicrosecondsPrecisionOverflowBehavior::Error};
@@ -163,8 +162,7 @@ impl DateTime {
         ffi::speedate_datetime_error_place_strict(bytes, Config::default().behavior(behavior))
     }
 
-    /// The byte at which the error lies for which [`parse_front`](Self::parse_front) refuses an input. It is `None` for
-    /// an input that it accepts.
+    /// The byte offset of the error of [`parse_front`](Self::parse_front); `None` if the input is accepted.
     ///
     /// ```
     /// assert_eq!(speedate::DateTime::error_place_front(b"2026-11-22T12:00:00-ERROR", &Default::default()), Some(20));

@@ -6,8 +6,9 @@ use crate::{DateTime, ParseError, TimeConfig};
 
 /// A length of time, with a sign, which zero has too.
 ///
-/// Its text is that of ISO 8601, `P1Y2M3W4DT5H6M7.5S`, a clock, `05:06:07.5`, or days and a clock, `4 days, 05:06`, each
-/// with a sign or without one. A year is 365 days, and a month 30.
+/// It is printed as ISO 8601 has it, `P1Y2DT5H6M7.5S`. The parsers accept that, with months and weeks too, a clock,
+/// `05:06:07.5`, or days and a clock, `4 days, 05:06`, each with a sign or without one. A year is 365 days, and a month
+/// 30.
 ///
 /// ```
 /// use speedate::Duration;
@@ -88,8 +89,8 @@ impl Duration {
         Ok(ffi::speedate_duration_normalize(&Self { positive, day, second, microsecond })?)
     }
 
-    /// The byte at which the error lies for which [`parse_bytes_with_config`](Self::parse_bytes_with_config) refuses an
-    /// input. It is `None` for an input that it accepts.
+    /// The byte offset of the error of [`parse_bytes_with_config`](Self::parse_bytes_with_config); `None` if the input
+    /// is accepted.
     ///
     /// ```
     /// assert_eq!(speedate::Duration::error_place(b"P1D1Q", &Default::default()), Some(4));

@@ -7,8 +7,8 @@ use crate::{ConfigError, ParseError, TimeConfig};
 
 /// A time of day, with an offset from UTC or without one.
 ///
-/// Its text is `HH:MM`, `HH:MM:SS` or `HH:MM:SS.F`, where `F` is one to six digits, and then `Z`, `+HH:MM`, `-HH:MM` or
-/// nothing.
+/// It is printed as `HH:MM:SS`; then, if the microsecond is not 0, `.` and six digits; then `Z`, `+HH:MM`, `-HH:MM` or
+/// nothing. The parsers also accept a time without a second, and other forms of the fraction and the offset.
 ///
 /// ```
 /// use speedate::Time;
@@ -91,8 +91,8 @@ impl Time {
         Ok(ffi::speedate_time_parse_front(bytes, config)?)
     }
 
-    /// The byte at which the error lies for which [`parse_bytes_with_config`](Self::parse_bytes_with_config) refuses an
-    /// input. It is `None` for an input that it accepts.
+    /// The byte offset of the error of [`parse_bytes_with_config`](Self::parse_bytes_with_config); `None` if the input
+    /// is accepted.
     ///
     /// ```
     /// assert_eq!(speedate::Time::error_place(b"12:13:60", &Default::default()), Some(6));
@@ -102,8 +102,8 @@ impl Time {
         ffi::speedate_time_error_place(bytes, config)
     }
 
-    /// The byte at which the error lies for which [`parse_bytes_strict`](Self::parse_bytes_strict) refuses an input. It
-    /// is `None` for an input that it accepts.
+    /// The byte offset of the error of [`parse_bytes_strict`](Self::parse_bytes_strict); `None` if the input is
+    /// accepted.
     ///
     /// ```
     /// use speedate::{MicrosecondsPrecisionOverflowBehavior::Error, Time};
@@ -115,8 +115,7 @@ impl Time {
         ffi::speedate_time_error_place_strict(bytes, Config::default().behavior(behavior))
     }
 
-    /// The byte at which the error lies for which [`parse_front`](Self::parse_front) refuses an input. It is `None` for
-    /// an input that it accepts.
+    /// The byte offset of the error of [`parse_front`](Self::parse_front); `None` if the input is accepted.
     ///
     /// ```
     /// assert_eq!(speedate::Time::error_place_front(b"12:00:00-ERROR", &Default::default()), Some(9));

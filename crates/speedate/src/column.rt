@@ -48,7 +48,7 @@ impl LineError {
     }
 }
 
-/// How far a column has come: two lines and 22 bytes, and no error, for two dates that line feeds end.
+/// The progress of a column: two dates, each with its line feed, give 2 lines, 22 bytes and no error.
 #[derive(Clone, Copy, Debug)]
 pub struct Progress {
     /// How many lines have a number in the column.
