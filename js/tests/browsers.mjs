@@ -281,7 +281,9 @@ async function readAll() {
       document.body.append(frame);
     });
   const without = [await shownIn("without.html", () => {}), await shownIn("page.html", (it) => it.setAttribute("sandbox", "allow-same-origin"))];
-  report({ width: 0, temporal: typeof Temporal, drawn: readDrawn(), without });
+  const bare = await import("./bare.js");
+  bare.init(await WebAssembly.compileStreaming(fetch("speedate.wasm")));
+  report({ width: 0, temporal: typeof Temporal, drawn: readDrawn(), without, handedOver: bare.format(bare.parseDuration("PT90M")) });
 }
 /** What the page says without WebAssembly, and without scripts. */
 const WITHOUT = [
@@ -295,6 +297,7 @@ const files = {
   ...Object.fromEntries(["rows.mjs", "shim.mjs", "drawn.mjs"].map((it) => [it, readFileSync(it)])),
   "speedate.js": source("out/js/speedate.js"), "rows.txt": source("c/tests/rows.txt"),
   "examples.js": scriptOf(source("docs/JAVASCRIPT.md"), "ts", "Temporal"),
+  "bare.js": source("out/js/bare.js"), "speedate.wasm": readFileSync(`${root}/out/js/speedate.wasm`),
   "page.html": source("out/try.html"), "without.html": source("out/try.html").replace("<title>", "<script>delete globalThis.WebAssembly</script>$&"),
 };
 const { port, next } = await serve(files);
@@ -324,6 +327,7 @@ const visits = [await told(120, "the page, narrow"), await told(120, "the page, 
 const all = await told(240, "the rows and the drawn texts");
 assert.deepEqual(all.drawn, { ...readDrawn(), wrong: [] });
 assert.deepEqual(all.without, WITHOUT);
+assert.equal(all.handedOver, "PT1H30M");
 for (const [i, width] of [360, 1280].entries()) {
   const { calls, least, ...others } = visits[i];
   assert.deepEqual(others, { width, steps: STEPS, marks: Object.values(MARKED), offers: OFFERED, wrong: [] });
