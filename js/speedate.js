@@ -898,7 +898,9 @@ export function toDate(value) {
 
 export function fromDate(date) {
   if (Object.prototype.toString.call(date) !== "[object Date]") throw new TypeError("date has to be a Date");
-  return dateTimeFromTimestamp(integer(Date.prototype.getTime.call(date), "date"), "ms", { timestampOffset: 0 });
+  const time = Date.prototype.getTime.call(date);
+  if (Number.isNaN(time)) throw new RangeError("date has to be a Date that has a time");
+  return dateTimeFromTimestamp(time, "ms", { timestampOffset: 0 });
 }
 
 // ---- Printing and arithmetic ----

@@ -68,7 +68,7 @@ for (const it of [86400, -86400, 2 ** 40, -(2 ** 40)]) assert.throws(() => forma
 assert.throws(() => format({ ...date, year: -1 }), refused("date_too_small"));
 assert.throws(() => format({ ...duration, days: 1 }), outside("days"));
 assert.throws(() => format({ ...time, offsetSeconds: 90 }), outside("offsetSeconds"));
-assert.throws(() => fromDate(new Date(NaN)), outside("date"));
+assert.throws(() => fromDate(new Date(NaN)), outside("date has to be a Date that has a time"));
 assert.throws(() => toDate({ ...dateTime, offsetSeconds: null }), refused("tz_required"));
 for (const call of [format, toDate]) for (const offsetSeconds of [null, 90])
   assert.throws(() => call({ ...dateTime, day: 32, offsetSeconds }), refused("out_of_range_day"), "the range comes first");
