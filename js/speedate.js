@@ -496,7 +496,7 @@ function callDateTime(library, size, it) {
   const code = parse(address.text, size, putConfig(library, it), address.out);
   return code === 0 && it.missingOffset !== undefined ? withOffset(library, it) : code;
 }
-/** Gives a date-time that was read without an offset that of UTC, or its refusal. */
+/** The code of a date-time that was read. Without an offset it gets that of UTC, or is refused. */
 function withOffset({ view }, { missingOffset }) {
   const at = PLACE.out + 4;
   if (offsetOf(view, at) !== null) return 0;
@@ -526,7 +526,7 @@ function findDateTime(library, size, it) {
   const lax = it.strict === 1 ? inC.speedate_datetime_error_place_strict : inC.speedate_datetime_error_place_rfc3339;
   const find = it.timestamps !== undefined ? inC.speedate_datetime_error_place : lax;
   const code = find(address.text, size, putConfig(library, it), address.taken);
-  // Of a text that C accepts an offset was missing, at its end.
+  // A text that C accepts lacks an offset, at its end.
   if (code === 0) library.view.setBigUint64(PLACE.taken, size, true);
   return code;
 }
