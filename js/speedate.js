@@ -29,10 +29,13 @@ export class SpeedateError extends RangeError {
   name = "SpeedateError";
   fault;
   code;
-  constructor({ fault, code, message }) {
+  constructor({ fault, code, message }, text, place) {
     super(message);
     this.fault = fault;
     this.code = code;
+    if (place === undefined) return;
+    this.text = text;
+    this.place = place;
   }
 }
 
@@ -579,7 +582,7 @@ const refusal = (code, text, options, find) => new Refusal(faultOf(code), keptTe
 /** The error. It has its place as a property of its own: beside an error, whose stack is told, that is little to find. */
 function errorOf(code, text, options, find) {
   const place = placeOfLast(text, keptNumbers(options), find);
-  return Object.assign(new SpeedateError(faultOf(code)), { text: keptText(text), place });
+  return new SpeedateError(faultOf(code), keptText(text), place);
 }
 
 /** The place of an error in a text that was refused, and in the one that was refused last. */
