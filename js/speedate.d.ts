@@ -34,13 +34,14 @@ export class SpeedateError extends RangeError {
   private constructor();
   readonly fault: Fault;
   /** The number of the fault in C. */ readonly code: number;
+  /** The text that is refused: of bytes a copy, and of a longer line what was looked at. */ readonly text?: Text;
   /** Where in the text the fault lies, as a Refusal has it. */ readonly place?: number;
   /** Of a line of a column its index, from 0. */ readonly index?: number;
 }
 /** The result of a `safe` call, which returns a refusal where another throws it. */
 export type Answer<Value> = { readonly ok: true; readonly value: Value } | Refusal;
 /** A refusal as a `safe` call returns it. `place` is where in the text the fault lies, in units of a string, otherwise in bytes: 5 of
- * `2020-13-01`, and the length of a text that is too short. Within a character it is that of its beginning. It is found when it is read, so copies do not have it. */
+ * `2020-13-01`, and the length of a text that is too short. Within a character it is that of its beginning. It is found when it is read, so copies and proxies do not have it. */
 export type Refusal = { readonly ok: false; readonly fault: Fault; readonly code: number; readonly message: string; readonly place: number };
 /** The value at the front of a text, and its size in bytes of UTF-8, and in units of a string: 10 of `2020-02-29 rent`. */
 export type Front<Value, Text> = { readonly value: Value; readonly size: number } & (Text extends string ? { readonly length: number } : unknown);
@@ -59,10 +60,14 @@ export type OffsetOptions = { timestampOffset?: number };
 export type OverflowOptions = { overflow?: "error" | "truncate" };
 /** Only the texts of RFC 3339 are accepted, without a second 60. */
 export type StrictOptions = OverflowOptions & { strict?: boolean };
+/** A date-time without an offset is refused with `tz_required` (`error`), or taken to be in UTC (`utc`). By default its
+ * `offsetSeconds` is null, and a column refuses it. */
+export type MissingOffsetOptions = { missingOffset?: "error" | "utc" };
 /** `timestamps` and `strict` cannot be combined. */
-export type DateTimeOptions =
+export type DateTimeOptions = MissingOffsetOptions & (
   | (StrictOptions & { timestamps?: undefined; timestampOffset?: undefined })
-  | (OverflowOptions & Required<TimestampOptions> & OffsetOptions & { strict?: false });
+  | (OverflowOptions & Required<TimestampOptions> & OffsetOptions & { strict?: false })
+);
 /** The order of the components of an ISO 8601 duration: any, and repeated (`lax`, the default), or each once, in order. */
 export type DurationOptions = OverflowOptions & { isoOrder?: "lax" | "strict" };
 
@@ -93,14 +98,30 @@ export function safeParseDateFront<It extends Text>(text: It, options?: NoOption
 export function safeParseTimeFront<It extends Text>(text: It, options?: OverflowOptions): Answer<Front<SpeedateTime, It>>;
 export function safeParseDateTimeFront<It extends Text>(text: It, options?: OverflowOptions): Answer<Front<SpeedateDateTime, It>>;
 
+/** Why a schema refuses a value: as a Refusal has it, or the message alone of what is no string. */
+export type SchemaIssue = { readonly message: string; readonly fault?: Fault; readonly code?: number; readonly place?: number };
+/** A schema as validators take it, by version 1 of the interface Standard Schema. */
+export type Schema<Value> = {
+  readonly "~standard": {
+    readonly version: 1;
+    readonly vendor: "speedate";
+    readonly validate: (value: unknown) => { readonly value: Value; readonly issues?: undefined } | { readonly issues: readonly SchemaIssue[] };
+    readonly types?: { readonly input: string; readonly output: Value };
+  };
+};
+/** A schema of strings that are texts of a kind, parsed by the same options as a single text. */
+export function schema(kind: "date", options?: TimestampOptions): Schema<SpeedateDate>;
+export function schema(kind: "time", options?: StrictOptions): Schema<SpeedateTime>;
+export function schema(kind: "dateTime", options?: DateTimeOptions): Schema<SpeedateDateTime>;
+export function schema(kind: "duration", options?: DurationOptions): Schema<SpeedateDuration>;
+
 /** A line of a column that is refused: its index, from 0, and why. */
 export type LineRefusal = { readonly index: number; readonly fault: Fault; readonly code: number; readonly message: string };
 /** What happens to lines that are refused. Without a list the first one is thrown, as a SpeedateError with its index. With one each
  * is appended to it, and has in the column the number that is no other line's. */
 export type ColumnOptions = { refusals?: LineRefusal[] };
 export type DateColumnOptions = TimestampOptions & ColumnOptions;
-/** A date-time without an offset is refused with `tz_required` (`error`, the default), or taken to be in UTC (`utc`). */
-export type DateTimeColumnOptions = DateTimeOptions & ColumnOptions & { missingOffset?: "error" | "utc" };
+export type DateTimeColumnOptions = DateTimeOptions & ColumnOptions;
 /** Reads a column in pieces, which may end anywhere: `read` gives the numbers of the lines that end in a piece, and keeps the line
  * that does not. `end` gives those of what is left, of a last piece too. Indices count from the first piece on. Once a call has
  * thrown for a line, or `end` was called, each further call is a TypeError. */
@@ -109,7 +130,11 @@ export type ColumnReader<Column> = { read(text: Text): Column; end(text?: Text):
  * by a line feed, with a carriage return before it or without, or by the end of the text. */
 export function dateColumn(text: Text, options?: DateColumnOptions): Int32Array;
 /** The milliseconds of Unix time of the date-time of each line, with a fraction for microseconds, and NaN of a line that is refused:
- * 1000.5 of `1970-01-01T00:00:01.0005Z`. If `unit` is `us`, the microseconds, and -(2n ** 63n) of a line that is refused. */
+ * 1000.5 of `1970-01-01T00:00:01.0005Z`. If `unit` is `us`, the microseconds, and -(2n ** 63n) of a line that is refused.
+ *
+ * The Date of a line, as `toDate` gives it, is `toDate(dateTimeFromTimestamp(it, "us", { timestampOffset: 0 }))` of its
+ * microseconds, if it lies in the years 0 to 9999 in UTC. `new Date(it)` of its milliseconds is a later one where they are
+ * negative and have a fraction. */
 export function dateTimeColumn(text: Text, options?: DateTimeColumnOptions & { unit?: "ms" }): Float64Array;
 export function dateTimeColumn(text: Text, options: DateTimeColumnOptions & { unit: "us" }): BigInt64Array;
 /** Reads a column of dates in pieces. */
@@ -169,6 +194,7 @@ export function totalSeconds(duration: SpeedateDuration): number;
 export function inTimezone(value: SpeedateTime, offsetSeconds: number): SpeedateTime;
 export function inTimezone(value: SpeedateDateTime, offsetSeconds: number): SpeedateDateTime;
 
-/** Hands over `speedate/speedate.wasm` as a compiled `WebAssembly.Module`, in an engine that compiles no bytes at run time. It has
- * to come before all other calls, and changes nothing after one. A TypeError if it is another module. */
+/** Hands over `speedate/speedate.wasm` as a compiled `WebAssembly.Module`, in an engine that compiles no bytes at run time, and to
+ * the entry `speedate/bare`, which has no module of its own. It has to come before all other calls, and changes nothing after
+ * one. A TypeError if it is another module. */
 export function init(module: object): void;

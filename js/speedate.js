@@ -1,8 +1,8 @@
 // SPDX-License-Identifier: MIT
 // Exact dates, times of day, date-times and durations. speedate.d.ts says what each call takes and answers.
 
-/** The functions of speedate.h, a WebAssembly module. */
-const moduleBytes = () => decoded("@MODULE@");
+/** The functions of speedate.h, a WebAssembly module, which other entries of the package take from elsewhere. */
+const ownModule = () => compiledOf(decoded("@MODULE@"));
 const NEEDED = "speedate needs WebAssembly with BigInt and bulk memory (Node 20, Chrome 115, Firefox 90, Safari 15) that a policy allows";
 
 /** Where what goes in and comes out stands in the memory, from the end of the module's own part. */
@@ -23,25 +23,19 @@ COLUMN.text = COLUMN.errors + LINES_AT_ONCE;
 const SHORT_SIZES = Array.from({ length: 65 }, (_, size) => BigInt(size));
 const SECONDS_IN_DAY = 86400;
 const CODE = { tzRequired: 19, dateTooSmall: 38 };
+const MISSING = { error: 0, utc: 1 };
 
 export class SpeedateError extends RangeError {
   name = "SpeedateError";
   fault;
   code;
-  #text;
-  #numbers;
-  #find;
-  constructor({ fault, code, message }, text, numbers, find) {
+  constructor({ fault, code, message }, text, place) {
     super(message);
     this.fault = fault;
     this.code = code;
-    this.#text = text;
-    this.#numbers = numbers;
-    this.#find = find;
-  }
-  // A proxy has nothing that is private.
-  get place() {
-    return #text in this ? placeOf(this.#text, this.#numbers, this.#find) : undefined;
+    if (place === undefined) return;
+    this.text = text;
+    this.place = place;
   }
 }
 
@@ -62,6 +56,7 @@ class Refusal {
     this.#numbers = numbers;
     this.#find = find;
   }
+  // A proxy has nothing that is private.
   get place() {
     return #text in this ? placeOf(this.#text, this.#numbers, this.#find) : undefined;
   }
@@ -114,15 +109,16 @@ export function init(module) {
   kept = library;
 }
 
-function start() {
-  if (kept !== undefined) return;
-  let module;
+function compiledOf(bytes) {
   try {
-    module = new WebAssembly.Module(moduleBytes());
+    return new WebAssembly.Module(bytes);
   } catch (cause) {
     throw new Error(NEEDED, { cause });
   }
-  init(module);
+}
+
+function start() {
+  if (kept === undefined) init(ownModule());
 }
 
 /** The names and texts of the faults, by code. */
@@ -197,11 +193,14 @@ const stringUnit = (text, at) => text.charCodeAt(at);
 const byteAt = (text, at) => text[at];
 const frontOf = (text) => (typeof text === "string" && text.length > 32 ? text.slice(0, frontSize(text, text.length, stringUnit)) : text);
 
+/** The size of the last text that was read here, if that stands in the kept memory. */
+let lastSize;
+
 /** Has a text read by a call, and gives its code. What the call has written stands in the kept memory. */
 function read(text, isFront, numbers, call) {
   start();
-  const short = putShort(text);
-  if (short !== undefined) return call(kept, short, numbers);
+  lastSize = putShort(text);
+  if (lastSize !== undefined) return call(kept, lastSize, numbers);
   const bytes = bytesOf(text);
   const whole = byteCount.call(bytes);
   const size = isFront ? frontSize(bytes, whole, byteAt) : whole;
@@ -209,8 +208,10 @@ function read(text, isFront, numbers, call) {
   library.reserve(size);
   if (size < whole) for (let i = 0; i < size; i++) library.bytes[PLACE.text + i] = bytes[i];
   else library.bytes.set(bytes, PLACE.text);
-  const code = call(library, size < SHORT_SIZES.length ? SHORT_SIZES[size] : BigInt(size), numbers);
-  if (library !== kept) kept.bytes.set(library.bytes.subarray(0, PLACE.config));
+  const wide = size < SHORT_SIZES.length ? SHORT_SIZES[size] : BigInt(size);
+  const code = call(library, wide, numbers);
+  if (library === kept) lastSize = wide;
+  else kept.bytes.set(library.bytes.subarray(0, PLACE.config));
   return code;
 }
 
@@ -236,7 +237,7 @@ const FLAG = [false, true];
 /** What an option may be. The place of a choice is its number in C. */
 const CHOICES = {
   timestamps: UNITS, overflow: ["error", "truncate"], isoOrder: ["lax", "strict"], strict: FLAG, exact: FLAG,
-  missingOffset: ["error", "utc"], unit: ["ms", "us"],
+  missingOffset: Object.keys(MISSING), unit: ["ms", "us"],
 };
 /** No options as numbers. All names are its own: a prototype may have them too. */
 const noNumbers = () => ({
@@ -479,7 +480,7 @@ function check(it, place) {
 // function for what it has seen there, and here it sees one reader.
 
 const OPTIONS_OF = {
-  date: ["timestamps"], time: ["strict", "overflow"], dateTime: ["strict", "timestamps", "timestampOffset", "overflow"],
+  date: ["timestamps"], time: ["strict", "overflow"], dateTime: ["strict", "timestamps", "timestampOffset", "overflow", "missingOffset"],
   duration: ["overflow", "isoOrder"], dateFront: [], front: ["overflow"], dateColumn: ["timestamps", "refusals"],
   dateTimeColumn: ["strict", "timestamps", "timestampOffset", "overflow", "missingOffset", "unit", "refusals"],
 };
@@ -495,7 +496,17 @@ function callTime(library, size, it) {
 function callDateTime(library, size, it) {
   const { speedate_datetime_parse: all, speedate_datetime_parse_rfc3339: lax, speedate_datetime_parse_strict: strict } = library.calls;
   const parse = it.timestamps !== undefined ? all : it.strict === 1 ? strict : lax;
-  return parse(address.text, size, putConfig(library, it), address.out);
+  const code = parse(address.text, size, putConfig(library, it), address.out);
+  return code === 0 && it.missingOffset !== undefined ? withOffset(library, it) : code;
+}
+/** The code of a date-time that was read. Without an offset it gets that of UTC, or is refused. */
+function withOffset({ view }, { missingOffset }) {
+  const at = PLACE.out + 4;
+  if (offsetOf(view, at) !== null) return 0;
+  if (missingOffset === MISSING.error) return CODE.tzRequired;
+  view.setUint8(at + 3, 1);
+  view.setInt32(at + 8, 0, true);
+  return 0;
 }
 const callDuration = (library, size, it) => library.calls.speedate_duration_parse(address.text, size, putConfig(library, it), address.out);
 const callDateFront = ({ calls }, size) => calls.speedate_date_parse_front(address.text, size, address.out, address.taken);
@@ -517,7 +528,10 @@ function findDateTime(library, size, it) {
   const { calls: inC } = library;
   const lax = it.strict === 1 ? inC.speedate_datetime_error_place_strict : inC.speedate_datetime_error_place_rfc3339;
   const find = it.timestamps !== undefined ? inC.speedate_datetime_error_place : lax;
-  return find(address.text, size, putConfig(library, it), address.taken);
+  const code = find(address.text, size, putConfig(library, it), address.taken);
+  // A text that C accepts lacks an offset, at its end.
+  if (code === 0) library.view.setBigUint64(PLACE.taken, size, true);
+  return code;
 }
 const findDuration = (library, size, it) =>
   library.calls.speedate_duration_error_place(address.text, size, putConfig(library, it), address.taken);
@@ -559,18 +573,30 @@ const codeOfDateTimeFront = (text, options) => read(frontOf(text), true, lastNum
 const seenOf = (text) =>
   typeof text === "string" ? text : new Uint8Array(bufferOf.call(text), byteOffset.call(text), frontSize(text, byteCount.call(text), byteAt));
 
-// A refusal keeps what the place of its error is found from, once it is asked for. Bytes may have been written by then.
+// Bytes may have been written to by the time that a refusal is looked at.
 const keptText = (text) => (typeof text === "string" ? text : new Uint8Array(text));
 const keptNumbers = (options) => (options === undefined ? NO_OPTIONS : lastNumbers);
 
-/** The answer to a text that a call has refused with this code, and the error. */
+/** The answer to a text that a call has refused with this code. It keeps what its place is found from, once that is asked for. */
 const refusal = (code, text, options, find) => new Refusal(faultOf(code), keptText(text), keptNumbers(options), find);
-const errorOf = (code, text, options, find) => new SpeedateError(faultOf(code), keptText(text), keptNumbers(options), find);
+/** The error. It has its place as a property of its own: beside an error, whose stack is told, that is little to find. */
+function errorOf(code, text, options, find) {
+  const place = placeOfLast(text, keptNumbers(options), find);
+  return new SpeedateError(faultOf(code), keptText(text), place);
+}
 
-/** The place of an error, if a text was refused. */
+/** The place of an error in a text that was refused, and in the one that was refused last. */
 function placeOf(text, numbers, find) {
-  if (text === undefined) return undefined;
   read(text, false, numbers, find);
+  return placeIn(text);
+}
+function placeOfLast(text, numbers, find) {
+  const size = putShort(text) ?? lastSize;
+  if (size === undefined) return placeOf(text, numbers, find);
+  find(kept, size, numbers);
+  return placeIn(text);
+}
+function placeIn(text) {
   const place = takenSize();
   return typeof text === "string" ? unitsBefore(text, place) : place;
 }
@@ -664,6 +690,29 @@ export function safeParseDateTimeFront(text, options) {
   return code === 0 ? { ok: true, value: frontAnswer(DATE_TIME.read(kept), text) } : refusal(code, seenOf(text), options, findDateTimeFront);
 }
 
+// ---- Schemas ----
+
+/** The calls of schemas, by their kinds, which are those of the options. */
+const SCHEMAS = { date: safeParseDate, time: safeParseTime, dateTime: safeParseDateTime, duration: safeParseDuration };
+
+function issueOf({ message, fault, code, place }) {
+  return { message, fault, code, place };
+}
+
+export function schema(kind, options) {
+  choiceOf(kind, Object.keys(SCHEMAS), "kind");
+  const parse = SCHEMAS[kind];
+  // Options that are wrong are so here, and not with the first text.
+  numbersOf(options, OPTIONS_OF[kind]);
+  const own = options === undefined ? undefined : { ...options };
+  const validate = (text) => {
+    if (typeof text !== "string") return { issues: [{ message: "expected a string" }] };
+    const answer = parse(text, own);
+    return answer.ok ? { value: answer.value } : { issues: [issueOf(answer)] };
+  };
+  return { "~standard": { version: 1, vendor: "speedate", validate } };
+}
+
 // ---- Columns ----
 
 /** The milliseconds of the microseconds at this place: the nearest double, or NaN of a line that is refused. */
@@ -684,7 +733,7 @@ const MICROSECONDS = { Numbers: BigInt64Array, numberAt: (view, at) => view.getB
 const columnOf = (name, handedOut, numbers) => ({ name, ...handedOut, numbers, lines: 0, unfinished: [], hasEnded: false });
 
 /** Writes how a column is read into the memory of a library, and gives its address: returns are dropped, and a refused line ends it. */
-function putColumnConfig({ start, view }, { timestamps, strict, missingOffset = 0 }, isEnd) {
+function putColumnConfig({ start, view }, { timestamps, strict, missingOffset = MISSING.error }, isEnd) {
   view.setUint8(COLUMN.config, isEnd ? 0 : 1);
   view.setUint8(COLUMN.config + 1, 1);
   view.setUint8(COLUMN.config + 2, timestamps !== undefined ? 1 : strict === 1 ? 2 : 0);
@@ -852,7 +901,9 @@ export function toDate(value) {
 
 export function fromDate(date) {
   if (Object.prototype.toString.call(date) !== "[object Date]") throw new TypeError("date has to be a Date");
-  return dateTimeFromTimestamp(integer(Date.prototype.getTime.call(date), "date"), "ms", { timestampOffset: 0 });
+  const time = Date.prototype.getTime.call(date);
+  if (Number.isNaN(time)) throw new RangeError("date has to be a Date that has a time");
+  return dateTimeFromTimestamp(time, "ms", { timestampOffset: 0 });
 }
 
 // ---- Printing and arithmetic ----

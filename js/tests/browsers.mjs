@@ -23,7 +23,7 @@ async function visit({ SAID, MARKED, OFFERED }) {
   const sleep = (milliseconds) => new Promise((resolve) => setTimeout(resolve, milliseconds));
   const all = (selector, map) => Array.from(main.querySelectorAll(selector), map);
   const shown = () => [
-    ...all("section", (it) => `${it.querySelector("h2").textContent}: ${it.querySelector("dd:last-child").textContent}`),
+    ...all("section", (it) => `${it.querySelector("h2").textContent}: ${(it.querySelector("dd:last-child") ?? it.querySelector("p")).textContent}`),
     ...all("details", (it) => `${it.querySelector("b").textContent}: ${it.querySelector("p").textContent}`),
   ].join(", ");
   const type = (it) => {
@@ -46,7 +46,7 @@ async function visit({ SAID, MARKED, OFFERED }) {
   form.strict.click();
   form.timestampOffset.value = "90";
   type("1");
-  steps.push(shown());
+  steps.push(shown(), main.querySelector(".said").textContent);
   const typed = "2020-02-29T12:13:14.5+01:30";
   form.reset();
   for (const it of SAID) {
@@ -55,7 +55,7 @@ async function visit({ SAID, MARKED, OFFERED }) {
   }
   const marks = MARKED.map((it) => {
     type(it);
-    return all(".why code", (code) => [code.closest("summary"), code.querySelector("span"), code.querySelector("mark"), code.nextSibling])
+    return all(".why code", (code) => [code.closest("summary, section"), code.querySelector("bdi"), code.querySelector("mark"), code.nextSibling])
       .map(([row, right, wrong, words]) => `${row.firstChild.textContent} ${right?.textContent ?? ""}[${wrong.textContent}] ${words.textContent}`);
   });
   // A frame from disk is given no focus by WebKit.
@@ -66,8 +66,8 @@ async function visit({ SAID, MARKED, OFFERED }) {
     isFocused = false;
     for (const [name, value] of Object.entries(fields)) form[name][value === true ? "checked" : "value"] = value;
     type(text);
-    const offered = all("#refused button", (it) => `${it.closest("#refused > div").querySelector("b").textContent}: ${it.textContent}`);
-    main.querySelector("#refused button")?.click();
+    const offered = all("p > button", (it) => `${it.closest("#refused > div, section").querySelector("b, h2").textContent}: ${it.textContent}`);
+    main.querySelector("p > button")?.click();
     return [text, fields, offered, options.querySelector("summary").textContent, (isFocused || offered.length === 0) && shown().replace(/, .*/, "")];
   });
   form.reset();
@@ -81,13 +81,25 @@ async function visit({ SAID, MARKED, OFFERED }) {
   type("2021-02-29");
   await sleep(900);
   steps.push(status.textContent);
+  type("");
+  await sleep(900);
+  steps.push(main.textContent, status.textContent);
+  // What is pasted, and what a link has, may have the end of a line. A key gives none.
+  const link = nav.appendChild(Object.assign(document.createElement("a"), { href: "?text=2020%0D%0A-02-29" }));
+  link.click();
+  link.remove();
+  steps.push(shown(), main.querySelector("code").textContent, form.text.getBoundingClientRect().height > 50);
+  type("2020-02\n-29");
+  const enter = new InputEvent("beforeinput", { inputType: "insertLineBreak", bubbles: true, cancelable: true });
+  form.text.dispatchEvent(enter);
+  steps.push(shown(), main.querySelector("code").textContent, enter.defaultPrevented);
 
   const wrong = [];
   const has = (holds, what) => holds || wrong.push(what);
   has(document.querySelectorAll("[aria-live], [role=status], [role=alert]").length === 1, "one live line");
   has(document.getElementById(form.text.getAttribute("aria-describedby")).textContent, "a description");
   const follows = (one, other) => one.compareDocumentPosition(other) & Node.DOCUMENT_POSITION_FOLLOWING;
-  has(follows(options, nav) && follows(nav, main), "options, examples and then the answer");
+  has(follows(form.text, options) && follows(options, main) && follows(main, nav), "field, options, the answer and then the examples");
   options.open = true;
   const light = (color) => {
     const [red, green, blue] = color.match(/[\d.]+/g).map((it) => (it / 255 <= 0.03928 ? it / 255 / 12.92 : ((it / 255 + 0.055) / 1.055) ** 2.4));
@@ -103,11 +115,17 @@ async function visit({ SAID, MARKED, OFFERED }) {
       has(width >= 8 && height >= 12 && left >= line.left && right <= line.right + 0.5, `${name}: ${mark.textContent} from ${left} to ${right}`);
     }
   };
-  for (const it of ["", "2020-02-29".padEnd(300, "x"), `12:13:14.${"1".repeat(300)}x`]) {
+  /** Whether what each refusal says is seen whole: in a line each, its text and the lines of its reason. */
+  const isSaid = (name) => {
+    for (const it of all(".why > span:not(.spoken)", (it) => it)) has(it.scrollWidth <= it.clientWidth && it.clientHeight > 0, `${name}: ${it.textContent}`);
+    for (const it of all("details", (it) => it)) has(it.getBoundingClientRect().height < 90, `${name}: a refusal of ${it.getBoundingClientRect().height} points`);
+  };
+  for (const it of ["x", "2020-02-29".padEnd(300, "x"), `12:13:14.${"1".repeat(300)}x`, "\u200b".repeat(300)]) {
     type(it);
     isMarked(`${it.length} units`);
-    for (const details of all("details", (it) => it)) has(details.getBoundingClientRect().height < 50, `${it.length} units: a refusal in a line`);
+    isSaid(`${it.length} units`);
   }
+  const colorOf = (it) => getComputedStyle(it).color;
   const calls = [];
   for (const link of nav.querySelectorAll("a")) {
     link.click();
@@ -120,12 +138,19 @@ async function visit({ SAID, MARKED, OFFERED }) {
       has(borderTopWidth === "0px" || 1.05 / (light(borderTopColor) + 0.05) >= 3, `${name}: the border of ${it.textContent || it.name}`);
     }
     isMarked(name);
+    has(Array.from(nav.querySelectorAll("[aria-current=true]")).join() === link.href, `${name} is marked as the one that is chosen`);
+    const [marked, other] = [link, nav.querySelector("a:not([aria-current])")].map((it) => getComputedStyle(it).backgroundColor);
+    has(marked !== other, `${name}: the mark is seen`);
+    for (const it of all(".date, .time, .offset", (it) => it)) has(colorOf(it) !== colorOf(document.querySelector("footer a")), `${name}: ${it.textContent} in the colour of a link`);
     for (const it of all("dd", (it) => it)) has(it.scrollWidth <= it.clientWidth, `${name}: ${it.textContent} in one line`);
     for (const section of all("section", (it) => it)) {
+      const languages = section.querySelector("[role=group]");
+      if (languages === null) continue;
       const value = section.querySelector("dd:last-child").textContent;
       const [copy] = Array.from(section.querySelectorAll("button")).slice(-1);
-      has(copy.textContent === "Copy", "a button that copies");
-      for (const button of section.querySelectorAll("button:not(:last-child)")) {
+      has(copy.textContent === "Copy" && !languages.contains(copy), "a button that copies, and is no language");
+      has(getComputedStyle(copy).borderTopWidth !== getComputedStyle(languages.firstChild).borderTopWidth, "a button that looks like no language");
+      for (const button of languages.querySelectorAll("button")) {
         button.click();
         has(button.getAttribute("aria-pressed") === "true", "the language that is chosen");
         calls.push([button.textContent, value, section.querySelector("pre").textContent]);
@@ -135,11 +160,13 @@ async function visit({ SAID, MARKED, OFFERED }) {
   options.open = false;
   for (const link of nav.querySelectorAll("a")) {
     link.click();
-    has(all("section, .none, details", (it) => it.tagName)[0] !== "DETAILS", `${link.textContent}: what reads it comes first`);
-    const { bottom } = main.querySelector(".said, .none").getBoundingClientRect();
-    has(bottom < 640, `${link.textContent} is answered at ${bottom} points`);
-    for (const it of all("details", (it) => it)) has(it.getBoundingClientRect().height < 50, `${link.textContent}: a refusal in a line`);
+    has(all("section, details", (it) => it.tagName)[0] !== "DETAILS", `${link.textContent}: what reads it, or is nearest to it, comes first`);
+    const { bottom } = main.querySelector(".said, .closest .why").getBoundingClientRect();
+    has(bottom < 480, `${link.textContent} is answered at ${bottom} points`);
+    isSaid(link.textContent);
   }
+  type("12:1x");
+  has(nav.querySelector("[aria-current]") === null, "no example is marked if none is chosen");
   report({ width: innerWidth, steps, marks, offers, wrong, calls, least });
 }
 /** Texts, and what the page says of each. */
@@ -153,56 +180,90 @@ const SAID = {
 };
 /** Texts, and by kind how the page marks where each is wrong, and says it. */
 const MARKED = {
-  "2021-02-29": ["Date 2021-02-[29] from character 9 on: ", "Time 20[21-02-29] from character 3 on: ", "Date-time 2021-02-[29] from character 9 on: ", "Duration 2021[-02-29] from character 5 on: "],
-  "2020-13-01": ["Date 2020-[13-01] from character 6 on: ", "Time 20[20-13-01] from character 3 on: ", "Date-time 2020-[13-01] from character 6 on: ", "Duration 2020[-13-01] from character 5 on: "],
-  "P1D1Q": ["Date P1D1Q[] at the end: ", "Time [P1D1Q] from character 1 on: ", "Date-time P1D1Q[] at the end: ", "Duration P1D1[Q] from character 5 on: "],
-  "12:1": ["Date 12:1[] at the end: ", "Time 12:1[] at the end: ", "Date-time 12:1[] at the end: ", "Duration 12[:1] from character 3 on: "],
-  "": ["Date [] at the end: ", "Time [] at the end: ", "Date-time [] at the end: ", "Duration [] at the end: "],
+  "20200229": ["Not a date-time 20200229[] at the end: ", "Duration 20200229[] at the end: ", "Date 20200229[] at the end: ", "Time 20[200229] from character 3 on: "],
+  "2021-02-29": [
+    "Not a date 2021-02-[29] from character 9 on: ", "Date-time 2021-02-[29] from character 9 on: ",
+    "Duration 2021[-02-29] from character 5 on: ", "Time 20[21-02-29] from character 3 on: ",
+  ],
+  "2020-13-01": [
+    "Not a date 2020-[13-01] from character 6 on: ", "Date-time 2020-[13-01] from character 6 on: ",
+    "Duration 2020[-13-01] from character 5 on: ", "Time 20[20-13-01] from character 3 on: ",
+  ],
+  "P1D1Q": ["Not a duration P1D1[Q] from character 5 on: ", "Date P1D1Q[] at the end: ", "Time [P1D1Q] from character 1 on: ", "Date-time P1D1Q[] at the end: "],
+  "12:1": ["Not yet a time 12:1[] at the end: ", "Duration 12[:1] from character 3 on: ", "Date 12:1[] at the end: ", "Date-time 12:1[] at the end: "],
+  "": [],
+  "12:13:1": ["Not yet a time 12:13:[1] from character 7 on: ", "Duration 12:13:[1] from character 7 on: ", "Date 12:13:1[] at the end: ", "Date-time 12:13:1[] at the end: "],
+  "2020-0": ["Not yet a date 2020-0[] at the end: ", "Date-time 2020-0[] at the end: ", "Duration 2020[-0] from character 5 on: ", "Time 20[20-0] from character 3 on: "],
+  "2020-02-29T12": [
+    "Not yet a date-time 2020-02-29T12[] at the end: ", "Date 2020-02-29[T12] from character 11 on: ",
+    "Duration 2020[-02-29T12] from character 5 on: ", "Time 20[20-02-29T12] from character 3 on: ",
+  ],
+  "1 da": ["Not a duration 1 d[a] from character 4 on: ", "Date 1 da[] at the end: ", "Time 1 da[] at the end: ", "Date-time 1 da[] at the end: "],
+  "12:13\t": ["Not a time 12:13[U+0009] from character 6 on: ", "Duration 12:13[U+0009] from character 6 on: ", "Date 12:13U+0009[] at the end: ", "Date-time 12:13U+0009[] at the end: "],
+  "\u200b12:13": ["Not a date U+200B12:13[] at the end: ", "Time [U+200B12:13] from character 1 on: ", "Date-time U+200B12:13[] at the end: ", "Duration [U+200B12:13] from character 1 on: "],
+  "12:13 \u00a0\ufeff": [
+    "Not a time 12:13[ U+00A0U+FEFF] from character 6 on: ", "Duration 12:13[ U+00A0U+FEFF] from character 6 on: ",
+    "Date [12:13 U+00A0U+FEFF] from character 1 on: ", "Date-time [12:13 U+00A0U+FEFF] from character 1 on: ",
+  ],
+  "\ud83d": ["Not a date U+D83D[] at the end: ", "Time U+D83D[] at the end: ", "Date-time U+D83D[] at the end: ", "Duration [U+D83D] from character 1 on: "],
   "2020-02-29T12:13\u221201:60": [
-    "Date 2020-02-29[T12:13\u221201:60] from character 11 on: ", "Time 20[20-02-29T12:13\u221201:60] from character 3 on: ",
-    "Date-time 2020-02-29T12:13\u221201:[60] from character 21 on: ", "Duration [2020-02-29T12:13\u221201:60] from character 1 on: ",
+    "Not a date-time 2020-02-29T12:13\u221201:[60] from character 21 on: ", "Date 2020-02-29[T12:13\u221201:60] from character 11 on: ",
+    "Time 20[20-02-29T12:13\u221201:60] from character 3 on: ", "Duration [2020-02-29T12:13\u221201:60] from character 1 on: ",
   ],
   "12:13:14\u{1f552}": [
-    "Date [12:13:14\u{1f552}] from character 1 on: ", "Time 12:13:14[\u{1f552}] from character 9 on: ",
-    "Date-time [12:13:14\u{1f552}] from character 1 on: ", "Duration 12:13:14[\u{1f552}] from character 9 on: ",
+    "Not a time 12:13:14[\u{1f552}] from character 9 on: ", "Duration 12:13:14[\u{1f552}] from character 9 on: ",
+    "Date [12:13:14\u{1f552}] from character 1 on: ", "Date-time [12:13:14\u{1f552}] from character 1 on: ",
   ],
   "00:0\u{1f600}\u{1f600}\u{1f600}": [
-    "Date [00:0\u{1f600}\u{1f600}\u{1f600}] from character 1 on: ", "Time 00:[0\u{1f600}\u{1f600}\u{1f600}] from character 4 on: ",
-    "Date-time [00:0\u{1f600}\u{1f600}\u{1f600}] from character 1 on: ", "Duration 00:0\u{1f600}\u{1f600}[\u{1f600}] from character 7 on: ",
+    "Not a duration 00:0\u{1f600}\u{1f600}[\u{1f600}] from character 7 on: ", "Time 00:[0\u{1f600}\u{1f600}\u{1f600}] from character 4 on: ",
+    "Date [00:0\u{1f600}\u{1f600}\u{1f600}] from character 1 on: ", "Date-time [00:0\u{1f600}\u{1f600}\u{1f600}] from character 1 on: ",
   ],
   "\u{1f552}\u{1f552}": [
-    "Date \u{1f552}\u{1f552}[] at the end: ", "Time [\u{1f552}\u{1f552}] from character 1 on: ", "Date-time \u{1f552}\u{1f552}[] at the end: ",
-    "Duration [\u{1f552}\u{1f552}] from character 1 on: ",
+    "Not a date \u{1f552}\u{1f552}[] at the end: ", "Time [\u{1f552}\u{1f552}] from character 1 on: ",
+    "Date-time \u{1f552}\u{1f552}[] at the end: ", "Duration [\u{1f552}\u{1f552}] from character 1 on: ",
   ],
 };
 /** Texts with options, what the page offers by which they would be read, and after a click the options and what is shown first. */
 const OFFERED = [
-  ["2020-02-29T12:13:14.123456789Z", {}, ["Date-time: six digits are read: drop the others"], "Options, overflow: truncate", "Date-time: 2020-02-29T12:13:14.123456Z"],
-  ["20200229", {}, ["Date-time: timestamps are not read: allow them"], "Options, timestamps: infer", "Date-time: 1970-08-22T19:10:29"],
-  ["2020-02-29T12:13:14", { strict: true }, ["Date-time: only RFC 3339 is read: allow more"], "Options", "Date-time: 2020-02-29T12:13:14"],
-  ["P1D1Y", { isoOrder: "strict" }, ["Duration: one order is read: allow any"], "Options", "Duration: P1Y1D"],
-  ["1.0000", { timestamps: "ms" }, ["Date-time: three digits are read: drop the others"], "Options, timestamps: ms, overflow: truncate", "Date-time: 1970-01-01T00:00:00.001000"],
-  ["1.0", { timestamps: "us" }, ["Date-time: whole numbers are read: drop the others"], "Options, timestamps: us, overflow: truncate", "Date-time: 1970-01-01T00:00:00.000001"],
+  ["2020-02-29T12:13:14.123456789Z", {}, ["Not a date-time: six digits are read: drop the others"], "Options, overflow: truncate", "Date-time: 2020-02-29T12:13:14.123456Z"],
+  ["20200229", {}, ["Not a date-time: timestamps are not read: allow them"], "Options, timestamps: infer", "Date-time: 1970-08-22T19:10:29"],
+  ["2020-02-29T12:13:14", { strict: true }, ["Not a date-time: only RFC 3339 is read: allow more"], "Options", "Date-time: 2020-02-29T12:13:14"],
+  ["P1D1Y", { isoOrder: "strict" }, ["Not a duration: one order is read: allow any"], "Options", "Duration: P1Y1D"],
+  ["1.0000", { timestamps: "ms" }, ["Not a date-time: three digits are read: drop the others"], "Options, timestamps: ms, overflow: truncate", "Date-time: 1970-01-01T00:00:00.001000"],
+  ["1.0", { timestamps: "us" }, ["Not a date-time: whole numbers are read: drop the others"], "Options, timestamps: us, overflow: truncate", "Date-time: 1970-01-01T00:00:00.000001"],
   ["86400", { timestamps: "s", strict: true }, ["Date-time: only RFC 3339 is read: allow more"], "Options, timestamps: s", "Date: 1970-01-02"],
   ["1", { timestamps: "s" }, [], "Options, timestamps: s", "Date-time: 1970-01-01T00:00:01"],
-  ["2021-02-29", {}, [], "Options", "Date: out_of_range_day"],
+  ["2021-02-29", {}, [], "Options", "Not a date: out_of_range_day"],
 ];
 const STEPS = [
-  "Date: out_of_range_day, Time: invalid_char_time_sep, Date-time: out_of_range_day, Duration: invalid_char_hour",
-  "../docs/GRAMMAR.md#fault-out_of_range_day", true,
+  "Not a date: out_of_range_day, Date-time: out_of_range_day, Duration: invalid_char_hour, Time: invalid_char_time_sep",
+  "../docs/GRAMMAR.md#fault-out_of_range_day",
+  true,
   "Duration: PT1H30M, Date: too_short, Time: invalid_char_hour, Date-time: too_short",
-  "Date-time: 1970-08-22T19:10:29, Date: date_not_exact, Time: invalid_char_time_sep, Duration: invalid_char_hour",
-  "Options, timestamps: infer", false,
-  "Date: date_not_exact, Time: invalid_char_time_sep, Date-time: TypeError, Duration: invalid_char_hour",
-  "Date: date_not_exact, Time: too_short, Date-time: RangeError, Duration: duration_invalid_days",
-  ...Object.values(SAID), 0, "Saturday, 29 February 2020, 12:13:14.5, 1:30 east of UTC: 10:43:14.5 UTC",
-  "date Saturday, 29 February 2020|time 12:13:14.5|offset 1:30 east of UTC|date 2020-02-29|time 12:13:14.5|offset +01:30" +
-    "|date 2020-02-29|time 12:13:14.500000|offset +01:30",
-  1, "?text=2020-02-29T12%3A13%3A14.5%2B01%3A30",
+  "Date-time: 1970-08-22T19:10:29, Duration: invalid_char_hour, Time: invalid_char_time_sep, Date: date_not_exact",
+  "Options, timestamps: infer",
+  false,
+  "Not a date-time: TypeError, Duration: invalid_char_hour, Time: invalid_char_time_sep, Date: date_not_exact",
+  "Date-time: none: its offset is not whole minutes, Date: date_not_exact, Time: too_short, Duration: duration_invalid_days",
+  "Thursday, 1 January 1970, 00:00:01, 0:01:30 east of UTC: 23:58:31 UTC on the day before",
+  ...Object.values(SAID),
+  0,
+  "Saturday, 29 February 2020, 12:13:14.5, 1:30 east of UTC: 10:43:14.5 UTC",
+  "date Saturday, 29 February 2020|time 12:13:14.5|offset 1:30 east of UTC|date 2020-02-29|time 12:13:14.5|offset +01:30|date 2020-02-29|time 12:13:14.500000|offset +01:30",
+  1,
+  "?text=2020-02-29T12%3A13%3A14.5%2B01%3A30",
   "Date-time: Saturday, 29 February 2020, 12:13:14.5, 1:30 east of UTC: 10:43:14.5 UTC.",
-  2, "?text=12%3A13",
-  "Date: day value is outside expected range, from character 9 on. Time: invalid time separator, expected `:`, from character 3 on. " +
-    "Date-time: day value is outside expected range, from character 9 on. Duration: invalid character in hour, from character 5 on.",
+  2,
+  "?text=12%3A13",
+  "Not a date: day value is outside expected range, from character 9 on.",
+  "Type a text, or choose an example.",
+  "",
+  "Not a date: invalid_char_date_sep, Date-time: invalid_char_date_sep, Duration: invalid_char_hour, Time: invalid_char_time_sep",
+  "2020U+000DU+000A-02-29",
+  true,
+  "Not a date: invalid_char_date_sep, Date-time: invalid_char_date_sep, Duration: invalid_char_hour, Time: invalid_char_time_sep",
+  "2020-02U+000A-29",
+  true,
 ];
 
 /** The rows, the examples and the drawn texts. */
@@ -211,8 +272,24 @@ async function readAll() {
   await import("./rows.mjs");
   if (typeof Temporal !== "undefined") await import("./examples.js");
   const { readDrawn } = await import("./drawn.mjs");
-  report({ width: 0, temporal: typeof Temporal, drawn: readDrawn() });
+  /** What a page shows in a frame. */
+  const shownIn = (src, setUp) =>
+    new Promise((resolve) => {
+      const frame = Object.assign(document.createElement("iframe"), { onload: () => resolve(frame.contentDocument.querySelector("main").innerText.trim()) });
+      setUp(frame);
+      frame.src = src;
+      document.body.append(frame);
+    });
+  const without = [await shownIn("without.html", () => {}), await shownIn("page.html", (it) => it.setAttribute("sandbox", "allow-same-origin"))];
+  const bare = await import("./bare.js");
+  bare.init(await WebAssembly.compileStreaming(fetch("speedate.wasm")));
+  report({ width: 0, temporal: typeof Temporal, drawn: readDrawn(), without, handedOver: bare.format(bare.parseDuration("PT90M")) });
 }
+/** What the page says without WebAssembly, and without scripts. */
+const WITHOUT = [
+  "Nothing can be parsed here: speedate needs WebAssembly with BigInt and bulk memory (Node 20, Chrome 115, Firefox 90, Safari 15) that a policy allows.",
+  "This page needs JavaScript, which is switched off here.",
+];
 
 // ---- The pages, in the engine ----
 
@@ -220,6 +297,8 @@ const files = {
   ...Object.fromEntries(["rows.mjs", "shim.mjs", "drawn.mjs"].map((it) => [it, readFileSync(it)])),
   "speedate.js": source("out/js/speedate.js"), "rows.txt": source("c/tests/rows.txt"),
   "examples.js": scriptOf(source("docs/JAVASCRIPT.md"), "ts", "Temporal"),
+  "bare.js": source("out/js/bare.js"), "speedate.wasm": readFileSync(`${root}/out/js/speedate.wasm`),
+  "page.html": source("out/try.html"), "without.html": source("out/try.html").replace("<title>", "<script>delete globalThis.WebAssembly</script>$&"),
 };
 const { port, next } = await serve(files);
 const reporting = `<script>
@@ -247,6 +326,8 @@ const told = async (seconds, what) => {
 const visits = [await told(120, "the page, narrow"), await told(120, "the page, wide")];
 const all = await told(240, "the rows and the drawn texts");
 assert.deepEqual(all.drawn, { ...readDrawn(), wrong: [] });
+assert.deepEqual(all.without, WITHOUT);
+assert.equal(all.handedOver, "PT1H30M");
 for (const [i, width] of [360, 1280].entries()) {
   const { calls, least, ...others } = visits[i];
   assert.deepEqual(others, { width, steps: STEPS, marks: Object.values(MARKED), offers: OFFERED, wrong: [] });

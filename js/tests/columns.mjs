@@ -1,10 +1,11 @@
 // Columns beside calls of one line each: drawn lines with all options, pieces cut at every byte, lines and columns of many sizes,
 // what is refused, and what a reader keeps: node columns.mjs.
 import assert from "node:assert/strict";
+import { readFileSync } from "node:fs";
 import { setTimeout as sleep } from "node:timers/promises";
 import { setFlagsFromString } from "node:v8";
 import { runInNewContext } from "node:vm";
-import { dateColumn, dateColumnReader, dateTimeColumn, dateTimeColumnReader, daysSince, epochMilliseconds, parseDate, safeParseDate, safeParseDateTime, SpeedateError } from "speedate";
+import { dateColumn, dateColumnReader, dateTimeColumn, dateTimeColumnReader, dateTimeFromTimestamp, daysSince, epochMilliseconds, inTimezone, parseDate, parseDateTime, safeParseDate, safeParseDateTime, SpeedateError, toDate } from "speedate";
 
 let drawn = 1;
 const below = (most) => (drawn = (drawn * 48271) % 2147483647) % most;
@@ -40,8 +41,10 @@ function moment(line, { missingOffset, unit, refusals, ...options }) {
   if (!ok) return { ...refused, refusal };
   if (value.offsetSeconds === null && missingOffset !== "utc") {
     const { ok, ...refusal } = TZ_REQUIRED;
+    assert.deepEqual({ ...safeParseDateTime(line, { ...options, missingOffset: missingOffset ?? "error" }) }, { ...TZ_REQUIRED }, line);
     return { ...refused, refusal };
   }
+  assert.deepEqual(safeParseDateTime(line, { ...options, missingOffset: missingOffset ?? "error" }).value, { ...value, offsetSeconds: value.offsetSeconds ?? 0 }, line);
   const milliseconds = epochMilliseconds({ ...value, offsetSeconds: value.offsetSeconds ?? 0 });
   return { number: inUnit(BigInt(milliseconds) * 1000n + BigInt(value.microsecond), unit) };
 }
@@ -116,6 +119,18 @@ for (const it of [...refusedOnes, ...acceptedOnes]) assert.ok(it > 2000, `lines 
 const distinct = (year) => new Set(dateTimeColumn(Array.from({ length: 999 }, (_, i) => `${year}-06-29T12:13:14.5${String(i).padStart(5, "0")}Z`).join("\n"))).size;
 assert.deepEqual(["1691", "1692", "1970", "2247", "2248"].map(distinct), [999, 999, 999, 999, 999], "each microsecond has a number of its own");
 for (const year of ["1690", "2249"]) assert.ok(distinct(year) < 999);
+
+// ---- The Date of a line: the way that the declarations say is that of a single text ----
+
+const [, way] = /`(toDate\(dateTimeFromTimestamp\([^`]*)`/.exec(readFileSync("node_modules/speedate/speedate.d.ts", "utf8"));
+const dateOf = new Function("toDate", "dateTimeFromTimestamp", "it", `return ${way}`);
+const ENDS = ["0000-01-01T00:00", "0000-12-31T23:59", "1691-06-29T12:13", "1969-12-31T23:59", "1970-01-01T00:00", "2248-06-29T12:13", "9999-01-01T00:00", "9999-12-31T23:59"];
+const FRACTIONS = ["00", "00.000001", "00.000999", "00.001", "00.9995", "59.9985", "59.999", "59.9995", "59.999999"];
+const lines = ENDS.flatMap((end) => FRACTIONS.flatMap((fraction) => ["Z", "+23:59", "-23:59"].map((offset) => `${end}:${fraction}${offset}`)));
+for (const [i, it] of dateTimeColumn(lines.join("\n"), { unit: "us" }).entries()) {
+  const of = (call) => thrown(call)?.fault ?? call().getTime();
+  assert.equal(of(() => dateOf(toDate, dateTimeFromTimestamp, it)), of(() => toDate(inTimezone(parseDateTime(lines[i]), 0))), lines[i]);
+}
 
 // ---- Pieces ----
 

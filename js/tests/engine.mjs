@@ -26,7 +26,8 @@ export async function serve(files) {
     if (request.method === "POST") posted.push(JSON.parse(await text(request)));
     wake?.();
     const name = request.url.slice(1).replace(/\?.*/, "");
-    response.setHeader("content-type", `text/${name.endsWith("html") ? "html" : "javascript"};charset=utf-8`);
+    const type = name.endsWith("wasm") ? "application/wasm" : `text/${name.endsWith("html") ? "html" : "javascript"};charset=utf-8`;
+    response.setHeader("content-type", type);
     response.setHeader("cross-origin-opener-policy", "same-origin");
     response.setHeader("cross-origin-embedder-policy", "require-corp");
     response.end(files[name]);

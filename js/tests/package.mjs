@@ -5,7 +5,9 @@ import { readFileSync, writeFileSync } from "node:fs";
 import { createRequire } from "node:module";
 import { dirname } from "node:path";
 import { setFlagsFromString } from "node:v8";
+import { inspect } from "node:util";
 import { runInNewContext } from "node:vm";
+import { gzipSync } from "node:zlib";
 import * as speedate from "speedate";
 import { scriptOf } from "./examples.mjs";
 
@@ -41,6 +43,7 @@ const CALLS = {
   addDays: [ofDate, [1, noNumber]], dayOfYear: [ofDate], negate: [ofDuration], totalSeconds: [ofDuration],
   after: ofMove, before: ofMove, inTimezone: [[time, [...noValue, date, duration]], [0, noNumber]],
   dateColumn: ofColumn, dateTimeColumn: ofColumn, dateColumnReader: ofColumn.slice(1), dateTimeColumnReader: ofColumn.slice(1),
+  schema: [["date", [undefined, ...noObject, "datetime", "toString", ["date"]]], [undefined, noOptions]],
   init: [[wasm, [undefined, ...noObject, {}, new WebAssembly.Module(new Uint8Array([0, 97, 115, 109, 1, 0, 0, 0]))]]],
 };
 assert.deepEqual([...Object.keys(CALLS), "SpeedateError"].sort(), Object.keys(speedate).sort());
@@ -65,7 +68,7 @@ for (const it of [86400, -86400, 2 ** 40, -(2 ** 40)]) assert.throws(() => forma
 assert.throws(() => format({ ...date, year: -1 }), refused("date_too_small"));
 assert.throws(() => format({ ...duration, days: 1 }), outside("days"));
 assert.throws(() => format({ ...time, offsetSeconds: 90 }), outside("offsetSeconds"));
-assert.throws(() => fromDate(new Date(NaN)), outside("date"));
+assert.throws(() => fromDate(new Date(NaN)), outside("date has to be a Date that has a time"));
 assert.throws(() => toDate({ ...dateTime, offsetSeconds: null }), refused("tz_required"));
 for (const call of [format, toDate]) for (const offsetSeconds of [null, 90])
   assert.throws(() => call({ ...dateTime, day: 32, offsetSeconds }), refused("out_of_range_day"), "the range comes first");
@@ -87,6 +90,7 @@ const OPTIONS = {
   isoOrder: [/Duration$/, ["", "Lax", 0, 1, null, ["lax"], {}]],
   strict: [/Time$/, ["", "true", 0, 1, null, {}]],
   timestampOffset: [/DateTime$/, ["0", "", 0.5, NaN, Infinity, 86400, -86400, 0n, null, true, {}]],
+  missingOffset: [/DateTime$/, ["", "UTC", 0, true, null, ["utc"]]],
 };
 for (const name of readers) {
   for (const [option, [has, wrong]] of Object.entries(OPTIONS)) {
@@ -98,7 +102,7 @@ for (const name of readers) {
 }
 assert.throws(() => parseDateTime("x", { strict: true, timestamps: "s" }), /strict and timestamps/);
 assert.throws(() => parseDateTime("x", { timestampOffset: 0 }), /timestampOffset/);
-const OF_COLUMNS = { missingOffset: ["", "UTC", 0, true, null], unit: ["", "s", "MS", 0, null], refusals: [true, null, 0, "", {}, { length: 0 }, new Set()] };
+const OF_COLUMNS = { missingOffset: OPTIONS.missingOffset[1], unit: ["", "s", "MS", 0, null], refusals: [true, null, 0, "", {}, { length: 0 }, new Set()] };
 const columnOptions = { dateColumn: ["timestamps", "refusals"], dateTimeColumn: ["timestamps", "overflow", "strict", "timestampOffset", ...Object.keys(OF_COLUMNS)] };
 for (const [name, has] of Object.entries(columnOptions)) {
   for (const option of Object.keys({ ...OPTIONS, ...OF_COLUMNS, exact: [] })) {
@@ -113,6 +117,48 @@ for (const [name, has] of Object.entries(columnOptions)) {
 assert.throws(() => speedate.dateTimeColumn("", { strict: true, timestamps: "s" }), /strict and timestamps/);
 assert.throws(() => speedate.dateTimeColumn("", { timestampOffset: 0 }), /timestampOffset/);
 
+// ---- A missing offset ----
+
+const both = (text, options) => [text, Buffer.from(text)].map((it) => speedate.safeParseDateTime(it, options));
+const UTC = [
+  ["2020-02-29T12:13", 0], ["2020-02-29T12:13Z", 0], ["2020-02-29T12:13+01:30", 5400], ["2020-02-29T12:13\u221208:00", -28800],
+  ["1", 0, { timestamps: "s" }], ["1", 3600, { timestamps: "s", timestampOffset: 3600 }], ["2020-02-29T12:13:14Z", 0, { strict: true }],
+  [`2020-02-29T12:13:14.5${"0".repeat(70)}`, 0, { overflow: "truncate" }], [`2020-02-29T12:13:14.5${"0".repeat(2 ** 24)}`, 0, { overflow: "truncate" }],
+];
+for (const [text, offsetSeconds, options] of UTC) {
+  const without = parseDateTime(text, options);
+  for (const it of both(text, { ...options, missingOffset: "utc" })) assert.deepEqual(it.value, { ...without, offsetSeconds }, text);
+  for (const it of both(text, { ...options, missingOffset: "error" })) {
+    if (without.offsetSeconds !== null) assert.deepEqual(it.value, without, text);
+    else assert.deepEqual([it.fault, it.code, it.place], ["tz_required", 19, text.length], text);
+  }
+  assert.deepEqual(parseDateTime(text, options), without, "nothing is kept of an option");
+}
+for (const missingOffset of ["utc", "error"]) {
+  for (const it of both("2020-02-29T12:60", { missingOffset })) assert.deepEqual([it.fault, it.place], ["out_of_range_minute", 14]);
+  for (const it of both("2020-02-29T12:13:14", { missingOffset, strict: true })) assert.deepEqual([it.fault, it.place], ["tz_required", 19]);
+}
+
+// ---- Schemas ----
+
+const validate = (it, ...args) => speedate.schema(...args)["~standard"].validate(it);
+const SCHEMAS = { date: ["2020-02-29", { timestamps: "s" }], time: ["12:13", { strict: true }], dateTime: ["2020-02-29T12:13", { missingOffset: "utc" }], duration: ["P1D1Y", { isoOrder: "strict" }] };
+for (const [kind, [text, options]] of Object.entries(SCHEMAS)) {
+  const parse = speedate[`safeParse${kind[0].toUpperCase()}${kind.slice(1)}`];
+  const { "~standard": standard, ...others } = speedate.schema(kind);
+  assert.deepEqual([others, Object.keys(standard), standard.version, standard.vendor], [{}, ["version", "vendor", "validate"], 1, "speedate"]);
+  for (const [it, chosen] of [[text], [text, options], ["86400", options], ["x"], [""]]) {
+    const { ok, value, fault, code, message, place } = parse(it, chosen);
+    const { validate } = speedate.schema(kind, chosen)["~standard"];
+    assert.deepEqual(validate(it), ok ? { value } : { issues: [{ message, fault, code, place }] }, `${kind} ${it}`);
+  }
+  for (const it of [undefined, null, 5, new Date(), Buffer.from(text), new String(text)]) assert.deepEqual(standard.validate(it), { issues: [{ message: "expected a string" }] });
+  const given = { ...options };
+  const schema = speedate.schema(kind, given);
+  for (const name of Object.keys(given)) given[name] = "changed";
+  assert.deepEqual(schema["~standard"].validate(text), validate(text, kind, options), "the options are those that were given");
+}
+
 // ---- Errors, and what is handed out ----
 
 const thrown = (call) => {
@@ -123,7 +169,8 @@ const thrown = (call) => {
   }
 };
 const error = thrown(() => parseDate("x"));
-assert.deepEqual({ ...error }, { name: "SpeedateError", fault: "too_short", code: 1 });
+assert.deepEqual({ ...error }, { name: "SpeedateError", fault: "too_short", code: 1, text: "x", place: 1 });
+for (const it of [inspect(error), inspect(thrown(() => parseTime("12:13\u221201:60")))]) assert.match(it, /^SpeedateError: [^]*text: '[^']+',\n *place: \d+\n}$/, "what a log shows");
 assert.equal(String(error), "SpeedateError: input is too short");
 assert.match(error.stack, /\bparseDate\b/);
 for (const [name, it] of Object.entries(speedate)) assert.equal(it.name, name);
@@ -209,18 +256,20 @@ const PLACES = [
 for (const [name, text, units, bytes, options] of PLACES) {
   for (const [it, place] of [[text, units], [Buffer.from(text), bytes]]) {
     assert.equal(speedate[`safeParse${name}`](it, options).place, place, text);
-    assert.equal(thrown(() => speedate[`parse${name}`](it, options)).place, place, text);
+    const raised = thrown(() => speedate[`parse${name}`](it, options));
+    assert.equal(raised.place, place, text);
+    const seen = typeof it === "string" || !name.endsWith("Front") ? it : it.subarray(0, raised.text.length);
+    assert.ok(typeof it === "string" ? raised.text === it : Buffer.compare(raised.text, seen) === 0 && raised.text.buffer !== it.buffer, text);
+    assert.ok(Object.hasOwn(raised, "place") && new Proxy(raised, {}).place === place && new Proxy(raised, {}).text === raised.text, "what an error has is its own");
   }
 }
 const options = { overflow: "truncate" };
 const [answer, raised] = [speedate.safeParseTime("12:13:14.1234567x", options), thrown(() => parseTime("12:13:14.1234567x", options))];
 const fields = { fault: "invalid_char_tz_sign", code: 14 };
 for (const copy of [JSON.parse(JSON.stringify(answer)), structuredClone(answer), { ...answer }]) assert.deepEqual(copy, { ok: false, ...fields, message: raised.message });
-assert.deepEqual(Object.keys(raised), ["name", "fault", "code"]);
-for (const it of [answer, raised]) {
-  assert.throws(() => (it.place = 1), TypeError);
-  assert.equal(new Proxy(it, {}).place, undefined, "a proxy has no place");
-}
+assert.deepEqual({ ...raised }, { name: "SpeedateError", ...fields, text: "12:13:14.1234567x", place: 16 });
+assert.throws(() => (answer.place = 1), TypeError);
+assert.equal(new Proxy(answer, {}).place, undefined, "a proxy of an answer has no place");
 options.overflow = "error";
 safeParseDate("2020-02-29", { get timestamps() { assert.equal(raised.place, 16); } });
 assert.equal(parseTime("12:13:14.1234567", { get overflow() { assert.equal(answer.place, 16); return "truncate"; } }).microsecond, 456);
@@ -232,7 +281,7 @@ for (const [call, text, place] of [["Time", "12:13:60", 6], ["TimeFront", `12:13
   assert.deepEqual(both.map((it) => it.place), [place, place], "a place is that of the bytes that were refused");
 }
 for (const call of [() => addDays({ ...date, day: 32 }, 1), () => format({ ...date, day: 32 }), () => dateFromTimestamp(1, "s"), () => parseDate("x", { other: 1 }), () => speedate.dateColumn("x")])
-  assert.equal(thrown(call).place, undefined, "a place is that of a text");
+  for (const name of ["text", "place"]) assert.ok(!(name in thrown(call)), "a place is that of a text");
 
 // Readers answer as the functions of C do. Of a long line one of fronts gets no more than it can look at, and C all of it.
 const { memory, __heap_base: base, ...inC } = new WebAssembly.Instance(wasm).exports;
@@ -294,6 +343,7 @@ for (let i = 0; i < 5000; i++) {
       const { ok, code = 0, value, place } = speedate[`safeParse${name}`](it, options);
       const counted = wanted === 0 || it === bytes ? size : unitsAt(text, size);
       assert.deepEqual([code, ok ? value.size : place], [wanted, counted], text);
+      if (!ok) assert.equal(thrown(() => speedate[`parse${name}`](it, options)).place, counted, text);
       if (ok && value.length !== undefined) assert.equal(Buffer.byteLength(text.slice(0, value.length)), value.size, text);
     }
   }
@@ -340,6 +390,16 @@ WebAssembly.Module = class { static exports = Module.exports; constructor() { th
 assert.throws(() => handedOver.parseDate("2020-02-29"), { message: /^speedate needs WebAssembly/ });
 handedOver.init(new Module(readFileSync(require.resolve("speedate/speedate.wasm"))));
 assert.deepEqual(handedOver.parseDate("2020-02-29"), date);
+// An entry without the module, so that a bundle that hands it over has it once.
+const bare = await import("speedate/bare");
+assert.deepEqual(Object.keys(bare), Object.keys(speedate));
+assert.throws(() => bare.parseDate("2020-02-29"), { constructor: Error, message: /^speedate\/bare .* init comes before/ });
+assert.throws(() => bare.init({}), TypeError);
+bare.init(new Module(readFileSync(require.resolve("speedate/speedate.wasm"))));
+assert.deepEqual([bare.parseDate("2020-02-29"), bare.format(bare.parseDuration("PT90M"))], [date, "PT1H30M"]);
+const inside = readFileSync(require.resolve("speedate/speedate.wasm")).toString("base64");
+for (const [name, count] of [["bare.js", 1], ["speedate.cjs", 1], ["speedate.js", 2]])
+  assert.equal(readFileSync(`node_modules/speedate/${name}`, "utf8").split(inside).length, count, `${name} has the module, or has it not`);
 WebAssembly.Module = Module;
 const { WebAssembly: there } = globalThis;
 delete globalThis.WebAssembly;
@@ -359,8 +419,20 @@ for (const fromBase64 of [undefined, (text) => Uint8Array.from(Buffer.from(text,
 const documentOf = (name) => readFileSync(`node_modules/speedate/${name || "README.md"}`, "utf8");
 const places = (text) => [...text.matchAll(/^#+ (.*)$/gm)].map((it) => it[1].toLowerCase().replace(/[^\w -]/g, "").replaceAll(" ", "-"));
 for (const name of ["README.md", "GRAMMAR.md"])
-  for (const [, file, place] of documentOf(name).matchAll(/\]\(([^)#]*)#?([^)]*)\)/g))
+  for (const [, file, place] of documentOf(name).matchAll(/\]\((?!https:)([^)#]*)#?([^)]*)\)/g))
     assert.ok(place === "" ? documentOf(file) : places(documentOf(file || name)).includes(place), `${name}: ${file}#${place}`);
+
+// ---- The sizes that the documents tell: in kB of the script and of what is handed over, and gzipped ----
+
+const [script, apart, handed] = ["speedate.js", "bare.js", "speedate.wasm"].map((it) => readFileSync(`node_modules/speedate/${it}`));
+const gzipped = (it) => gzipSync(it, { level: 9 }).length;
+const told = process.argv.slice(2).map((it) => readFileSync(it, "utf8")).join("\n");
+const SIZES = [
+  [/about (\d+) kB, (\d+) kB gzipped/, script.length, gzipped(script)], [/the JavaScript (\d+), gzipped (\d+)/, script.length, gzipped(script)],
+  [/With `speedate.wasm` it has (\d+) kB gzipped/, gzipped(apart) + gzipped(handed)],
+];
+for (const [form, ...sizes] of SIZES)
+  for (const [i, size] of sizes.entries()) assert.ok(Math.abs(Number(form.exec(told)[i + 1]) - size / 1000) < 1, `${form}: ${size}`);
 
 // ---- The examples of the documents, whose results stand after them ----
 

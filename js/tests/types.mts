@@ -1,12 +1,32 @@
 // What the types allow, and what they refuse.
 import assert from "node:assert/strict";
 import * as speedate from "speedate";
-import type { Answer, Fault, Front, LineRefusal, Refusal, SpeedateDate, SpeedateDateTime, SpeedateDuration, SpeedateTime, SpeedateValue } from "speedate";
+import * as bare from "speedate/bare";
+import type { Answer, Fault, Front, LineRefusal, Refusal, Schema, SpeedateDate, SpeedateDateTime, SpeedateDuration, SpeedateTime, SpeedateValue } from "speedate";
 
 // Whether two types are the same one, not only whether one fits the other.
 type Same<One, Other> = (<It>() => It extends One ? 1 : 2) extends <It>() => It extends Other ? 1 : 2 ? true : false;
 const same = <One, Other>(is: Same<One, Other>, value: One): One => value;
 type TimeOrRefusal = { readonly ok: true; readonly value: SpeedateTime } | Refusal;
+
+// What a library that takes schemas by the interface Standard Schema, version 1, expects of one, and what it gives.
+type Issue = { readonly message: string; readonly path?: ReadonlyArray<PropertyKey | { readonly key: PropertyKey }> | undefined };
+type Result<Output> = { readonly value: Output; readonly issues?: undefined } | { readonly issues: ReadonlyArray<Issue> };
+interface StandardSchema<Input = unknown, Output = Input> {
+  readonly "~standard": {
+    readonly version: 1;
+    readonly vendor: string;
+    readonly validate: (value: unknown, options?: { readonly libraryOptions?: Record<string, unknown> | undefined } | undefined) => Result<Output> | Promise<Result<Output>>;
+    readonly types?: { readonly input: Input; readonly output: Output } | undefined;
+  };
+}
+type OutputOf<It extends StandardSchema> = NonNullable<It["~standard"]["types"]>["output"];
+type InputOf<It extends StandardSchema> = NonNullable<It["~standard"]["types"]>["input"];
+function validated<It extends StandardSchema>(schema: It, value: unknown): OutputOf<It> {
+  const result = schema["~standard"].validate(value);
+  if (result instanceof Promise || result.issues) throw new TypeError("no value");
+  return result.value;
+}
 
 // One use of each export, whose type is written out. The record has all names that the types declare, and no others.
 const date: SpeedateDate = { year: 2020, month: 2, day: 29 };
@@ -17,6 +37,7 @@ export const shapes = [
   same<number, SpeedateDate["year" | "month" | "day"]>(true, 0),
   same<number | null, SpeedateTime["offsetSeconds"]>(true, null), same<number, SpeedateTime["hour" | "minute" | "second" | "millisecond" | "microsecond"]>(true, 0),
   same<number | null, SpeedateDateTime["offsetSeconds"]>(true, null), same<number, Exclude<SpeedateDateTime[keyof SpeedateDateTime], null>>(true, 0),
+  same<InputOf<Schema<SpeedateDate>>, string>(true, "2020-02-29"),
   same<Refusal["place"], number>(true, 0), same<speedate.SpeedateError["place"], number | undefined>(true, 0),
   same<SpeedateDuration["sign"], 1 | -1>(true, second.sign), same<SpeedateDuration[keyof SpeedateDuration], number>(true, second.days),
 ];
@@ -25,7 +46,7 @@ const refusals: LineRefusal[] = [];
 const uses: Record<keyof typeof speedate, unknown> = {
   parseDate: same<SpeedateDate, ReturnType<typeof speedate.parseDate>>(true, speedate.parseDate("86400", { timestamps: "s" })),
   parseTime: same<SpeedateTime, ReturnType<typeof speedate.parseTime>>(true, speedate.parseTime(bytes, { strict: false, overflow: "error" })),
-  parseDateTime: same<SpeedateDateTime, ReturnType<typeof speedate.parseDateTime>>(true, speedate.parseDateTime("1", { timestamps: "us", timestampOffset: 0 })),
+  parseDateTime: same<SpeedateDateTime, ReturnType<typeof speedate.parseDateTime>>(true, speedate.parseDateTime("1", { timestamps: "us", timestampOffset: 0, missingOffset: "error" })),
   parseDuration: same<SpeedateDuration, ReturnType<typeof speedate.parseDuration>>(true, speedate.parseDuration("PT1S", { isoOrder: "strict", overflow: "truncate" })),
   parseDateFront: same<number, Front<SpeedateDate, string>["length"]>(true, speedate.parseDateFront("2020-02-29 x").length),
   parseTimeFront: same<SpeedateTime, Front<SpeedateTime, Uint8Array>["value"]>(true, speedate.parseTimeFront(bytes).value),
@@ -68,8 +89,15 @@ const uses: Record<keyof typeof speedate, unknown> = {
   negate: same<SpeedateDuration, ReturnType<typeof speedate.negate>>(true, speedate.negate(second)),
   totalSeconds: same<number, ReturnType<typeof speedate.totalSeconds>>(true, speedate.totalSeconds(second)),
   inTimezone: [((it: SpeedateTime) => it.hour)(speedate.inTimezone(time, 0)), same<SpeedateDateTime, ReturnType<typeof speedate.inTimezone>>(true, speedate.inTimezone(moment, 3600))],
+  schema: [
+    same<SpeedateDate, OutputOf<Schema<SpeedateDate>>>(true, validated(speedate.schema("date", { timestamps: "s" }), "86400")),
+    same<SpeedateTime, OutputOf<Schema<SpeedateTime>>>(true, validated(speedate.schema("time", { strict: true }), "12:13:14Z")),
+    same<SpeedateDateTime, OutputOf<Schema<SpeedateDateTime>>>(true, validated(speedate.schema("dateTime", { missingOffset: "utc" }), "2020-02-29T12:13")),
+    same<SpeedateDuration, OutputOf<Schema<SpeedateDuration>>>(true, validated(speedate.schema("duration", { overflow: "truncate" }), "PT1S")),
+  ],
   init: ((call: (module: object) => void): string => call.name)(speedate.init),
-  SpeedateError: ((it: speedate.SpeedateError): [Fault, number, string, number | undefined, number | undefined] => [it.fault, it.code, it.message, it.place, it.index]).length,
+  SpeedateError: ((it: speedate.SpeedateError): [Fault, number, string, speedate.Text | undefined, number | undefined, number | undefined] =>
+    [it.fault, it.code, it.message, it.text, it.place, it.index]).length,
 };
 // An import of CommonJS has a default too.
 assert.deepEqual(Object.keys(uses).sort(), Object.keys(speedate).filter((it) => it !== "default").sort());
@@ -84,6 +112,12 @@ const refused = [
   () => speedate.parseDateTime("", { strict: true, timestamps: "s" }),
   // @ts-expect-error
   () => speedate.dateColumn("", { missingOffset: "utc" }),
+  // @ts-expect-error
+  () => speedate.parseTime("", { missingOffset: "utc" }),
+  // @ts-expect-error
+  () => speedate.schema("datetime"),
+  // @ts-expect-error
+  () => speedate.schema("date", { strict: true }),
   // @ts-expect-error
   () => speedate.dateTimeColumn("", { strict: true, timestamps: "s" }),
   // @ts-expect-error
@@ -114,6 +148,8 @@ const refused = [
   () => speedate.after(time, second),
 ];
 for (const call of refused) assert.throws(call, TypeError, String(call));
+
+export const sameTypes = same<typeof bare, typeof speedate>(true, bare);
 
 export const unsaid = [
   // @ts-expect-error
