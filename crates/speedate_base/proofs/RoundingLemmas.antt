@@ -1,5 +1,5 @@
 -- A fraction's digits taken in blocks, the last ones first.
-use Rattle.std.proofs.Common.{◌≡◌, ℕ, ◌+◌, ◌-◌, ◌*◌, ◌/◌, ◌%◌, ◌^◌, ◌<◌, ◌≤◌, ◌&&◌, Bool, true, false, min, List, length, take, drop, refl, arith, ap, sym, ◌∙◌, inl, inr, lit<, mul-le-mul_right}
+use Rattle.std.proofs.Common.{◌≡◌, ℕ, ◌+◌, ◌-◌, ◌*◌, ◌/◌, ◌%◌, ◌^◌, ◌<◌, ◌≤◌, ◌&&◌, ◌==◌, Bool, true, false, min, List, length, take, drop, refl, arith, ap, sym, ◌∙◌, inl, inr, lit<, mul-le-mul_right}
 use Rattle.std.specs.Char.{is_ascii_digit}
 use Rattle.std.specs.List.{list_all}
 use Rattle.std.proofs.lemmas.Bool.{and_parts, cases_lt}
@@ -11,7 +11,7 @@ use Rattle.std.proofs.lemmas.Nat.{pow-add}
 use Rattle.speedate_base.specs.Digits.{digits_value}
 use Rattle.speedate_base.proofs.BlockLemmas.{block-more, is_number}
 use Rattle.speedate_base.proofs.DigitRunLemmas.{below-power, digits_value-append, digits_value-lt}
-use Rattle.speedate_base.specs.Nearest.{quotient}
+use Rattle.speedate_base.specs.Nearest.{quotient, rest_bounds, told_by_sixteen}
 use Rattle.speedate_base.proofs.NearestLemmas.{
   part_below,
   part_down,
@@ -165,7 +165,30 @@ pub rest-none : (unit : ℕ) (digits : List ℕ) → digits_value digits ≡ 0
     → quotient true (2 * (digits_value digits * unit)) (10 ^ length digits) ≡ 0
 rest-none unit digits none = grind (arith, none, quotient-none true _ (scale-some (length digits)))
 
-pub ruleset rest_rules = (nat_tests, rest-within, rest-below, rest-some, rest-none)
+-- so they lie between their bounds
+rest-up : (unit : ℕ) (digits : List ℕ) → list_all is_ascii_digit digits ≡ true
+    → ((rest_bounds true unit digits).0
+    ≤ quotient true (2 * (digits_value digits * unit)) (10 ^ length digits))
+    × (quotient true (2 * (digits_value digits * unit)) (10 ^ length digits)
+    ≤ (rest_bounds true unit digits).1)
+rest-up unit digits all =
+    grind (
+      arith,
+      nat_tests,
+      rest-within true unit digits all,
+      rest-some unit digits,
+      rest-none unit digits,
+    )
+
+pub rest-bounded : (up : Bool) (unit : ℕ) (digits : List ℕ) → list_all is_ascii_digit digits ≡ true
+    → ((rest_bounds up unit digits).0
+    ≤ quotient up (2 * (digits_value digits * unit)) (10 ^ length digits))
+    × (quotient up (2 * (digits_value digits * unit)) (10 ^ length digits)
+    ≤ (rest_bounds up unit digits).1)
+rest-bounded false unit digits all = (omega arith, rest-below unit digits all)
+rest-bounded true unit digits all = rest-up unit digits all
+
+pub ruleset rest_rules = (nat_tests)
 
 -- what sixteen digits spell
 pub sixteen-value : (digits : List ℕ) → 16 ≤ length digits
@@ -207,3 +230,21 @@ sixteen-told up unit digits value smallest largest least most long is more less 
     let high = quotient-le up (size + later) (size + largest) (10 ^ 16) (scale-some 16)
     (omega (arith, less)) in
     omega (arith, low, high, one, two, same, exact)
+
+-- so both bounds show whether sixteen digits tell it, and what
+pub sixteen-tells : (up : Bool) (unit : ℕ) (digits : List ℕ) (value smallest largest least most : ℕ)
+    → 16 ≤ length digits
+    → list_all is_ascii_digit digits ≡ true
+    → value ≡ digits_value (take 16 digits)
+    → (smallest, largest) ≡ rest_bounds up unit (drop 16 digits)
+    → least ≡ quotient up (2 * (value * unit) + smallest) (10 ^ 16)
+    → most ≡ quotient up (2 * (value * unit) + largest) (10 ^ 16)
+    → (told_by_sixteen up unit digits ≡ (least == most))
+    × (least ≡ most → least ≡ quotient up (2 * (digits_value digits * unit)) (10 ^ length digits))
+sixteen-tells up unit digits value smallest largest least most long all is bounds one two =
+    let lies = rest-bounded up unit (drop 16 digits) (rest_all digits 16 all) in
+    let between = rw (← bounds) at lies in (
+      rw (← is, ← bounds, one, two) refl,
+      sixteen-told up unit digits value smallest largest least most long is between.0 between.1
+          one two,
+    )

@@ -1,10 +1,16 @@
 //! Fractions of a unit of time, rounded by their digits.
 
-ghost use Rattle.std.specs.Prelude.{◌≡◌, ℤ, ◌+◌, ◌-◌, ◌*◌, ◌^◌, ◌<◌, ◌≤◌, length, IsTrue, IfSome};
+ghost use Rattle.std.specs.Prelude.{◌≡◌, ℤ, ◌+◌, ◌-◌, ◌*◌, ◌^◌, ◌<◌, ◌≤◌, length, IsTrue, IfSome, Some, None, if◌then◌else◌};
 ghost use Rattle.std.specs.Char.{is_ascii_digit};
 ghost use Rattle.std.specs.List.{list_all};
 ghost use Rattle.speedate_base.specs.Digits.{digits_value};
-ghost use Rattle.speedate_base.specs.Nearest.{IsNearest, nearest, quotient};
+ghost use Rattle.speedate_base.specs.Nearest.{
+  IsNearest,
+  nearest,
+  quotient,
+  rest_bounds,
+  told_by_sixteen,
+};
 ghost use Rattle.speedate_base.specs.Numbers.{with_sign};
 
 use crate::numbers::digits::{are_zeros, one_by_one};
@@ -65,8 +71,9 @@ fn told_by_sixteen(digits: &[u8], unit: u64, up: bool) -> Option<u64>
     requires long { SIXTEEN ≤ length digits.now }
     requires digits { IsTrue (list_all is_ascii_digit digits.now) }
     requires unit { unit ≤ LARGEST_UNIT_MICROSECONDS }
-    ensures told { IfSome result (λ twice. twice
-        ≡ quotient up (2 * (digits_value digits.now * unit)) (10 ^ length digits.now)) }
+    ensures told { result ≡ (if told_by_sixteen up unit digits.now
+        then Some (quotient up (2 * (digits_value digits.now * unit)) (10 ^ length digits.now))
+        else None) }
     ensures within { IfSome result (λ twice. twice ≤ 2 * unit) }
 {
     let first = eight_digits(u8x8::from_slice(digits));
@@ -83,11 +90,9 @@ fn told_by_sixteen(digits: &[u8], unit: u64, up: bool) -> Option<u64>
 fn rest_bounds(digits: &[u8], unit: u64, up: bool) -> (u64, u64)
     requires digits { IsTrue (list_all is_ascii_digit digits.now) }
     requires unit { unit ≤ LARGEST_UNIT_MICROSECONDS }
-    ensures smallest { result.0
-        ≤ quotient up (2 * (digits_value digits.now * unit)) (10 ^ length digits.now) }
-    ensures largest { quotient up (2 * (digits_value digits.now * unit)) (10 ^ length digits.now)
-        ≤ result.1 }
-    ensures within { result.1 ≤ 2 * unit }
+    ensures bounds { (result.0, result.1) ≡ rest_bounds up unit digits.now }
+    ensures smallest { result.0 ≤ 2 * unit }
+    ensures largest { result.1 ≤ 2 * unit }
 {
     // A fraction is less than a whole unit.
     if !up {
