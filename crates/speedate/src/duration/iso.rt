@@ -36,6 +36,33 @@ use speedate_base::util::{SECONDS_PER_DAY, twice_microseconds};
 /// How many digits of a fraction of a second are whole microseconds.
 const MICROSECOND_LENGTH: usize = 6;
 
+/// The designator of each unit of dates, its place among them, and its days and seconds, by the last
+/// three bits of the designator. At the bits that no designator has stands a month once more.
+///
+/// This is a table since a jump to each unit is hard to predict where many are mixed.
+static DATE_UNITS: [(u8, u32, u32, u32); 8] = [
+    (b'M', 1, 30, 0),
+    (b'Y', 0, 365, 0),
+    (b'M', 1, 30, 0),
+    (b'M', 1, 30, 0),
+    (b'D', 3, 1, 0),
+    (b'M', 1, 30, 0),
+    (b'M', 1, 30, 0),
+    (b'W', 2, 7, 0),
+];
+
+/// The same of each unit of times, with minutes at the other bits.
+static TIME_UNITS: [(u8, u32, u32, u32); 8] = [
+    (b'H', 0, 0, 3600),
+    (b'M', 1, 0, 60),
+    (b'M', 1, 0, 60),
+    (b'S', 2, 0, 1),
+    (b'M', 1, 0, 60),
+    (b'M', 1, 0, 60),
+    (b'M', 1, 0, 60),
+    (b'M', 1, 0, 60),
+];
+
 /// A unit of time: its designator, its place among the units of its side, and what one of it is, whole
 /// days or seconds.
 #[derive(Clone, Copy)]
@@ -60,16 +87,11 @@ impl DurationUnit {
         ensures side { IfSome result (λ unit. IsUnitOf is_time unit) }
         ensures designator { IfSome result (λ unit. unit.designator ≡ designator) }
     {
-        let (place, day, second) = match (is_time, designator) {
-            (false, b'Y') => (0, 365, 0),
-            (false, b'M') => (1, 30, 0),
-            (false, b'W') => (2, 7, 0),
-            (false, b'D') => (3, 1, 0),
-            (true, b'H') => (0, 0, 3600),
-            (true, b'M') => (1, 0, 60),
-            (true, b'S') => (2, 0, 1),
-            _ => return None,
-        };
+        let units = if is_time { &TIME_UNITS } else { &DATE_UNITS };
+        let (letter, place, day, second) = units[usize::from(designator % 8)];
+        if letter != designator {
+            return None;
+        }
         Some(DurationUnit {
             designator,
             place,
