@@ -1,7 +1,7 @@
 -- What is known of bytes that are as a pattern has them.
-use Rattle.std.proofs.Common.{◌≡◌, ℕ, zero, suc, ◌+◌, ◌-◌, ◌%◌, ◌≤◌, Bool, true, not, min, if◌then◌else◌, List, [], ◌∷◌, length, drop, refl, w64, arith, rules}
+use Rattle.std.proofs.Common.{◌≡◌, ℕ, zero, suc, ◌+◌, ◌-◌, ◌%◌, ◌≤◌, Bool, true, not, min, nat_eq, if◌then◌else◌, List, [], ◌∷◌, length, drop, refl, w64, arith, rules}
 use Rattle.std.specs.Int.{from_le_bytes}
-use Rattle.std.specs.List.{prefix_len}
+use Rattle.std.specs.List.{list_all, prefix_len}
 use Rattle.std.proofs.lemmas.List.{get_or-drop, map-id}
 use Rattle.std.proofs.lemmas.List.Sums.{prefix_len-le-length}
 use Rattle.std.proofs.lemmas.Simd.{mask_l-mod, first_set_mask_l}
@@ -81,3 +81,8 @@ lowest_bit tests count long few =
     let first = rw (map-id tests) at
     (first_set_mask_l (λ (test : Bool). test) tests count long few) in
     grind (arith, nat_tests, first, no_bit, mask_l-mod tests 64, prefix_len-le-length not tests)
+
+-- a mask is 0 if and only if no bit is set
+pub no_bits : (tests : List Bool) → nat_eq (mask_l tests) 0 ≡ list_all not tests
+no_bits [] = refl
+no_bits (test ∷ tests) = grind (arith, nat_tests, no_bits tests)

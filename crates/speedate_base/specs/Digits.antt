@@ -1,7 +1,7 @@
 -- Digits at places of a text and in runs (RFC 3339 5.6, DIGIT: std's `is_ascii_digit`), and texts
 -- of a fixed form. After the end of a text `slice_index` is 0, which is no digit, no sign and no
 -- separator.
-use Rattle.std.specs.Prelude.{ℕ, ◌+◌, ◌-◌, ◌*◌, ◌/◌, ◌%◌, Bool, ◌&&◌, List, [], ◌∷◌, ◌++◌, slice_index, zero, suc, ◌^◌, length, take, drop, ◌||◌, ◌==◌, if◌then◌else◌}
+use Rattle.std.specs.Prelude.{ℕ, ◌+◌, ◌-◌, ◌*◌, ◌/◌, ◌%◌, Bool, true, nat_le, ◌&&◌, List, [], ◌∷◌, ◌++◌, slice_index, zero, suc, ◌^◌, length, take, drop, ◌||◌, ◌==◌, if◌then◌else◌}
 use Rattle.std.specs.Char.{is_ascii_digit}
 use Rattle.std.specs.List.{prefix_len}
 use Rattle.speedate_base.specs.Ascii.{digit_zero, comma, full_stop}
@@ -97,6 +97,12 @@ eight_at text place =
 -- a byte is as a pattern has it: a digit for `0`, and for any other byte that byte
 abbrev pub fits_byte : ℕ → ℕ → Bool
 fits_byte form byte = if form == digit_zero then is_ascii_digit byte else byte == form
+
+-- each byte of a list is at most that of another at its place, as far as both go
+abbrev pub are_at_most : List ℕ → List ℕ → Bool
+are_at_most [] mosts = true
+are_at_most (byte ∷ bytes) [] = true
+are_at_most (byte ∷ bytes) (most ∷ mosts) = nat_le byte most && are_at_most bytes mosts
 
 -- how many bytes, from the first on, are as a pattern has them
 abbrev pub fit_length : List ℕ → List ℕ → ℕ

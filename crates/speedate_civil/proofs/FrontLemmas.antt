@@ -1,5 +1,5 @@
 -- What is read at the front of a text is the same without the bytes after it.
-use Rattle.std.proofs.Common.{◌≡◌, ℕ, zero, suc, ◌+◌, ◌-◌, ◌≤◌, Bool, true, false, ◌&&◌, ◌==◌, List, [], ◌∷◌, length, take, drop, slice_index, if◌then◌else◌, Option, None, ℤ, IfOk, Result, Ok, refl, rules, arith, ap, ap₂, sym, ◌∙◌, le-leb, length-drop, length-take-le, get_or-take, take-take}
+use Rattle.std.proofs.Common.{◌≡◌, ℕ, zero, suc, ◌+◌, ◌-◌, ◌≤◌, Bool, true, false, ◌&&◌, ◌==◌, List, [], ◌∷◌, length, take, drop, slice_index, if◌then◌else◌, Option, None, ℤ, IfOk, Result, Ok, Err, refl, rules, arith, ap, ap₂, sym, ◌∙◌, le-leb, length-drop, length-take-le, get_or-take, take-take}
 use Rattle.speedate_civil.specs.Base.{Behavior, ParseError}
 use Rattle.std.proofs.lemmas.Bool.{leb-true}
 use Rattle.std.proofs.lemmas.Bool.Decides.{nat_tests}
@@ -14,6 +14,8 @@ use Rattle.speedate_base.specs.Requirement.{
   whole_or_fault,
   first_fault_or,
   result_and_then,
+  result_map,
+  with_size,
 }
 use Rattle.speedate_civil.specs.Calendar.{Ymd}
 use Rattle.speedate_civil.specs.Time.{
@@ -44,6 +46,8 @@ use Rattle.speedate_civil.specs.Time.{
 }
 use Rattle.speedate_civil.specs.DateTime.{
   DateAndTime,
+  DateTime,
+  date_and_time,
   date_time_answer,
   date_time_front,
   separator_table,
@@ -317,3 +321,14 @@ date_time_front-alone behavior text front read inside =
     (date_time_front behavior (take front.1 text)) front inside
     (read-value _ (date_time_front behavior text) front read (date_time_front-taken behavior text)
     front.1 (omega arith) inside)
+
+-- so it is of what a call returns
+pub date_time_read-alone : (behavior : Behavior) (text : List ℕ)
+    (result : Result (DateTime × ℕ) ParseError)
+    → result_map (with_size date_and_time) result ≡ date_time_front behavior text
+    → IfOk result (λ front. front.1 ≤ length text)
+    → IfOk result (λ front. date_time_answer behavior (take front.1 text)
+    ≡ Ok (date_and_time front.0))
+date_time_read-alone behavior text (Ok front) is within =
+    date_time_front-alone behavior text (date_and_time front.0, front.1) (sym is) within
+date_time_read-alone behavior text (Err fault) is within = tt

@@ -1,6 +1,6 @@
 -- Laws of the order by instants: it is total, among values with offsets and among those without,
 -- but across both it is not transitive; and without offsets it is the order of the texts.
-use Rattle.std.proofs.Common.{◌≡◌, ℕ, ◌<◌, Bool, true, false, ◌&&◌, ◌∷◌, ◌==◌, ℤ, neg_ℤ, pos, Option, Some, None, refl, is_some, nat_cmp, Ordering, Less, Equal, rules, arith, ◌∙◌, ap, sym}
+use Rattle.std.proofs.Common.{◌≡◌, ℕ, ◌<◌, Bool, true, false, ◌&&◌, ◌∷◌, ◌==◌, ℤ, neg_ℤ, pos, Option, Some, None, refl, is_some, nat_cmp, Ordering, rules, arith, ◌∙◌, ap, sym}
 use Rattle.std.specs.Cmp.{IsTotalOrder, on_total}
 use Rattle.std.specs.Cmp.Lexicographic.{slice_cmp}
 use Rattle.std.specs.Ordering.{ordering_then, ordering_reverse, on}

@@ -22,6 +22,7 @@ mod OffsetMoveLemmas
 mod ReadLemmas
 mod Rfc3339Lemmas
 mod TimeLemmas
+mod UsualLemmas
 pub mod TimePlaceLemmas
 pub mod ValueLemmas
 pub mod MonthLemmas

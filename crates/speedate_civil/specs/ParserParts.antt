@@ -1,10 +1,17 @@
 -- What parsers decide by on their way to an answer.
-use Rattle.std.specs.Prelude.{ℕ, List, Bool, true, false, Option, Some, None, if◌then◌else◌}
+use Rattle.std.specs.Prelude.{◌≡◌, ℕ, ◌+◌, ◌≤◌, List, Bool, true, false, Option, Some, None, Result, Ok, codes, drop, length, if◌then◌else◌}
 use Rattle.speedate_civil.specs.Base.{ParseError}
-use Rattle.speedate_base.specs.Digits.{two_digits_at, two_digit_value}
+use Rattle.speedate_base.specs.Digits.{eight_at, fit_length, two_digits_at, two_digit_value}
+use Rattle.speedate_base.specs.Requirement.{◌>>=◌}
 use Rattle.speedate_civil.specs.declared.time.pure.AfterMinute.{AfterMinute}
 use Rattle.speedate_civil.specs.declared.time.pure.Second.{Second}
-use Rattle.speedate_civil.specs.Time.{Clock, has_second}
+use Rattle.speedate_civil.specs.Time.{
+  Clock,
+  TimeOfDay,
+  clock_with_offset,
+  has_second,
+  offset_front,
+}
 
 -- the second of a clock that is given from its minute on
 abbrev pub second_of : List ℕ → Second
@@ -22,6 +29,19 @@ clock_after minute after = record {
   microsecond = after.microsecond;
   size = after.size;
 }
+
+-- the time of a clock at the front of a text and the offset that follows it, and how many bytes it
+-- takes, or the fault of the offset
+abbrev pub time_with_offset : List ℕ → Clock → Result (TimeOfDay × ℕ) ParseError
+time_with_offset text clock = do
+  offset ← offset_front (drop clock.size text)
+  Ok (clock_with_offset clock offset.0, clock.size + offset.1)
+
+-- a text begins as a date looks and, after one further byte, as a clock with its second does
+pub record LooksUsual (text : List ℕ) : Type 0 where
+  pub long : 19 ≤ length text
+  pub date : fit_length (codes "0000-00-") (eight_at text 0) ≡ 8
+  pub clock : fit_length (codes "00:00:00") (eight_at (drop 11 text) 0) ≡ 8
 
 -- a date's table may refuse a number by this fault: it is short, or has a sign, a digit or a
 -- decimal mark where none may stand

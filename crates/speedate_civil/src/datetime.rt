@@ -11,7 +11,7 @@ mod timezone;
 use crate::date::Date;
 use crate::time::Time;
 pub use now::Moment;
-pub use parse::{require_standard_date_time, timestamp_instant};
+pub use parse::{quick_front, require_standard_date_time, timestamp_instant};
 
 /// A date and a time of day, with an offset from UTC or without one.
 ///

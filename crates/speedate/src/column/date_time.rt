@@ -11,7 +11,9 @@ use super::{LineError, LineFront, LineReader};
 use speedate_base::config::{DateTimeConfig, MicrosecondsPrecisionOverflowBehavior, TimeConfig};
 use speedate_base::faults::ParseError;
 use speedate_base::util::UnixTime;
-use speedate_civil::datetime::{DateTime, require_standard_date_time, timestamp_instant};
+use speedate_civil::datetime::{
+    DateTime, quick_front, require_standard_date_time, timestamp_instant,
+};
 use speedate_civil::time::end_fault;
 
 /// How a column parses its date-times: `DateTimeParser::Rfc3339(TimeConfig::default())` takes
@@ -180,7 +182,7 @@ impl LineReader for DateTimeReader {
 
     #[inline(always)]
     fn front(&self, text: &[u8]) -> Option<LineFront<i64>> {
-        match DateTime::parse_front(text, &self.text_config()) {
+        match quick_front(text, &self.text_config()) {
             Ok((value, size)) => Some(LineFront {
                 answer: self.text_answer(&text[..size], &value),
                 size,

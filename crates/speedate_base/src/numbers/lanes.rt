@@ -1,9 +1,10 @@
 //! Texts of a fixed form, and digits, eight or sixteen bytes at a time.
 
-ghost use Rattle.std.specs.Prelude.{◌≡◌, ℕ, ◌+◌, ◌-◌, ◌*◌, ◌^◌, ◌<◌, ◌≤◌, IsTrue, length, drop, slice_index};
+ghost use Rattle.std.specs.Prelude.{◌≡◌, ℕ, ◌+◌, ◌-◌, ◌*◌, ◌^◌, ◌<◌, ◌≤◌, ◌&&◌, IsTrue, length, drop, slice_index};
 ghost use Rattle.std.specs.Char.{is_ascii_digit};
 ghost use Rattle.std.specs.List.{list_all, prefix_len};
 ghost use Rattle.speedate_base.specs.Digits.{
+  are_at_most,
   digits_value,
   eight_at,
   fit_length,
@@ -30,13 +31,22 @@ pub fn eight_bytes(bytes: &[u8], place: usize) -> u8x8
 {
     let left = bytes.len() - place;
     if left >= LANES {
-        return u8x8::from_slice(&bytes[place..]);
+        return first_eight(&bytes[place..]);
     }
     // One load, which begins before the place, in place of two.
     if bytes.len() >= LANES {
         return last_bytes(&bytes[bytes.len() - LANES..], left);
     }
     short_bytes(&bytes[place..])
+}
+
+/// The first eight bytes of a text that has as many, which is a condition on the caller.
+#[inline(always)]
+pub fn first_eight(bytes: &[u8]) -> u8x8
+    requires { 8 ≤ length bytes.now }
+    ensures bytes { result ≡ eight_at bytes.now 0 }
+{
+    u8x8::from_slice(bytes)
 }
 
 /// The last `left` of eight bytes, and 0 after them.
@@ -105,6 +115,18 @@ pub fn two_digit_numbers(lanes: u8x8, pattern: u8x8, count: usize) -> [u8; 8]
     let digits = word & (u64::MAX >> (64 - 8 * count));
     // No sum is larger than 99, so none reaches the next byte.
     (10 * digits + (digits >> 8)).to_le_bytes()
+}
+
+/// Whether each of sixteen bytes lies between those of two texts at its place: true for
+/// `b"2020-02-29 12:13"` between `b"0000-00-00 00:00"` and `b"9999-19-39t29:59"`. No byte of the first
+/// text is larger than that of the second, which is a condition on the caller.
+#[inline(always)]
+pub fn are_between(lanes: u8x16, lowest: u8x16, highest: u8x16) -> bool
+    requires { IsTrue (are_at_most lowest highest) }
+    ensures between { result ≡ (are_at_most lowest lanes && are_at_most lanes highest) }
+{
+    // How far a byte lies above the lowest one tells both.
+    (lanes - lowest).simd_gt(highest - lowest).to_bitmask() == 0
 }
 
 /// How many digits stand at the front of eight bytes: 3 for `b"120.5678"`.

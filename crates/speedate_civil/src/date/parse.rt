@@ -1,8 +1,9 @@
 //! Parsers of dates: of texts of RFC 3339, at the front of a text, and of timestamps.
 
-ghost use Rattle.std.specs.Prelude.{◌≡◌, ◌≤◌, ◌↔◌, Err, IfOk, Ok, OnOk, length, take};
+ghost use Rattle.std.specs.Prelude.{◌≡◌, ◌≤◌, ◌↔◌, Err, IfOk, Ok, OnOk, codes, length, take};
 ghost use Rattle.speedate_civil.specs.Base.{TimestampUnit};
 ghost use Rattle.speedate_base.specs.Ascii.{HasNoControl};
+ghost use Rattle.speedate_base.specs.Digits.{eight_at, fit_length};
 ghost use Rattle.speedate_base.specs.Numbers.{NoNumber, number_answer};
 ghost use Rattle.speedate_civil.specs.Calendar.{Ymd};
 ghost use Rattle.speedate_civil.specs.Date.{
@@ -151,8 +152,7 @@ impl Date {
             return Err(ParseError::TooShort);
         }
         let front = eight_bytes(bytes, 0);
-        let form = u8x8::from_array(*b"0000-00-");
-        let place = fit_length(front, form);
+        let place = fit_length(front, u8x8::from_array(*b"0000-00-"));
         if place < LANES {
             return Err(match place {
                 0..=3 => ParseError::InvalidCharYear,
@@ -160,6 +160,18 @@ impl Date {
                 _ => ParseError::InvalidCharMonth,
             });
         }
+        Self::with_month(front, bytes)
+    }
+
+    /// The date at the front of a text whose first eight bytes, which are given, look like those of one.
+    #[inline(always)]
+    pub(crate) fn with_month(front: u8x8, bytes: &[u8]) -> Result<(Self, usize), ParseError>
+        requires front { front ≡ eight_at bytes.now 0 }
+        requires long { 10 ≤ length bytes.now }
+        requires looks { 8 ≤ fit_length (codes "0000-00-") front }
+        ensures answer { result gives_front date_front bytes.now }
+    {
+        let form = u8x8::from_array(*b"0000-00-");
         let [century, _, year, _, _, month, _, _] = two_digit_numbers(front, form, LANES);
         let year = 100 * u16::from(century) + u16::from(year);
         let Some(day) = two_digits(bytes, 8) else {

@@ -25,6 +25,7 @@ ghost use Rattle.speedate_civil.specs.DateTime.{
   ◌gives◌,
   ◌gives_front◌,
 };
+ghost use Rattle.speedate_civil.specs.ParserParts.{LooksUsual};
 ghost use Rattle.speedate_civil.specs.Standard.{
   IsDateTime,
   standard_date_time,
@@ -39,10 +40,13 @@ use speedate_base::config::{
     DateTimeConfig, MicrosecondsPrecisionOverflowBehavior, TimeConfig, TimestampUnit,
 };
 use speedate_base::faults::ParseError;
-use speedate_base::numbers::{Decimal, IntFloat, byte_at, float_parse_bytes, takes_digits};
+use speedate_base::numbers::{
+    Decimal, IntFloat, are_between, byte_at, first_eight, float_parse_bytes, takes_digits,
+};
 use speedate_base::util::{
     UnixTime, decimal_to_seconds_micros, decimal_unit, timestamp_to_seconds_micros,
 };
+use std::simd::prelude::*;
 use std::str::FromStr;
 
 /// The place of the separator, after the ten bytes of a date.
@@ -50,6 +54,9 @@ pub(super) const SEPARATOR_PLACE: usize = 10;
 
 /// The place of the time, after the separator.
 pub(super) const TIME_PLACE: usize = 11;
+
+/// How many bytes a date, a separator and a clock with its second have.
+const USUAL_LENGTH: usize = 19;
 
 impl DateTime {
     /// Parses a date-time from a text, which may be a timestamp: 12:13:14 on 29 February 2020 from
@@ -260,6 +267,20 @@ impl DateTime {
         Self::front(bytes, config.microseconds_precision_overflow_behavior)
     }
 
+    /// What [`quick_front`] does, for a text that looks as most do.
+    #[inline(always)]
+    fn usual_front(bytes: &[u8], config: &TimeConfig) -> Result<(Self, usize), ParseError>
+        requires { LooksUsual bytes.now }
+        ensures answer { result gives_front date_time_front (time_choices config.now).behavior
+            bytes.now }
+        ensures within { IfOk result (λ front. front.1 ≤ length bytes.now) }
+    {
+        let behavior = config.microseconds_precision_overflow_behavior;
+        let (date, _) = Date::with_month(first_eight(bytes), bytes)?;
+        let (time, size) = usual_time_after_date(bytes, behavior)?;
+        Ok((DateTime { date, time }, TIME_PLACE + size))
+    }
+
     /// Parses the date-time that takes all the bytes.
     #[inline(always)]
     fn parse_whole(
@@ -332,6 +353,53 @@ impl FromStr for DateTime {
     }
 }
 
+/// Parses the date-time at the front of a text, as [`DateTime::parse_front`] does: a text that looks as most
+/// do without a search for the first byte that does not fit. It is 12:13:14 on 22 November 2026, and 19,
+/// from `b"2026-11-22 12:13:14 GET /"`.
+///
+/// It is long, and for a caller into which it is inlined.
+///
+/// # Errors
+///
+/// Those of [`DateTime::parse_front`].
+#[inline(always)]
+pub fn quick_front(bytes: &[u8], config: &TimeConfig) -> Result<(DateTime, usize), ParseError>
+    ensures answer { result gives_front date_time_front (time_choices config.now).behavior
+        bytes.now }
+    ensures within { IfOk result (λ front. front.1 ≤ length bytes.now) }
+    ensures alone { IfOk result (λ front.
+        date_time_answer (time_choices config.now).behavior (take front.1 bytes.now)
+        ≡ Ok (date_and_time front.0)) }
+    ensures no_control { IfOk result (λ front. HasNoControl front.1 bytes.now) }
+{
+    if !looks_usual(bytes) {
+        return DateTime::parse_front(bytes, config);
+    }
+    DateTime::usual_front(bytes, config)
+}
+
+/// Whether a text begins as a date looks and, after one further byte, as a clock with its second does: true
+/// for `b"2020-02-29T12:13:14Z"` and for `b"2020-99-99 99:99:99"`.
+#[inline(always)]
+fn looks_usual(bytes: &[u8]) -> bool
+    ensures looks { IsTrue result → LooksUsual bytes.now }
+{
+    if bytes.len() < USUAL_LENGTH {
+        return false;
+    }
+    let date = are_between(
+        u8x16::from_slice(bytes),
+        u8x16::from_array(*b"0000-00-00 00:00"),
+        u8x16::from_array(*b"9999-99-99t99:99"),
+    );
+    let clock = are_between(
+        u8x16::from_slice(&bytes[3..]),
+        u8x16::from_array(*b"0-00-00 00:00:00"),
+        u8x16::from_array(*b"9-99-99t99:99:99"),
+    );
+    date & clock
+}
+
 /// Parses the separator after the date at the front of a text and the time after it, and returns how
 /// many bytes the time takes.
 #[inline(always)]
@@ -348,6 +416,24 @@ fn time_after_date(
         return Err(ParseError::InvalidCharDateTimeSep);
     }
     Time::front(&bytes[TIME_PLACE..], behavior)
+}
+
+/// What [`time_after_date`] does, for a text that looks as most do.
+#[inline(always)]
+fn usual_time_after_date(
+    bytes: &[u8],
+    behavior: MicrosecondsPrecisionOverflowBehavior,
+) -> Result<(Time, usize), ParseError>
+    requires { LooksUsual bytes.now }
+    ensures answer { result_map (with_size time_of_day) result
+        ≡ first_fault_or (separator_table bytes.now) (time_front behavior (drop 11 bytes.now)) }
+    ensures within { IfOk result (λ front. TIME_PLACE + front.1 ≤ length bytes.now) }
+    ensures minutes { IfOk result (λ front. IsWholeMinutes front.0.tz_offset) }
+{
+    if !has_separator(bytes) {
+        return Err(ParseError::InvalidCharDateTimeSep);
+    }
+    Time::usual_front(&bytes[TIME_PLACE..], behavior)
 }
 
 /// Whether a separator follows the ten bytes of a date: `T`, `t`, a space or `_`.

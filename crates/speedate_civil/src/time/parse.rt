@@ -1,8 +1,9 @@
 //! Parsers of times of day: of texts, of texts of RFC 3339 alone, and at the front of a text.
 
-ghost use Rattle.std.specs.Prelude.{◌≡◌, ◌≤◌, ◌↔◌, IfOk, IsOk, Ok, drop, take, length};
+ghost use Rattle.std.specs.Prelude.{◌≡◌, ◌≤◌, ◌↔◌, IfOk, IsOk, Ok, codes, drop, take, length};
 ghost use Rattle.speedate_base.specs.Ascii.{HasNoControl};
 ghost use Rattle.speedate_base.specs.Config.{time_choices};
+ghost use Rattle.speedate_base.specs.Digits.{eight_at, fit_length};
 ghost use Rattle.speedate_base.specs.Offset.{IsWholeMinutes};
 ghost use Rattle.speedate_base.specs.Requirement.{first_fault_or};
 ghost use Rattle.speedate_civil.specs.Base.{Behavior};
@@ -12,7 +13,9 @@ ghost use Rattle.speedate_civil.specs.Standard.{
   strict_time_answer,
   IsFullTime,
 };
+ghost use Rattle.speedate_civil.specs.ParserParts.{time_with_offset};
 ghost use Rattle.speedate_civil.specs.Time.{
+  clock_parts,
   time_of_day,
   TimeOfDay,
   time_front,
@@ -25,7 +28,7 @@ use super::offset::{end_fault, has_minus_sign, is_utc, parse_offset};
 use super::{PureTime, Time};
 use speedate_base::config::{MicrosecondsPrecisionOverflowBehavior, TimeConfig};
 use speedate_base::faults::ParseError;
-use speedate_base::numbers::{byte_at, run_end};
+use speedate_base::numbers::{LANES, byte_at, first_eight, run_end};
 use std::str::FromStr;
 
 impl Time {
@@ -181,6 +184,34 @@ impl Time {
         ensures minutes { IfOk result (λ front. IsWholeMinutes front.0.tz_offset) }
     {
         let clock = PureTime::parse(bytes, 0, behavior)?;
+        Self::with_offset(clock, bytes)
+    }
+
+    /// What [`Time::front`] does, for a text that begins as a clock with its second looks.
+    #[inline(always)]
+    pub(crate) fn usual_front(
+        bytes: &[u8],
+        behavior: MicrosecondsPrecisionOverflowBehavior,
+    ) -> Result<(Self, usize), ParseError>
+        requires long { 8 ≤ length bytes.now }
+        requires looks { fit_length (codes "00:00:00") (eight_at bytes.now 0) ≡ 8 }
+        ensures answer { result gives_front time_front behavior bytes.now }
+        ensures within { IfOk result (λ front. front.1 ≤ length bytes.now) }
+        ensures minutes { IfOk result (λ front. IsWholeMinutes front.0.tz_offset) }
+    {
+        let clock = PureTime::with_minute(first_eight(bytes), LANES, bytes, behavior)?;
+        Self::with_offset(clock, bytes)
+    }
+
+    /// The time of the clock at the front of a text and the offset that follows it, and how many bytes
+    /// it takes.
+    #[inline(always)]
+    fn with_offset(clock: PureTime, bytes: &[u8]) -> Result<(Self, usize), ParseError>
+        requires { clock.size ≤ length bytes.now }
+        ensures answer { result gives_front time_with_offset bytes.now (clock_parts clock) }
+        ensures within { IfOk result (λ front. front.1 ≤ length bytes.now) }
+        ensures minutes { IfOk result (λ front. IsWholeMinutes front.0.tz_offset) }
+    {
         let (tz_offset, offset_size) = parse_offset(bytes, clock.size)?;
         Ok((clock.at_offset(tz_offset), clock.size + offset_size))
     }

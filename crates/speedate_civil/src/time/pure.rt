@@ -6,6 +6,7 @@ ghost use Rattle.speedate_base.specs.Digits.{
   run_digits,
   fraction_value,
   two_digit_value,
+  eight_at,
   fit_length,
 };
 
@@ -92,8 +93,7 @@ impl PureTime {
             return Err(ParseError::TooShort);
         }
         let front = eight_bytes(text, 0);
-        let pattern = u8x8::from_array(*b"00:00:00");
-        let fits = fit_length(front, pattern);
+        let fits = fit_length(front, u8x8::from_array(*b"00:00:00"));
         if fits < 5 {
             return Err(match fits {
                 0 | 1 => ParseError::InvalidCharHour,
@@ -101,6 +101,26 @@ impl PureTime {
                 _ => ParseError::InvalidCharMinute,
             });
         }
+        Self::with_minute(front, fits, text, behavior)
+    }
+
+    /// The clock at the front of a text, of whose first eight bytes so many look like those of one, up to the
+    /// minute at least.
+    #[inline(always)]
+    pub(super) fn with_minute(
+        front: u8x8,
+        fits: usize,
+        text: &[u8],
+        behavior: Behavior,
+    ) -> Result<Self, ParseError>
+        requires front { front ≡ eight_at text.now 0 }
+        requires long { 5 ≤ length text.now }
+        requires looks { fits ≡ fit_length (codes "00:00:00") front }
+        requires minute { 5 ≤ fits }
+        ensures answer { result_map clock_parts result ≡ clock_front behavior text.now }
+        ensures within { IfOk result (λ time. time.size ≤ length text.now) }
+    {
+        let pattern = u8x8::from_array(*b"00:00:00");
         let [hour, _, _, minute, _, _, _, _] = two_digit_numbers(front, pattern, 5);
         if hour > 23 {
             return Err(ParseError::OutOfRangeHour);

@@ -1,4 +1,4 @@
-use Rattle.std.proofs.Common.{◌∙◌, Ok, Result, ap, ap₂, refl, rules, sym}
+use Rattle.std.proofs.Common.{◌∙◌, Result, ap, ap₂, refl, rules, sym}
 use Rattle.speedate_civil.specs.Base.{ParseError}
 use Rattle.speedate_base.specs.Numbers.{Number, number_answer}
 use Rattle.speedate_base.specs.Requirement.{or_number, result_map}

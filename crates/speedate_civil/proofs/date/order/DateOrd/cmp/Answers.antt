@@ -1,6 +1,5 @@
 use Rattle.std.proofs.Common.{◌≡◌, ◌+◌, ◌*◌, nat_cmp, rules, sym, ◌∙◌}
 use Rattle.speedate_civil.specs.Date.{ymd}
-use Rattle.speedate_civil.specs.Calendar.{date_order}
 use Rattle.speedate_civil.proofs.DateOrderLemmas.{
   date_text-order,
   date_order-day_number,

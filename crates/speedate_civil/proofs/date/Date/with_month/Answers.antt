@@ -1,0 +1,100 @@
+use Rattle.std.proofs.Common.{◌≡◌, ◌∙◌, ap₂, refl, sym, ℕ, ◌+◌, ◌*◌, true, arith, rules}
+use Rattle.speedate_base.specs.Digits.{two_digits_at}
+use Rattle.speedate_civil.proofs.DateFrontLemmas.{
+  Read,
+  front-read,
+  day-none,
+  day-there,
+  no-day,
+  no-month,
+  late-day,
+  date-there,
+  in-range,
+  out-of-range,
+}
+use Rattle.speedate_civil.proofs.date.Date.with_month.Goals as goal
+
+pub two_digit_numbers-requires-clause-fits : goal.two_digit_numbers-requires-clause-fits
+two_digit_numbers-requires-clause-fits c =
+    c.requires.looks
+
+pub overflow_add-year : goal.overflow_add-year
+overflow_add-year c =
+    omega (
+      arith,
+      c.from.ensures,
+      c.from-2.ensures,
+      c.two_digit_numbers.ensures.small 0,
+      c.two_digit_numbers.ensures.small 2,
+    )
+
+pub returns-in_default : goal.returns-in_default
+returns-in_default c =
+    let front = front-read c.args.bytes.now _ _ _ c.requires.front
+    refl c.requires.looks
+    c.two_digit_numbers.ensures.numbers in
+    let none = day-none _ _ _ c.two_digits.ensures.value c.in_default.is in
+    record { answer = sym (no-day c.args.bytes.now _ front c.requires.long none) }
+
+pub returns-then-month-lt1 : goal.returns-then-month-lt1
+returns-then-month-lt1 c =
+    let front = front-read c.args.bytes.now _ _ _ c.requires.front
+    refl c.requires.looks
+    c.two_digit_numbers.ensures.numbers in
+    let day : two_digits_at c.args.bytes.now 8 ≡ true = search rules in
+    record {
+      answer = sym
+          (no-month c.args.bytes.now _ front c.requires.long day
+          (out-of-range _ c.then-month-lt1.either));
+    }
+
+pub returns-then-not-is_day : goal.returns-then-not-is_day
+returns-then-not-is_day c =
+    let front = front-read c.args.bytes.now _ _ _ c.requires.front
+    refl c.requires.looks
+    c.two_digit_numbers.ensures.numbers in
+    let year = ap₂ (λ (century year : ℕ). 100 * century + year) c.from.ensures c.from-2.ensures
+    ∙ front.year_is in
+    let read : Read c.args.bytes.now c.two_digit_numbers.result _ _ = record {
+      front = front;
+      long = c.requires.long;
+      year_is = year;
+      day_is = day-there _ _ _ _ c.two_digits.ensures.value c.in-Some.is;
+      month = (c.if-month-lt1.false, c.if-month-gt12.false);
+    } in
+    record {
+      answer = sym
+          (late-day c.args.bytes.now _ _ _ read (sym c.is_day.ensures ∙ c.if-not-is_day.true));
+    }
+
+pub invariant_of-result : goal.invariant_of-result
+invariant_of-result c = record {
+  year_in_range = omega (
+    arith,
+    c.from.ensures,
+    c.from-2.ensures,
+    c.two_digit_numbers.ensures.small 0,
+    c.two_digit_numbers.ensures.small 2,
+  );
+  month_in_range = (c.if-month-lt1.false, c.if-month-gt12.false);
+  day_in_range = in-range 1 _ c.in-Some.day (sym c.is_day.ensures ∙ c.if-not-is_day.false);
+}
+
+pub returns : goal.returns
+returns c =
+    let front = front-read c.args.bytes.now _ _ _ c.requires.front
+    refl c.requires.looks
+    c.two_digit_numbers.ensures.numbers in
+    let year = ap₂ (λ (century year : ℕ). 100 * century + year) c.from.ensures c.from-2.ensures
+    ∙ front.year_is in
+    let read : Read c.args.bytes.now c.two_digit_numbers.result _ _ = record {
+      front = front;
+      long = c.requires.long;
+      year_is = year;
+      day_is = day-there _ _ _ _ c.two_digits.ensures.value c.in-Some.is;
+      month = (c.if-month-lt1.false, c.if-month-gt12.false);
+    } in
+    record {
+      answer = sym
+          (date-there c.args.bytes.now _ _ _ read (sym c.is_day.ensures ∙ c.if-not-is_day.false));
+    }

@@ -1,0 +1,21 @@
+use Rattle.std.proofs.Common.{ℕ}
+use Rattle.speedate_base.specs.Ascii.{HasNoControl}
+use Rattle.speedate_base.specs.Requirement.{with_size}
+use Rattle.speedate_civil.specs.DateTime.{DateAndTime, date_and_time}
+use Rattle.speedate_civil.proofs.FrontLemmas.{date_time_read-alone}
+use Rattle.speedate_civil.proofs.NoControlLemmas.{date_time_front-no_control}
+use Rattle.speedate_civil.proofs.ReadLemmas.{read-result}
+use Rattle.speedate_civil.proofs.datetime.parse.quick_front.Goals as goal
+
+pub returns-clause-alone : goal.returns-clause-alone
+returns-clause-alone c =
+    date_time_read-alone c.args.config.now.microseconds_precision_overflow_behavior
+    c.args.bytes.now _ c.usual_front.ensures.answer c.usual_front.ensures.within
+
+pub returns-clause-no_control : goal.returns-clause-no_control
+returns-clause-no_control c =
+    read-result (with_size date_and_time)
+    (λ (front : DateAndTime × ℕ). HasNoControl front.1 c.args.bytes.now)
+    c.usual_front.result _ c.usual_front.ensures.answer
+    (date_time_front-no_control c.args.config.now.microseconds_precision_overflow_behavior
+    c.args.bytes.now)

@@ -1,0 +1,9 @@
+use Rattle.std.proofs.Common.{◌∙◌, ap, sym}
+use Rattle.std.proofs.lemmas.List.{take_rest}
+use Rattle.speedate_civil.specs.Time.{time_front}
+use Rattle.speedate_civil.proofs.datetime.parse.usual_time_after_date.Goals as goal
+
+pub returns-clause-answer : goal.returns-clause-answer
+returns-clause-answer c =
+    rw (sym c.has_separator.ensures.value ∙ c.if-not-has_separator.false)
+    (c.usual_front.ensures.answer ∙ ap (time_front c.args.behavior) (take_rest c.args.bytes.now 11))
