@@ -259,6 +259,7 @@ for (const [name, text, units, bytes, options] of PLACES) {
     const raised = thrown(() => speedate[`parse${name}`](it, options));
     assert.equal(raised.place, place, text);
     const seen = typeof it === "string" || !name.endsWith("Front") ? it : it.subarray(0, raised.text.length);
+    assert.ok(raised.text.length >= raised.place, text);
     assert.ok(typeof it === "string" ? raised.text === it : Buffer.compare(raised.text, seen) === 0 && raised.text.buffer !== it.buffer, text);
     assert.ok(Object.hasOwn(raised, "place") && new Proxy(raised, {}).place === place && new Proxy(raised, {}).text === raised.text, "what an error has is its own");
   }

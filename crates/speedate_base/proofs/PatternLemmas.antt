@@ -50,7 +50,7 @@ AllFit (suc count) (form ∷ forms) [] = ⊥
 AllFit (suc count) (form ∷ forms) (byte ∷ bytes) =
     (fits_byte form byte ≡ true) × AllFit count forms bytes
 
--- where one more byte fits, the first one does, and the others behind it
+-- where one more byte fits, the first one does, and the others after it
 pub first-fits : (count rest : ℕ) (test : Bool) → suc count ≤ (if test then 1 + rest else 0)
     → (test ≡ true) × (count ≤ rest)
 first-fits count rest test enough = search rules

@@ -37,7 +37,8 @@ time_with_offset text clock = do
   offset ← offset_front (drop clock.size text)
   Ok (clock_with_offset clock offset.0, clock.size + offset.1)
 
--- a text begins as a date looks and, after one further byte, as a clock with its second does
+-- a text of 19 bytes or more begins as a date looks, up to its month, and goes on from byte 11 as a
+-- clock with its second looks
 pub record LooksUsual (text : List ℕ) : Type 0 where
   pub long : 19 ≤ length text
   pub date : fit_length (codes "0000-00-") (eight_at text 0) ≡ 8

@@ -36,8 +36,8 @@ use speedate_base::util::{SECONDS_PER_DAY, twice_microseconds};
 /// How many digits of a fraction of a second are whole microseconds.
 const MICROSECOND_LENGTH: usize = 6;
 
-/// The designator of each unit of dates, its place among them, and its days and seconds, by the last
-/// three bits of the designator. At the bits that no designator has stands a month once more.
+/// The units of dates, each at the last three bits of its designator: the designator, the place among
+/// them, days and seconds. The other entries repeat the month, whose bits differ, so no byte finds them.
 ///
 /// This is a table since a jump to each unit is hard to predict where many are mixed.
 static DATE_UNITS: [(u8, u32, u32, u32); 8] = [
@@ -51,7 +51,7 @@ static DATE_UNITS: [(u8, u32, u32, u32); 8] = [
     (b'W', 2, 7, 0),
 ];
 
-/// The same of each unit of times, with minutes at the other bits.
+/// The same of the units of times, with minutes in the other entries.
 static TIME_UNITS: [(u8, u32, u32, u32); 8] = [
     (b'H', 0, 0, 3600),
     (b'M', 1, 0, 60),

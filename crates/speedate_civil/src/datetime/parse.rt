@@ -357,7 +357,7 @@ impl FromStr for DateTime {
 /// do without a search for the first byte that does not fit. It is 12:13:14 on 22 November 2026, and 19,
 /// from `b"2026-11-22 12:13:14 GET /"`.
 ///
-/// It is long, and for a caller into which it is inlined.
+/// It is inlined, and long: one caller is enough.
 ///
 /// # Errors
 ///
@@ -378,8 +378,8 @@ pub fn quick_front(bytes: &[u8], config: &TimeConfig) -> Result<(DateTime, usize
     DateTime::usual_front(bytes, config)
 }
 
-/// Whether a text begins as a date looks and, after one further byte, as a clock with its second does: true
-/// for `b"2020-02-29T12:13:14Z"` and for `b"2020-99-99 99:99:99"`.
+/// Whether a text begins as a date looks and, after a byte from a space to `t`, as a clock with its second
+/// does: true for `b"2020-02-29T12:13:14Z"` and for `b"2020-99-99 99:99:99"`.
 #[inline(always)]
 fn looks_usual(bytes: &[u8]) -> bool
     ensures looks { IsTrue result → LooksUsual bytes.now }
@@ -387,17 +387,17 @@ fn looks_usual(bytes: &[u8]) -> bool
     if bytes.len() < USUAL_LENGTH {
         return false;
     }
-    let date = are_between(
+    let front = are_between(
         u8x16::from_slice(bytes),
         u8x16::from_array(*b"0000-00-00 00:00"),
         u8x16::from_array(*b"9999-99-99t99:99"),
     );
-    let clock = are_between(
+    let end = are_between(
         u8x16::from_slice(&bytes[3..]),
         u8x16::from_array(*b"0-00-00 00:00:00"),
         u8x16::from_array(*b"9-99-99t99:99:99"),
     );
-    date & clock
+    front & end
 }
 
 /// Parses the separator after the date at the front of a text and the time after it, and returns how

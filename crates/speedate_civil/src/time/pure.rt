@@ -104,8 +104,8 @@ impl PureTime {
         Self::with_minute(front, fits, text, behavior)
     }
 
-    /// The clock at the front of a text, of whose first eight bytes so many look like those of one, up to the
-    /// minute at least.
+    /// The clock at the front of a text, by its first eight bytes and how many of them fit `00:00:00`, which
+    /// those of the minute do at least.
     #[inline(always)]
     pub(super) fn with_minute(
         front: u8x8,

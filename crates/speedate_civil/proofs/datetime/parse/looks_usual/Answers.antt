@@ -6,8 +6,8 @@ use Rattle.speedate_civil.proofs.datetime.parse.looks_usual.Goals as goal
 pub returns : goal.returns
 returns c = record {
   looks = λ both.
-      let parts = and_parts c.are_between-date.result c.are_between-clock.result both in
+      let parts = and_parts c.are_between-front.result c.are_between-end.result both in
       looks-usual c.args.bytes.now c.if-bytes-lt-USUAL_LENGTH.false
-      (sym c.are_between-date.ensures.between ∙ parts.0)
-      (sym c.are_between-clock.ensures.between ∙ parts.1);
+      (sym c.are_between-front.ensures.between ∙ parts.0)
+      (sym c.are_between-end.ensures.between ∙ parts.1);
 }
