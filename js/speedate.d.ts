@@ -34,7 +34,7 @@ export class SpeedateError extends RangeError {
   private constructor();
   readonly fault: Fault;
   /** The number of the fault in C. */ readonly code: number;
-  /** The text that is refused: of bytes a copy, and of a longer line what was looked at. */ readonly text?: Text;
+  /** The text that is refused: of bytes a copy, for a front of those that were looked at. */ readonly text?: Text;
   /** Where in the text the fault lies, as a Refusal has it. */ readonly place?: number;
   /** Of a line of a column its index, from 0. */ readonly index?: number;
 }
