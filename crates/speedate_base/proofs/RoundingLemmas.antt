@@ -188,8 +188,6 @@ pub rest-bounded : (up : Bool) (unit : ℕ) (digits : List ℕ) → list_all is_
 rest-bounded false unit digits all = (omega arith, rest-below unit digits all)
 rest-bounded true unit digits all = rest-up unit digits all
 
-pub ruleset rest_rules = (nat_tests)
-
 -- what sixteen digits spell
 pub sixteen-value : (digits : List ℕ) → 16 ≤ length digits
     → digits_value (take 16 digits)

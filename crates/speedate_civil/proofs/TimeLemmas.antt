@@ -1,7 +1,7 @@
 -- The text by which a time is printed is read as the time, where its offset is absent or whole
 -- minutes, whatever follows it that is no part of it.
-use Rattle.std.proofs.Common.{◌≡◌, ℕ, ◌+◌, ◌≤◌, Bool, true, false, List, [], ◌∷◌, ◌++◌, length, drop, ◌==◌, Option, ℤ, Result, Ok, refl, rules, arith, ◌∙◌, ap, sym, eqb-true, append-nil}
-use Rattle.speedate_civil.specs.Base.{Behavior, ParseError}
+use Rattle.std.proofs.Common.{◌≡◌, ℕ, ◌+◌, ◌≤◌, Bool, true, false, List, [], ◌∷◌, ◌++◌, length, ◌==◌, Ok, refl, rules, arith, ◌∙◌, ap, sym, eqb-true, append-nil}
+use Rattle.speedate_civil.specs.Base.{Behavior}
 use Rattle.std.specs.Char.{is_ascii_digit}
 use Rattle.speedate_base.specs.Ascii.{colon, full_stop}
 use Rattle.speedate_base.specs.Digits.{two_digit_text, six_digit_text, is_decimal_mark}
@@ -14,13 +14,11 @@ use Rattle.speedate_civil.specs.Time.{
   clock_front,
   minute_text,
   end_fault,
-  offset_front,
   offset_text,
   TimeOfDay,
   IsTime,
   time_front,
   time_answer,
-  clock_with_offset,
   clock_text,
   time_text,
   is_after_time,
@@ -28,14 +26,6 @@ use Rattle.speedate_civil.specs.Time.{
 use Rattle.speedate_base.proofs.RequirementLemmas.{whole_or_fault-whole}
 use Rattle.speedate_civil.proofs.ClockLemmas.{clock-whole, clock-fraction}
 use Rattle.speedate_civil.proofs.OffsetLemmas.{offset_text-first, offset_text-front}
-
--- what is read after a clock decides on the time
-pub time_front-after : (behavior : Behavior) (text : List ℕ) (clock : Clock)
-    (offset : Result (Option ℤ × ℕ) ParseError)
-    → Ok clock ≡ clock_front behavior text → offset ≡ offset_front (drop clock.size text)
-    → result_and_then (λ (after : Option ℤ × ℕ). Ok
-    (clock_with_offset clock after.0, clock.size + after.1)) offset ≡ time_front behavior text
-time_front-after behavior text clock offset read after = rw (sym read, after) refl
 
 -- a printed hour, before a clock that is read
 pub front-printed : (behavior : Behavior) (hour minute second : ℕ) (tail : List ℕ) (clock : Clock)

@@ -32,8 +32,8 @@ clock_after minute after = record {
 
 -- the time of a clock at the front of a text and the offset that follows it, and how many bytes it
 -- takes, or the fault of the offset
-abbrev pub time_with_offset : List ℕ → Clock → Result (TimeOfDay × ℕ) ParseError
-time_with_offset text clock = do
+abbrev pub time_after_clock : List ℕ → Clock → Result (TimeOfDay × ℕ) ParseError
+time_after_clock text clock = do
   offset ← offset_front (drop clock.size text)
   Ok (clock_with_offset clock offset.0, clock.size + offset.1)
 

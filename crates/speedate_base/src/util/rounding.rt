@@ -86,7 +86,7 @@ fn told_by_sixteen(digits: &[u8], unit: u64, up: bool) -> Option<u64>
 
 /// A lower and an upper bound of twice the microseconds of digits: 0 and 1,999,999 for `b"25"` of a
 /// second, rounded down, and 1 and 2,000,000, rounded up. Rounded up, both are 0 if all are zeros.
-#[tactic(auto, using(crate::proofs::RoundingLemmas::rest_rules))]
+#[tactic(auto, using(std::proofs::lemmas::Bool::Decides::nat_tests))]
 fn rest_bounds(digits: &[u8], unit: u64, up: bool) -> (u64, u64)
     requires digits { IsTrue (list_all is_ascii_digit digits.now) }
     requires unit { unit ≤ LARGEST_UNIT_MICROSECONDS }

@@ -13,7 +13,7 @@ ghost use Rattle.speedate_civil.specs.Standard.{
   strict_time_answer,
   IsFullTime,
 };
-ghost use Rattle.speedate_civil.specs.ParserParts.{time_with_offset};
+ghost use Rattle.speedate_civil.specs.ParserParts.{time_after_clock};
 ghost use Rattle.speedate_civil.specs.Time.{
   clock_parts,
   time_of_day,
@@ -184,7 +184,7 @@ impl Time {
         ensures minutes { IfOk result (λ front. IsWholeMinutes front.0.tz_offset) }
     {
         let clock = PureTime::parse(bytes, 0, behavior)?;
-        Self::with_offset(clock, bytes)
+        Self::after_clock(clock, bytes)
     }
 
     /// What [`Time::front`] does, for a text that begins as a clock with its second looks.
@@ -200,15 +200,15 @@ impl Time {
         ensures minutes { IfOk result (λ front. IsWholeMinutes front.0.tz_offset) }
     {
         let clock = PureTime::with_minute(first_eight(bytes), LANES, bytes, behavior)?;
-        Self::with_offset(clock, bytes)
+        Self::after_clock(clock, bytes)
     }
 
     /// The time of the clock at the front of a text and the offset that follows it, and how many bytes
     /// it takes.
     #[inline(always)]
-    fn with_offset(clock: PureTime, bytes: &[u8]) -> Result<(Self, usize), ParseError>
+    fn after_clock(clock: PureTime, bytes: &[u8]) -> Result<(Self, usize), ParseError>
         requires { clock.size ≤ length bytes.now }
-        ensures answer { result gives_front time_with_offset bytes.now (clock_parts clock) }
+        ensures answer { result gives_front time_after_clock bytes.now (clock_parts clock) }
         ensures within { IfOk result (λ front. front.1 ≤ length bytes.now) }
         ensures minutes { IfOk result (λ front. IsWholeMinutes front.0.tz_offset) }
     {
