@@ -1,7 +1,7 @@
 -- Where the hours of a clock end, and where no letter of a day stands: among digits, and in a
 -- clock.
-use Rattle.std.proofs.Common.{rules, arith, ◌∙◌, ap, sym, get_or, inl, inr, ap₂, ◌≡◌, ℕ, ◌-◌, ◌^◌, ◌<◌, min, Bool, true, false, List, length, take, ◌==◌, ◌&&◌, nat_lt, nat_le, refl, ◌+◌, ◌||◌, [], ◌∷◌, drop, if◌then◌else◌, Ok}
-use Rattle.speedate_civil.specs.Base.{Behavior}
+use Rattle.std.proofs.Common.{rules, arith, ◌∙◌, ap, sym, get_or, inl, inr, ap₂, ◌≡◌, ℕ, ◌-◌, ◌^◌, ◌<◌, ◌≤◌, min, Bool, true, false, List, length, take, ◌==◌, ◌&&◌, nat_lt, nat_le, refl, ◌+◌, ◌||◌, [], ◌∷◌, drop, if◌then◌else◌, Result, Ok, Err}
+use Rattle.speedate_civil.specs.Base.{Behavior, ParseError}
 use Rattle.std.specs.Char.{is_ascii_digit}
 use Rattle.std.specs.List.{list_all, list_any, prefix_len}
 use Rattle.std.proofs.lemmas.Bool.{cases_lt, eqb-true}
@@ -9,29 +9,32 @@ use Rattle.std.proofs.lemmas.Bool.Decides.{nat_tests}
 use Rattle.std.proofs.lemmas.List.{get_or_past, take-append-drop, drop_more, take_rest}
 use Rattle.std.proofs.lemmas.List.Sums.{position_or_len_is, passes_at_first, prefix_len_passes}
 use Rattle.speedate_base.specs.Ascii.{colon}
-use Rattle.speedate_base.specs.Digits.{run_length, digits_value, two_digits_at}
+use Rattle.speedate_base.specs.Digits.{run_length, run_value, digits_value, two_digits_at}
 use Rattle.speedate_base.proofs.DigitRunLemmas.{run_length-ended, run-whole}
 use Rattle.speedate_base.proofs.NumberLemmas.{run-digits}
 use Rattle.speedate.specs.ClockForm.{
   hours,
   colon_place,
   has_hours,
-  after_hours,
+  after_hours_or,
   from_minute,
   clock_end,
   hours_table,
   hours_range,
   rest_table,
   clock_numbers,
-  clock_form,
+  clock_form_or,
 }
 use Rattle.std.proofs.lemmas.List.Folds.{list_any-append}
-use Rattle.speedate_base.specs.Requirement.{◌implies◌, first_fault_or, result_and_then}
-use Rattle.speedate_base.proofs.RequirementLemmas.{
-  and_then-ok,
-  first_fault_or-ok,
-  first_fault_or-value,
+use Rattle.speedate_base.specs.Requirement.{
+  AllHold,
+  ◌implies◌,
+  first_refusal_or,
+  result_and_then,
+  shifted,
 }
+use Rattle.speedate_base.proofs.RefusalLemmas.{refusal-all, refusal-ok, refusal-value}
+use Rattle.speedate_base.proofs.RequirementLemmas.{and_then-ok}
 use Rattle.speedate_civil.specs.Time.{
   Clock,
   has_decimal_mark,
@@ -39,8 +42,8 @@ use Rattle.speedate_civil.specs.Time.{
   minute_clock,
   minute_digits,
   minute_table,
-  minute_front,
-  clock_answer,
+  minute_front_or,
+  clock_answer_or,
 }
 use Rattle.speedate.specs.DayForm.{is_day_letter}
 use Rattle.speedate.specs.Duration.{has_days}
@@ -82,19 +85,55 @@ has_hours-run text = has_hours-of text _ refl
 -- what the reader of hours cites
 pub ruleset hours_rules = (nat_tests, has_hours-run, colon_place-run)
 
--- a number of hours that does not fit 64 bits is refused like the largest that does
-pub after_hours-saturated : (behavior : Behavior) (hours : ℕ) (rest : List ℕ)
-    → after_hours behavior (min hours (2 ^ 64 - 1)) rest ≡ after_hours behavior hours rest
-after_hours-saturated behavior hours rest = elim (cases_lt hours (2 ^ 64)) [
-  | inl fits ↦
-      let same : min hours (2 ^ 64 - 1) ≡ hours =
-      omega (arith, fits) in ap (λ (n : ℕ). after_hours behavior n rest) same
-  | inr past ↦
-      let one : nat_le (min hours (2 ^ 64 - 1)) 2400000000 ≡ false =
-      grind (arith, nat_tests, past) in
-      let two : nat_le hours 2400000000 ≡ false = grind (arith, nat_tests, past) in
-      rw (one, two) refl
-]
+-- hours that are read are the digits that lead
+hours-count : (text : List ℕ) → AllHold (hours_table text)
+    → digits_value (hours text) ≡ run_value text 0
+hours-count text held =
+    ap (λ (n : ℕ). digits_value (take n text)) (sym (hours-run text held.1.0 held.1.1.1.0))
+
+-- if there are too many, the clock is refused
+pub clock-many : {E : Type 0} (refuse : ParseError → ℕ → E) (behavior : Behavior) (text : List ℕ)
+    (colon count : ℕ)
+    → Ok colon ≡ first_refusal_or refuse (hours_table text) (Ok (colon_place text))
+    → count ≡ min (run_value text 0) (2 ^ 64 - 1) → 2400000000 < count
+    → Err (refuse ParseError.DurationHourValueTooLarge 0) ≡ clock_form_or refuse behavior text
+unfolding clock_form_or
+clock-many refuse behavior text colon count read same more =
+    let all = digits_value (hours text) in
+    let held = refusal-value refuse (hours_table text) (colon_place text) colon (sym read) in
+    let hours_there = hours-count text held.0 in
+    let range : nat_le all 2400000000 ≡ false =
+    grind (arith, nat_tests, same, more, hours_there) in
+    let rest = after_hours_or (shifted (colon_place text + 1) refuse) behavior all
+    (from_minute text) in
+    sym (refusal-all refuse (hours_table text) (first_refusal_or refuse (hours_range all) rest)
+    held.0
+    ∙ ap (λ (holds : Bool). if holds then rest
+    else Err (refuse ParseError.DurationHourValueTooLarge 0)) range)
+
+-- otherwise what follows them decides
+pub clock-rest : {E : Type 0} (refuse : ParseError → ℕ → E) (behavior : Behavior) (text : List ℕ)
+    (colon count : ℕ)
+    → Ok colon ≡ first_refusal_or refuse (hours_table text) (Ok (colon_place text))
+    → count ≡ min (run_value text 0) (2 ^ 64 - 1) → count ≤ 2400000000
+    → after_hours_or (shifted (colon + 1) refuse) behavior count (drop (colon + 1) text)
+    ≡ clock_form_or refuse behavior text
+unfolding clock_form_or
+clock-rest refuse behavior text colon count read same few =
+    let all = digits_value (hours text) in
+    let held = refusal-value refuse (hours_table text) (colon_place text) colon (sym read) in
+    let hours_there = hours-count text held.0 in
+    let range : nat_le all 2400000000 ≡ true =
+    grind (arith, nat_tests, same, few, hours_there) in
+    let counted : count ≡ all = omega (arith, same, few, hours_there) in
+    let rest : ℕ → ℕ → Result UnsignedDuration _ =
+    λ colon count. after_hours_or (shifted (colon + 1) refuse) behavior count
+    (drop (colon + 1) text) in
+    ap (rest colon) counted ∙ ap (λ (colon : ℕ). rest colon all) (sym held.1)
+    ∙ sym (refusal-all refuse (hours_table text) (first_refusal_or refuse (hours_range all)
+    (rest (colon_place text) all)) held.0
+    ∙ ap (λ (holds : Bool). if holds then rest (colon_place text) all
+    else Err (refuse ParseError.DurationHourValueTooLarge 0)) range)
 
 digits-no_letter : (text : List ℕ) → list_all is_ascii_digit text ≡ true
     → list_any is_day_letter text ≡ false
@@ -153,28 +192,30 @@ colon-no_letter : (byte : ℕ) → (byte == colon) ≡ true → is_day_letter by
 colon-no_letter byte same = grind (arith, nat_tests)
 
 -- no letter stands in a clock, and it has five bytes at least
-pub clock-no_letter : (behavior : Behavior) (text : List ℕ) (value : UnsignedDuration)
-    → clock_form behavior text ≡ Ok value
+pub clock-no_letter : {E : Type 0} (refuse : ParseError → ℕ → E) (behavior : Behavior)
+    (text : List ℕ) (value : UnsignedDuration) → clock_form_or refuse behavior text ≡ Ok value
     → has_days text ≡ false
-unfolding clock_form
-clock-no_letter behavior text value same =
+unfolding clock_form_or
+clock-no_letter refuse behavior text value same =
     let first = colon_place text in
     let rest : List ℕ = from_minute text in
+    let inner = shifted (first + 1) refuse in
     let count = digits_value (hours text) in
-    let ends = λ (clock : Clock). clock_end clock rest in
-    let front = first_fault_or-ok (hours_table text) (after_hours behavior count rest) value same in
-    let whole_clock =
-    λ (clock : Clock). first_fault_or (ends clock) (Ok (clock_numbers count clock)) in
-    let clocks = result_and_then whole_clock (minute_front behavior rest) in
-    let range = first_fault_or-ok (hours_range count)
-    (first_fault_or (rest_table behavior rest) clocks) value front.1 in
-    let ranges = first_fault_or-ok (rest_table behavior rest) clocks value range.1 in
-    let read = and_then-ok whole_clock (minute_front behavior rest) value ranges.1 in
+    let whole_clock : Clock → Result UnsignedDuration _ =
+    λ clock. first_refusal_or inner (clock_end clock rest) (Ok (clock_numbers count clock)) in
+    let clocks = result_and_then whole_clock (minute_front_or inner behavior rest) in
+    let after = first_refusal_or inner (rest_table behavior rest) clocks in
+    let front = refusal-ok refuse (hours_table text)
+    (first_refusal_or refuse (hours_range count) after) value same in
+    let range = refusal-ok refuse (hours_range count) after value front.1 in
+    let ranges = refusal-ok inner (rest_table behavior rest) clocks value range.1 in
+    let read = and_then-ok whole_clock (minute_front_or inner behavior rest) value ranges.1 in
     let minute =
-    first_fault_or-ok (minute_digits rest) (clock_answer behavior rest) read.0 read.1 in
-    let clock = first_fault_or-value (minute_table behavior rest) (minute_clock rest)
+    refusal-ok inner (minute_digits rest) (clock_answer_or inner behavior rest) read.0 read.1 in
+    let clock = refusal-value inner (minute_table behavior rest) (minute_clock rest)
     read.0 minute.1 in
-    let whole = first_fault_or-ok (ends read.0) (Ok (clock_numbers count read.0)) value read.2 in
+    let whole = refusal-ok inner (clock_end read.0 rest) (Ok (clock_numbers count read.0)) value
+    read.2 in
     let sized = ap (λ (clock : Clock). clock.size == length rest) clock.1 ∙ whole.0.0 in
     let none = minute-no_letter rest minute.0.0 clock.0.1.0 sized in
     let within : first < length text = grind (arith, nat_tests, front.0.1.0) in

@@ -1,13 +1,13 @@
 -- How the answer to an ISO 8601 duration goes on from item to item.
-use Rattle.std.proofs.Common.{rules, arith, ap, sym, ◌∙◌, lt_irrefl, ◌≡◌, ℕ, zero, suc, ◌-◌, ◌<◌, Bool, false, not, List, [], ◌∷◌, ◌++◌, length, drop, slice_index, if◌then◌else◌, Result, Ok, Err, refl}
+use Rattle.std.proofs.Common.{rules, arith, ap, sym, ◌∙◌, lt_irrefl, ◌≡◌, ℕ, zero, suc, ◌-◌, ◌<◌, Bool, false, not, List, [], ◌∷◌, ◌++◌, ◌==◌, length, drop, slice_index, if◌then◌else◌, Result, Ok, Err, refl}
 use Rattle.speedate_civil.specs.Base.{Behavior, IsoOrder, ParseError}
 use Rattle.std.proofs.Math.Seq.{drop-append_seam}
 use Rattle.std.proofs.lemmas.List.{length-append}
 use Rattle.speedate_base.specs.Ascii.{capital_p, capital_t}
-use Rattle.speedate_base.specs.Numbers.{IsSign}
+use Rattle.speedate_base.specs.Numbers.{IsSign, has_minus, sign_size}
 use Rattle.speedate_base.specs.Requirement.{first_fault_or, result_and_then}
 use Rattle.speedate_base.proofs.RequirementLemmas.{first_fault_or-all, first_fault_or-and_then}
-use Rattle.speedate.specs.Duration.{iso_after, iso_from, iso_form, unsigned_answer, duration_answer}
+use Rattle.speedate.specs.Duration.{iso_after, iso_after_or, iso_from, iso_form, form_answer, unsigned_answer_or, duration_answer}
 use Rattle.speedate.specs.DurationNumbers.{signed_form}
 use Rattle.speedate.specs.IsoForm.{
   Item,
@@ -19,12 +19,11 @@ use Rattle.speedate.specs.IsoForm.{
   with_item,
   sums_amount,
 }
-use Rattle.speedate.specs.IsoParts.{item_front}
 
 -- the answer after the bytes of an item
 pub iso_after-skipped : (skipped : ℕ) (sums : IsoSums) (text : List ℕ)
     → iso_after skipped sums text ≡ iso_from sums (drop skipped text)
-unfolding iso_after
+unfolding iso_after_or
 iso_after-skipped zero sums text = refl
 iso_after-skipped (suc skipped) sums [] = refl
 iso_after-skipped (suc skipped) sums (byte ∷ text) = iso_after-skipped skipped sums text
@@ -38,7 +37,7 @@ item_text-some item = search (rules, length-append)
 pub iso_from-step : (sums : IsoSums) (text : List ℕ) → 0 < length text
     → iso_from sums text ≡ first_fault_or (item_table sums (item_at text))
     (iso_from (with_item (item_at text) sums) (drop (length (item_text (item_at text))) text))
-unfolding iso_after
+unfolding iso_after_or
 iso_from-step sums [] some = absurd (lt_irrefl 0 some)
 iso_from-step sums (byte ∷ rest) some =
     let item = item_at (byte ∷ rest) in
@@ -48,17 +47,11 @@ iso_from-step sums (byte ∷ rest) some =
     (iso_after-skipped (size - 1) (with_item item sums) rest
     ∙ ap (λ (n : ℕ). iso_from (with_item item sums) (drop n (byte ∷ rest))) one)
 
--- so its answer goes on from the sums and the place after that item, or is its fault
-pub iso_from-front : (sums : IsoSums) (text : List ℕ) (front : Result (IsoSums × ℕ) ParseError)
-    → 0 < length text → front ≡ item_front sums (item_at text)
-    → result_and_then (λ next. iso_from next.0 (drop next.1 text)) front ≡ iso_from sums text
-iso_from-front sums text front some same = search (rules, first_fault_or-and_then, iso_from-step)
-
 -- and where nothing is left, it is what the items add up to
 pub iso_from-end : (sums : IsoSums) (text : List ℕ) → length text ≡ 0
     → iso_from sums text ≡ (if sums.has_component then Ok (sums_amount sums)
     else Err ParseError.TooShort)
-unfolding iso_after
+unfolding iso_after_or
 iso_from-end sums [] none = refl
 iso_from-end sums (byte ∷ rest) none = absurd (cc)
 
@@ -80,10 +73,20 @@ iso_from-time sums (byte ∷ rest) first none =
     ∙ iso_from-item sums TimeDesignator rest refl
     ∙ first_fault_or-all (item_table sums TimeDesignator) _ (ap not none, tt))
 
+-- the answer by the form of the text
+pub duration_answer-form : (order : IsoOrder) (behavior : Behavior) (text : List ℕ)
+    → duration_answer order behavior text
+    ≡ result_and_then (signed_form (not (has_minus text)))
+    (if slice_index (drop (sign_size text) text) 0 == capital_p
+    then iso_form order (drop 1 (drop (sign_size text) text))
+    else form_answer behavior (drop (sign_size text) text))
+unfolding unsigned_answer_or
+duration_answer-form order behavior text = refl
+
 -- after a sign and a `P` the answer is that of ISO 8601
 pub duration_answer-iso : (order : IsoOrder) (behavior : Behavior) (negative : Bool)
     (sign body : List ℕ) → IsSign negative sign
     → duration_answer order behavior (sign ++ capital_p ∷ body)
     ≡ result_and_then (signed_form (not negative)) (iso_form order body)
-unfolding unsigned_answer
-duration_answer-iso order behavior negative sign body is = search (rules)
+duration_answer-iso order behavior negative sign body is =
+    duration_answer-form order behavior (sign ++ capital_p ∷ body) ∙ search rules

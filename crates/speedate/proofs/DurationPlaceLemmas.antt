@@ -1,272 +1,444 @@
--- The whole table of durations: its answer is that of the grammar, and which of its parts has the
--- place.
-use Rattle.std.proofs.Common.{◌≡◌, ◌<◌, ◌+◌, ◌∙◌, ◌==◌, ◌++◌, ℕ, zero, suc, nat_lt, Bool, true, false, not, List, [], ◌∷◌, length, drop, slice_index, if◌then◌else◌, Option, Some, Result, Ok, Err, is_err, is_some, refl, sym, ap, rules}
+-- Durations with another refusal: those with a place have the faults of the grammar. And how the items
+-- of an ISO 8601 duration follow one another, with any refusal.
+use Rattle.std.proofs.Common.{◌≡◌, ◌≤◌, ◌<◌, ◌+◌, ◌-◌, ◌∙◌, ◌==◌, ℕ, zero, suc, Bool, true, false, not, List, [], ◌∷◌, length, drop, slice_index, if◌then◌else◌, Option, Some, None, Result, Ok, Err, IsOk, refl, sym, ap, subst, rules, arith, lt_irrefl}
 use Rattle.std.specs.Option.{option_map}
 use Rattle.std.proofs.lemmas.Bool.Decides.{nat_tests}
+use Rattle.std.proofs.lemmas.List.{length-drop}
 use Rattle.speedate_civil.specs.Base.{Behavior, IsoOrder, ParseError}
-use Rattle.speedate_base.specs.Ascii.{capital_p}
+use Rattle.speedate_base.specs.Ascii.{capital_p, capital_t}
+use Rattle.speedate_base.specs.Digits.{digits_value, run_value}
 use Rattle.speedate_base.specs.Numbers.{has_minus, sign_size}
+use Rattle.speedate_base.specs.Refused.{placed, refused_place}
+use Rattle.speedate_base.specs.declared.refusal.Refused.{Refused}
 use Rattle.speedate_base.specs.Requirement.{
-  IsAnswerOf,
   TextRow,
-  all_at_byte,
-  ◌at_byte◌,
-  ◌else_fault◌,
-  first_fault_or,
+  fault_alone,
   first_place,
-  moved,
+  first_refusal_or,
+  refusal_map,
   result_and_then,
+  shifted,
 }
-use Rattle.speedate_base.proofs.RequirementLemmas.{
-  first_fault_or-and_then,
-  first_fault_or-append,
-  first_fault_or-moved,
-  first_place-moved,
-  is_answer_of-is_some,
+use Rattle.speedate_base.proofs.RefusalLemmas.{
+  chain-view,
+  first_refusal_or-next,
+  first_refusal_or-view,
+  refusal-all,
+  refusal-value,
+  shifted-none,
+  shifted-shifted,
+  then-view,
+  through,
 }
-use Rattle.speedate.specs.ClockForm.{clock_form}
-use Rattle.speedate.specs.DayForm.{day_form}
+use Rattle.speedate_civil.specs.Time.{Clock, minute_clock, minute_digits, minute_front_or, minute_table}
+use Rattle.speedate.specs.ClockForm.{
+  clock_end,
+  clock_form_or,
+  clock_numbers,
+  colon_place,
+  from_minute,
+  hours,
+  hours_range,
+  hours_table,
+  rest_table,
+}
+use Rattle.speedate.specs.DayForm.{
+  after_days_or,
+  day_form_or,
+  days_size,
+  days_table,
+  hours_of_day,
+}
 use Rattle.speedate.specs.Duration.{
-  duration_answer,
-  form_answer,
+  duration_answer_or,
+  form_answer_or,
   has_days,
+  iso_after_or,
   iso_form,
-  unsigned_answer,
+  iso_form_or,
+  iso_from,
+  iso_from_or,
+  signed_form_or,
+  unsigned_answer_or,
 }
 use Rattle.speedate.specs.DurationNumbers.{
   DurationNumbers,
   UnsignedDuration,
   amount_microseconds,
-  has_days_up_to,
-  has_seconds_up_to,
   normal_table,
   of_amount,
-  signed_form,
 }
 use Rattle.speedate.specs.DurationPlace.{
   amount_numbers,
+  amount_place,
   at_bytes,
-  clock_amount,
-  clock_form_table,
-  day_form_table,
-  days_amount,
-  duration_table,
-  first_item,
-  form_amount,
-  form_table,
-  iso_table,
-  items_table,
+  first_item_after,
   normal_places,
-  placed_items,
-  unsigned_table,
-  with_placed_items,
 }
-use Rattle.speedate.specs.IsoForm.{no_sums, sums_amount}
-use Rattle.speedate.proofs.IsoPlaceLemmas.{iso_after-table, sums_answer}
-use Rattle.speedate.proofs.FormPlaceLemmas.{by_cases, clock_form-table, day_form-table}
+use Rattle.speedate.specs.IsoForm.{
+  IsoSums,
+  Item,
+  TimeDesignator,
+  item_at,
+  item_table,
+  item_text,
+  no_sums,
+  sums_amount,
+  with_item,
+}
+use Rattle.speedate.specs.IsoParts.{IsIsoRead, item_front_or}
+use Rattle.speedate.proofs.DurationAnswerLemmas.{item_text-some}
 
--- an answer to a text that is not empty
-if_some : {A : Type 0} (size : ℕ) (rows : List TextRow) (value : A) (answer : Result A ParseError)
-    → answer ≡ first_fault_or rows (Ok value)
-    → (if size == 0 then Err ParseError.TooShort else answer)
-    ≡ first_fault_or ((nat_lt 0 size else_fault ParseError.TooShort at_byte 0) ∷ rows) (Ok value)
-if_some zero rows value answer same = refl
-if_some (suc size) rows value answer same = search (rules, nat_tests, same)
+-- An answer with its refusal seen in another way is that of this refusal.
 
--- and a text that is one of them
-pub form_answer-table : (behavior : Behavior) (text : List ℕ)
-    → form_answer behavior text
-    ≡ first_fault_or (form_table behavior text) (Ok (form_amount text))
-unfolding form_answer form_table
-form_answer-table behavior text =
-    if_some (length text)
-    (if has_days text then day_form_table behavior text else clock_form_table behavior text)
-    (form_amount text)
-    (if has_days text then day_form behavior text else clock_form behavior text)
-    (by_cases (has_days text) (day_form_table behavior text) (clock_form_table behavior text)
-    (days_amount text) (clock_amount text) (day_form behavior text) (clock_form behavior text)
-    (day_form-table behavior text) (clock_form-table behavior text))
+-- an answer by cases
+if-view : {A E D : Type 0} (view : E → D) (test : Bool) (one other : Result A E)
+    (seen next : Result A D) → refusal_map view one ≡ seen → refusal_map view other ≡ next
+    → refusal_map view (if test then one else other) ≡ (if test then seen else next)
+if-view view true one other seen next same differs = same
+if-view view false one other seen next same differs = differs
 
--- the normal form of an amount
-abbrev pub normal_value : Bool → UnsignedDuration → DurationNumbers
-normal_value positive amount =
-    of_amount positive (amount_microseconds (amount_numbers amount))
+pub iso_after-view : {E D : Type 0} (view : E → D) (refuse : ParseError → ℕ → E) (skipped : ℕ)
+    (sums : IsoSums) (text : List ℕ)
+    → refusal_map view (iso_after_or refuse skipped sums text)
+    ≡ iso_after_or (through view refuse) skipped sums text
+unfolding iso_after_or
+iso_after-view view refuse skipped sums [] =
+    if-view view sums.has_component (Ok (sums_amount sums)) (Err (refuse ParseError.TooShort 0))
+    (Ok (sums_amount sums)) (Err (view (refuse ParseError.TooShort 0))) refl refl
+iso_after-view view refuse zero sums (byte ∷ rest) =
+    let item = item_at (byte ∷ rest) in
+    chain-view view refuse (item_table sums item) _ _
+    (iso_after-view view (shifted 1 refuse) (length (item_text item) - 1) (with_item item sums) rest)
+iso_after-view view refuse (suc skipped) sums (byte ∷ rest) =
+    iso_after-view view (shifted 1 refuse) skipped sums rest
 
--- the normal form of days and clocks
-pub form-table : (positive : Bool) (behavior : Behavior) (text : List ℕ)
-    → result_and_then (signed_form positive) (form_answer behavior text)
-    ≡ first_fault_or (form_table behavior text
-    ++ all_at_byte 0 (normal_table (amount_numbers (form_amount text))))
-    (Ok (normal_value positive (form_amount text)))
-form-table positive behavior text =
-    let amount = form_amount text in
-    ap (result_and_then (signed_form positive)) (form_answer-table behavior text)
-    ∙ first_fault_or-and_then (signed_form positive) (form_table behavior text) (Ok amount)
-    ∙ sym (first_fault_or-append (form_table behavior text)
-    (all_at_byte 0 (normal_table (amount_numbers amount))) (Ok (normal_value positive amount)))
+minute_front-view : {E D : Type 0} (view : E → D) (refuse : ParseError → ℕ → E)
+    (behavior : Behavior) (rest : List ℕ)
+    → refusal_map view (minute_front_or refuse behavior rest)
+    ≡ minute_front_or (through view refuse) behavior rest
+minute_front-view view refuse behavior rest =
+    chain-view view refuse (minute_digits rest) _ _
+    (first_refusal_or-view view refuse (minute_table behavior rest) (Ok (minute_clock rest)))
 
--- the normal form of sums, if there is a component
-sums-table : (positive some : Bool) (amount : UnsignedDuration) (size first second third : ℕ)
-    → result_and_then (signed_form positive)
-    (if some then Ok amount else Err ParseError.TooShort)
-    ≡ first_fault_or ((some else_fault ParseError.TooShort at_byte size)
-    ∷ at_bytes (first ∷ second ∷ third ∷ []) (normal_table (amount_numbers amount)))
-    (Ok (normal_value positive amount))
-sums-table positive true amount size first second third = refl
-sums-table positive false amount size first second third = refl
+clock_form-view : {E D : Type 0} (view : E → D) (refuse : ParseError → ℕ → E)
+    (behavior : Behavior) (text : List ℕ)
+    → refusal_map view (clock_form_or refuse behavior text)
+    ≡ clock_form_or (through view refuse) behavior text
+unfolding clock_form_or
+clock_form-view view refuse behavior text =
+    let rest = from_minute text in
+    let count = digits_value (hours text) in
+    let inner = shifted (colon_place text + 1) refuse in
+    chain-view view refuse (hours_table text) _ _
+    (chain-view view refuse (hours_range count) _ _
+    (chain-view view inner (rest_table behavior rest) _ _
+    (then-view view _ _ _ _
+    (λ (clock : Clock). first_refusal_or-view view inner (clock_end clock rest)
+    (Ok (clock_numbers count clock)))
+    (minute_front-view view inner behavior rest))))
 
--- the amount of an ISO 8601 duration after its `P`
-abbrev pub iso_amount : IsoOrder → List ℕ → UnsignedDuration
-iso_amount order text = sums_amount (with_placed_items (placed_items text) (no_sums order))
+after_days-view : {E D : Type 0} (view : E → D) (refuse : ParseError → ℕ → E)
+    (behavior : Behavior) (days : ℕ) (rest : List ℕ)
+    → refusal_map view (after_days_or refuse behavior days rest)
+    ≡ after_days_or (through view refuse) behavior days rest
+unfolding after_days_or
+after_days-view view refuse behavior days rest =
+    if-view view (length rest == 0) _ _ _ _ refl
+    (then-view view _ _ _ _
+    (λ (clock : UnsignedDuration). first_refusal_or-view view refuse (hours_of_day clock.day)
+    (Ok (record clock { day = days })))
+    (clock_form-view view refuse behavior rest))
 
--- the normal form of an ISO 8601 duration
-iso-table : (positive : Bool) (order : IsoOrder) (text : List ℕ)
-    → result_and_then (signed_form positive) (iso_form order text)
-    ≡ first_fault_or (iso_table order text) (Ok (normal_value positive (iso_amount order text)))
-unfolding iso_table
-iso-table positive order text =
-    let none = no_sums order in
-    let items = placed_items text in
-    let sums = with_placed_items items none in
-    let end = sums_answer sums in
-    let rows = (sums.has_component else_fault ParseError.TooShort at_byte length text)
-    ∷ at_bytes (normal_places none items) (normal_table (amount_numbers (sums_amount sums))) in
-    let value = normal_value positive (sums_amount sums) in
-    ap (result_and_then (signed_form positive)) (iso_after-table 0 0 none text)
-    ∙ first_fault_or-and_then (signed_form positive) (items_table none items) end
-    ∙ ap (first_fault_or (items_table none items)) (sums-table positive sums.has_component
-    (sums_amount sums) (length text) (first_item (has_seconds_up_to 4294967295) none items)
-    (first_item (has_days_up_to 4294967295) none items)
-    (first_item (has_days_up_to 999999999) none items))
-    ∙ sym (first_fault_or-append (items_table none items) rows (Ok value))
+day_form-view : {E D : Type 0} (view : E → D) (refuse : ParseError → ℕ → E)
+    (behavior : Behavior) (text : List ℕ)
+    → refusal_map view (day_form_or refuse behavior text)
+    ≡ day_form_or (through view refuse) behavior text
+unfolding day_form_or
+day_form-view view refuse behavior text =
+    then-view view _ _ _ _
+    (λ (days : ℕ × ℕ). after_days-view view (shifted days.1 refuse) behavior days.0
+    (drop days.1 text))
+    (first_refusal_or-view view refuse (days_table text) (Ok (run_value text 0, days_size text)))
 
--- the amount of a duration after its sign
-abbrev pub unsigned_amount : IsoOrder → List ℕ → UnsignedDuration
-unsigned_amount order text =
-    if slice_index text 0 == capital_p then iso_amount order (drop 1 text) else form_amount text
+form_answer-view : {E D : Type 0} (view : E → D) (refuse : ParseError → ℕ → E)
+    (behavior : Behavior) (text : List ℕ)
+    → refusal_map view (form_answer_or refuse behavior text)
+    ≡ form_answer_or (through view refuse) behavior text
+unfolding form_answer_or
+form_answer-view view refuse behavior text =
+    if-view view (length text == 0) _ _ _ _ refl
+    (if-view view (has_days text) _ _ _ _ (day_form-view view refuse behavior text)
+    (clock_form-view view refuse behavior text))
 
-iso_or_form : (positive test : Bool) (rows others : List TextRow) (value other : UnsignedDuration)
-    (answer next : Result UnsignedDuration ParseError)
-    → result_and_then (signed_form positive) answer
-    ≡ first_fault_or rows (Ok (normal_value positive value))
-    → result_and_then (signed_form positive) next
-    ≡ first_fault_or others (Ok (normal_value positive other))
-    → result_and_then (signed_form positive) (if test then answer else next)
-    ≡ first_fault_or (if test then rows else others)
-    (Ok (normal_value positive (if test then value else other)))
-iso_or_form positive true rows others value other answer next same differs = same
-iso_or_form positive false rows others value other answer next same differs = differs
+unsigned_answer-view : {E D : Type 0} (view : E → D) (refuse : ParseError → ℕ → E)
+    (order : IsoOrder) (behavior : Behavior) (text : List ℕ)
+    → refusal_map view (unsigned_answer_or refuse order behavior text)
+    ≡ unsigned_answer_or (through view refuse) order behavior text
+unfolding unsigned_answer_or
+unsigned_answer-view view refuse order behavior text =
+    if-view view (slice_index text 0 == capital_p) _ _ _ _
+    (iso_after-view view (shifted 1 refuse) 0 (no_sums order) (drop 1 text))
+    (form_answer-view view refuse behavior text)
 
-unsigned-table : (positive : Bool) (order : IsoOrder) (behavior : Behavior) (text : List ℕ)
-    → result_and_then (signed_form positive) (unsigned_answer order behavior text)
-    ≡ first_fault_or (unsigned_table order behavior text)
-    (Ok (normal_value positive (unsigned_amount order text)))
-unfolding unsigned_answer unsigned_table
-unsigned-table positive order behavior text =
-    let body = drop 1 text in
-    iso_or_form positive (slice_index text 0 == capital_p) (moved 1 (iso_table order body))
-    (form_table behavior text ++ all_at_byte 0 (normal_table (amount_numbers (form_amount text))))
-    (iso_amount order body) (form_amount text) (iso_form order body) (form_answer behavior text)
-    (iso-table positive order body ∙ sym (first_fault_or-moved 1 (iso_table order body)
-    (Ok (normal_value positive (iso_amount order body)))))
-    (form-table positive behavior text)
-
--- a duration is what its whole table lets through
-pub duration_answer-table : (order : IsoOrder) (behavior : Behavior) (text : List ℕ)
-    → IsAnswerOf (duration_table order behavior text) (duration_answer order behavior text)
-unfolding duration_table
-duration_answer-table order behavior text =
+pub duration_answer-view : {E D : Type 0} (view : E → D) (refuse : ParseError → ℕ → E)
+    (order : IsoOrder) (behavior : Behavior) (text : List ℕ)
+    → refusal_map view (duration_answer_or refuse order behavior text)
+    ≡ duration_answer_or (through view refuse) order behavior text
+duration_answer-view view refuse order behavior text =
     let size = sign_size text in
     let rest = drop size text in
-    let positive = not (has_minus text) in
-    let value = normal_value positive (unsigned_amount order rest) in (
-      value,
-      unsigned-table positive order behavior rest
-          ∙ sym (first_fault_or-moved size (unsigned_table order behavior rest) (Ok value)),
-    )
+    let places = normal_places (amount_place order rest) in
+    then-view view _ _ _ _
+    (λ (amount : UnsignedDuration). first_refusal_or-view view (shifted size refuse)
+    (at_bytes places (normal_table (amount_numbers amount)))
+    (Ok (of_amount (not (has_minus text)) (amount_microseconds (amount_numbers amount)))))
+    (unsigned_answer-view view (shifted size refuse) order behavior rest)
 
--- so a text has a place if and only if it is refused
-pub duration-is_some : (order : IsoOrder) (behavior : Behavior) (text : List ℕ)
-    → is_some (first_place (duration_table order behavior text))
-    ≡ is_err (duration_answer order behavior text)
-duration-is_some order behavior text =
-    is_answer_of-is_some (duration_table order behavior text)
-    (duration_answer order behavior text) (duration_answer-table order behavior text)
+-- The items of an ISO 8601 duration, with any refusal.
 
--- The places of parts.
+-- what follows the bytes of an item
+iso_after-rest : {E : Type 0} (refuse : ParseError → ℕ → E) (skipped : ℕ) (sums : IsoSums)
+    (text : List ℕ) → skipped ≤ length text
+    → iso_after_or refuse skipped sums text
+    ≡ iso_from_or (shifted skipped refuse) sums (drop skipped text)
+unfolding iso_after_or
+iso_after-rest refuse zero sums text within =
+    ap (λ (refuse : ParseError → ℕ → _). iso_from_or refuse sums text) (sym (shifted-none refuse))
+iso_after-rest refuse (suc skipped) sums [] within = absurd (omega arith)
+iso_after-rest refuse (suc skipped) sums (byte ∷ rest) within =
+    let one : 1 + skipped ≡ suc skipped = omega arith in
+    iso_after-rest (shifted 1 refuse) skipped sums rest (omega arith)
+    ∙ ap (λ (refuse : ParseError → ℕ → _). iso_from_or refuse sums (drop skipped rest))
+    (shifted-shifted 1 skipped refuse)
+    ∙ ap (λ (n : ℕ). iso_from_or (shifted n refuse) sums (drop skipped rest)) one
 
--- a text that is empty has the place of its end
-pub form-place-none : (behavior : Behavior) (text : List ℕ) (next : List TextRow)
-    → length text ≡ 0 → Some 0 ≡ first_place (form_table behavior text ++ next)
-unfolding form_table
-form-place-none behavior text next none = search (rules, nat_tests)
+-- an item that is read leads to what follows it
+pub iso_from-read : {E : Type 0} (refuse : ParseError → ℕ → E) (sums next : IsoSums)
+    (text : List ℕ) (size : ℕ) → 0 < length text → size ≤ length text
+    → Ok (next, size) ≡ item_front_or refuse sums (item_at text)
+    → iso_from_or refuse sums text ≡ iso_from_or (shifted size refuse) next (drop size text)
+unfolding iso_after_or
+iso_from-read refuse sums next [] size some within read = absurd (lt_irrefl 0 some)
+iso_from-read refuse sums next (byte ∷ rest) size some within read =
+    let item = item_at (byte ∷ rest) in
+    let later = with_item item sums in
+    let skipped = length (item_text item) - 1 in
+    let held = refusal-value {A = IsoSums × ℕ} refuse (item_table sums item)
+    (later, length (item_text item)) (next, size) (sym read) in
+    let sized : length (item_text item) ≡ size =
+    ap (λ (front : IsoSums × ℕ). front.1) held.1 in
+    let one : 1 + skipped ≡ size = omega (arith, sized, item_text-some item) in
+    let more : suc skipped ≡ size = omega (arith, sized, item_text-some item) in
+    let few : skipped ≤ length rest = omega (arith, sized, within, item_text-some item) in
+    refusal-all refuse (item_table sums item)
+    (iso_after_or (shifted 1 refuse) skipped later rest) held.0
+    ∙ iso_after-rest (shifted 1 refuse) skipped later rest few
+    ∙ ap (λ (refuse : ParseError → ℕ → _). iso_from_or refuse later (drop skipped rest))
+    (shifted-shifted 1 skipped refuse)
+    ∙ ap (λ (n : ℕ). iso_from_or (shifted n refuse) later (drop skipped rest)) one
+    ∙ ap (λ (n : ℕ). iso_from_or (shifted size refuse) later (drop n (byte ∷ rest))) more
+    ∙ ap (λ (front : IsoSums × ℕ). iso_from_or (shifted size refuse) front.0
+    (drop size (byte ∷ rest))) held.1
 
-choice : (days : Bool) (rows : UnsignedDuration → List TextRow) (one other : UnsignedDuration)
-    → (if days then rows one else rows other) ≡ rows (if days then one else other)
-choice true rows one other = refl
-choice false rows one other = refl
+-- one that is refused decides
+pub iso_from-refused : {E : Type 0} (refuse : ParseError → ℕ → E) (sums : IsoSums)
+    (text : List ℕ) (refused : E) → 0 < length text
+    → Err refused ≡ item_front_or refuse sums (item_at text)
+    → Err refused ≡ iso_from_or refuse sums text
+unfolding iso_after_or
+iso_from-refused refuse sums [] refused some same = absurd (lt_irrefl 0 some)
+iso_from-refused refuse sums (byte ∷ rest) refused some same =
+    let item = item_at (byte ∷ rest) in
+    first_refusal_or-next {A = IsoSums × ℕ} refuse (item_table sums item)
+    (with_item item sums, length (item_text item)) (Err refused)
+    (iso_after_or (shifted 1 refuse) (length (item_text item) - 1) (with_item item sums) rest) same
 
-form_cases : (size : ℕ) (days : Bool) (rows others next more : List TextRow) → 0 < size
-    → first_place (if days then rows ++ next else others ++ more)
-    ≡ first_place (((nat_lt 0 size else_fault ParseError.TooShort at_byte 0)
-    ∷ (if days then rows else others)) ++ (if days then next else more))
-form_cases size true rows others next more some = search (rules, nat_tests)
-form_cases size false rows others next more some = search (rules, nat_tests)
+-- and where nothing is left, so does whether there is a component
+pub iso_from-done : {E : Type 0} (refuse : ParseError → ℕ → E) (sums : IsoSums) (text : List ℕ)
+    → length text ≡ 0
+    → iso_from_or refuse sums text
+    ≡ (if sums.has_component then Ok (sums_amount sums) else Err (refuse ParseError.TooShort 0))
+unfolding iso_after_or
+iso_from-done refuse sums [] none = refl
+iso_from-done refuse sums (byte ∷ rest) none = absurd (omega (arith, none))
 
--- otherwise it has that of its days, or of its clock
-pub form-place : (behavior : Behavior) (text : List ℕ) (place : Option ℕ) → 0 < length text
-    → place ≡ first_place (if has_days text
-    then day_form_table behavior text
-    ++ all_at_byte 0 (normal_table (amount_numbers (days_amount text)))
-    else clock_form_table behavior text
-    ++ all_at_byte 0 (normal_table (amount_numbers (clock_amount text))))
-    → place ≡ first_place (form_table behavior text
-    ++ all_at_byte 0 (normal_table (amount_numbers (form_amount text))))
-unfolding form_table
-form-place behavior text place some same =
-    let normal : UnsignedDuration → List TextRow =
-    λ amount. all_at_byte 0 (normal_table (amount_numbers amount)) in
-    let rows =
-    if has_days text then day_form_table behavior text else clock_form_table behavior text in
-    same ∙ form_cases (length text) (has_days text) (day_form_table behavior text)
-    (clock_form_table behavior text) (normal (days_amount text)) (normal (clock_amount text)) some
-    ∙ ap (λ next. first_place (((nat_lt 0 (length text) else_fault ParseError.TooShort at_byte 0)
-    ∷ rows) ++ next))
-    (choice (has_days text) normal (days_amount text) (clock_amount text))
+-- an answer that two texts have with a place they have with any refusal
+pub iso_from-any : {E : Type 0} (refuse : ParseError → ℕ → E) (start : ℕ) (sums next : IsoSums)
+    (text rest : List ℕ)
+    → iso_from_or (shifted start placed) next rest ≡ iso_from_or placed sums text
+    → iso_from_or (shifted start refuse) next rest ≡ iso_from_or refuse sums text
+iso_from-any refuse start sums next text rest same =
+    let view : Refused → _ = λ refused. refuse refused.fault refused.place in
+    sym (iso_after-view view (shifted start placed) 0 next rest)
+    ∙ ap (refusal_map view) same ∙ iso_after-view view placed 0 sums text
 
--- a duration that begins with `P` has the place of what follows
-pub unsigned-place-iso : (order : IsoOrder) (behavior : Behavior) (text : List ℕ)
-    (place : Option ℕ) → (slice_index text 0 == capital_p) ≡ true
-    → place ≡ first_place (iso_table order (drop 1 text))
-    → option_map (λ place. 1 + place) place ≡ first_place (unsigned_table order behavior text)
-unfolding unsigned_table
-unsigned-place-iso order behavior text place iso same =
-    ap (option_map (λ place. 1 + place)) same
-    ∙ sym (first_place-moved 1 (iso_table order (drop 1 text)))
-    ∙ ap (λ (iso : Bool). first_place (if iso then moved 1 (iso_table order (drop 1 text))
-    else form_table behavior text
-    ++ all_at_byte 0 (normal_table (amount_numbers (form_amount text))))) (sym iso)
+-- an item that is read is read with any refusal
+pub item_front-any : {E D : Type 0} (refuse : ParseError → ℕ → E) (other : ParseError → ℕ → D)
+    (sums : IsoSums) (item : Item) (front : IsoSums × ℕ)
+    → Ok front ≡ item_front_or refuse sums item → Ok front ≡ item_front_or other sums item
+item_front-any refuse other sums item front read =
+    let given : IsoSums × ℕ = (with_item item sums, length (item_text item)) in
+    let held = refusal-value refuse (item_table sums item) given front (sym read) in
+    ap (λ (front : IsoSums × ℕ). Ok front) (sym held.1)
+    ∙ sym (refusal-all other (item_table sums item) (Ok given) held.0)
 
-pub unsigned-place-form : (order : IsoOrder) (behavior : Behavior) (text : List ℕ)
-    (place : Option ℕ) → (slice_index text 0 == capital_p) ≡ false
-    → place ≡ first_place (form_table behavior text
-    ++ all_at_byte 0 (normal_table (amount_numbers (form_amount text))))
-    → place ≡ first_place (unsigned_table order behavior text)
-unfolding unsigned_table
-unsigned-place-form order behavior text place other same =
-    same ∙ ap (λ (iso : Bool). first_place (if iso then moved 1 (iso_table order (drop 1 text))
-    else form_table behavior text
-    ++ all_at_byte 0 (normal_table (amount_numbers (form_amount text))))) (sym other)
+-- The text that is left ends where the whole does, so its length tells where it begins.
 
--- and after a sign, the place of the rest
-pub duration-place-at : (order : IsoOrder) (behavior : Behavior) (text : List ℕ) (size : ℕ)
-    (place : Option ℕ) → size ≡ sign_size text
-    → place ≡ first_place (unsigned_table order behavior (drop size text))
-    → option_map (λ place. size + place) place ≡ first_place (duration_table order behavior text)
-unfolding duration_table
-duration-place-at order behavior text size place sign same =
-    let rows : ℕ → List TextRow =
-    λ size. moved size (unsigned_table order behavior (drop size text)) in
-    ap (option_map (λ place. size + place)) same
-    ∙ sym (first_place-moved size (unsigned_table order behavior (drop size text)))
-    ∙ ap (λ (size : ℕ). first_place (rows size)) sign
+-- an item that is read leads to what follows it
+pub iso_from-next : {E D : Type 0} (refuse : ParseError → ℕ → E) (other : ParseError → ℕ → D)
+    (sums next : IsoSums) (end : ℕ) (rest : List ℕ) (size : ℕ) → 0 < size → size ≤ length rest
+    → length rest ≤ end → Ok (next, size) ≡ item_front_or other sums (item_at rest)
+    → iso_from_or (shifted (end - length rest) refuse) sums rest
+    ≡ iso_from_or (shifted (end - length (drop size rest)) refuse) next (drop size rest)
+iso_from-next refuse other sums next end rest size some within small read =
+    let start = end - length rest in
+    let left : length (drop size rest) ≡ length rest - size = length-drop size rest in
+    let there : start + size ≡ end - length (drop size rest) =
+    omega (arith, left, within, small) in
+    iso_from-read (shifted start refuse) sums next rest size (omega (arith, some, within)) within
+    (item_front-any other (shifted start refuse) sums (item_at rest) (next, size) read)
+    ∙ ap (λ (refuse : ParseError → ℕ → _). iso_from_or refuse next (drop size rest))
+    (shifted-shifted start size refuse)
+    ∙ ap (λ (start : ℕ). iso_from_or (shifted start refuse) next (drop size rest)) there
+
+-- nothing is read yet
+pub iso_from-start : {E : Type 0} (refuse : ParseError → ℕ → E) (sums : IsoSums) (text : List ℕ)
+    → iso_from_or (shifted (length text - length text) refuse) sums text
+    ≡ iso_from_or refuse sums text
+iso_from-start refuse sums text =
+    let none : length text - length text ≡ 0 = omega arith in
+    ap (λ (start : ℕ). iso_from_or (shifted start refuse) sums text) none
+    ∙ ap (λ (refuse : ParseError → ℕ → _). iso_from_or refuse sums text) (shifted-none refuse)
+
+-- what was read of a part is read of the whole
+pub iso_from-part : {E : Type 0} (refuse : ParseError → ℕ → E) (end : ℕ) (sums next : IsoSums)
+    (text rest : List ℕ) → length rest ≤ length text → length text ≤ end
+    → iso_from_or (shifted (length text - length rest) placed) next rest
+    ≡ iso_from_or placed sums text
+    → iso_from_or (shifted (end - length rest) refuse) next rest
+    ≡ iso_from_or (shifted (end - length text) refuse) sums text
+iso_from-part refuse end sums next text rest less within same =
+    let start = end - length text in
+    let size = length text - length rest in
+    let there : end - length rest ≡ start + size = omega (arith, less, within) in
+    ap (λ (start : ℕ). iso_from_or (shifted start refuse) next rest) there
+    ∙ ap (λ (refuse : ParseError → ℕ → _). iso_from_or refuse next rest)
+    (sym (shifted-shifted start size refuse))
+    ∙ iso_from-any (shifted start refuse) size sums next text rest same
+
+-- where nothing is left, the text is refused at its end, or its sums are the answer
+pub iso_from-short : {E : Type 0} (refuse : ParseError → ℕ → E) (sums : IsoSums) (end : ℕ)
+    (rest : List ℕ) → length rest ≡ 0 → sums.has_component ≡ false
+    → Err (refuse ParseError.TooShort end)
+    ≡ iso_from_or (shifted (end - length rest) refuse) sums rest
+iso_from-short refuse sums end rest none no_component =
+    let there : end ≡ end - length rest + 0 = omega (arith, none) in
+    ap (λ (end : ℕ). Err (refuse ParseError.TooShort end)) there
+    ∙ ap (λ (some : Bool). if some then Ok (sums_amount sums)
+    else Err (refuse ParseError.TooShort (end - length rest + 0))) (sym no_component)
+    ∙ sym (iso_from-done (shifted (end - length rest) refuse) sums rest none)
+
+pub iso_from-sum : {E : Type 0} (refuse : ParseError → ℕ → E) (sums : IsoSums) (end : ℕ)
+    (rest : List ℕ) → length rest ≡ 0 → sums.has_component ≡ true
+    → Ok (sums_amount sums) ≡ iso_from_or (shifted (end - length rest) refuse) sums rest
+iso_from-sum refuse sums end rest none component =
+    ap (λ (some : Bool). if some then Ok (sums_amount sums)
+    else Err (refuse ParseError.TooShort (end - length rest + 0))) (sym component)
+    ∙ sym (iso_from-done (shifted (end - length rest) refuse) sums rest none)
+
+-- a first `T` leads to what follows it
+time-item : (text : List ℕ) → slice_index text 0 ≡ capital_t → item_at text ≡ TimeDesignator
+time-item text first = grind (arith, nat_tests, first)
+
+pub iso_from-after_time : {E : Type 0} (refuse : ParseError → ℕ → E) (sums : IsoSums)
+    (text : List ℕ) → 0 < length text → slice_index text 0 ≡ capital_t → sums.is_time ≡ false
+    → iso_from_or refuse sums text
+    ≡ iso_from_or (shifted 1 refuse) (with_item TimeDesignator sums) (drop 1 text)
+iso_from-after_time refuse sums text some first none =
+    let next : IsoSums × ℕ = (with_item TimeDesignator sums, 1) in
+    iso_from-read refuse sums (with_item TimeDesignator sums) text 1 some (omega (arith, some))
+    (sym (ap (item_front_or refuse sums) (time-item text first)
+    ∙ refusal-all refuse (item_table sums TimeDesignator) (Ok next) (ap not none, tt)))
+
+-- and what was read after it is read of the whole
+pub iso_from-time_part : (sums next : IsoSums) (text rest : List ℕ) → 0 < length text
+    → slice_index text 0 ≡ capital_t → sums.is_time ≡ false → length rest ≤ length (drop 1 text)
+    → iso_from_or (shifted (length (drop 1 text) - length rest) placed) next rest
+    ≡ iso_from_or placed (with_item TimeDesignator sums) (drop 1 text)
+    → iso_from_or (shifted (length text - length rest) placed) next rest
+    ≡ iso_from_or placed sums text
+iso_from-time_part sums next text rest some first none less same =
+    let size = length (drop 1 text) - length rest in
+    let left : length (drop 1 text) ≡ length text - 1 = length-drop 1 text in
+    let there : length text - length rest ≡ 1 + size = omega (arith, left, some, less) in
+    ap (λ (start : ℕ). iso_from_or (shifted start placed) next rest) there
+    ∙ ap (λ (refuse : ParseError → ℕ → Refused). iso_from_or refuse next rest)
+    (sym (shifted-shifted 1 size placed))
+    ∙ iso_from-any (shifted 1 placed) size (with_item TimeDesignator sums) next (drop 1 text) rest
+    same
+    ∙ sym (iso_from-after_time placed sums text some first none)
+
+-- The first item after which a test of the sums does not hold.
+
+first_item-rest : (test : DurationNumbers → Bool) (skipped : ℕ) (sums : IsoSums) (text : List ℕ)
+    → skipped ≤ length text
+    → first_item_after test skipped sums text
+    ≡ skipped + first_item_after test 0 sums (drop skipped text)
+unfolding first_item_after
+first_item-rest test zero sums text within = omega arith
+first_item-rest test (suc skipped) sums [] within = absurd (omega arith)
+first_item-rest test (suc skipped) sums (byte ∷ rest) within =
+    omega (arith, first_item-rest test skipped sums rest (omega arith))
+
+pub first_item-step : {E : Type 0} (refuse : ParseError → ℕ → E) (test : DurationNumbers → Bool)
+    (sums next : IsoSums) (text : List ℕ) (size : ℕ) → 0 < length text → size ≤ length text
+    → Ok (next, size) ≡ item_front_or refuse sums (item_at text)
+    → first_item_after test 0 sums text
+    ≡ (if test (amount_numbers (sums_amount next))
+    then size + first_item_after test 0 next (drop size text) else 0)
+unfolding first_item_after
+first_item-step refuse test sums next [] size some within read = absurd (lt_irrefl 0 some)
+first_item-step refuse test sums next (byte ∷ rest) size some within read =
+    let item = item_at (byte ∷ rest) in
+    let later = with_item item sums in
+    let skipped = length (item_text item) - 1 in
+    let held = refusal-value {A = IsoSums × ℕ} refuse (item_table sums item)
+    (later, length (item_text item)) (next, size) (sym read) in
+    let sized : length (item_text item) ≡ size =
+    ap (λ (front : IsoSums × ℕ). front.1) held.1 in
+    let more : suc skipped ≡ size = omega (arith, sized, item_text-some item) in
+    let few : skipped ≤ length rest = omega (arith, sized, within, item_text-some item) in
+    let found = first_item-rest test skipped later rest few in
+    let place : 1 + first_item_after test skipped later rest
+    ≡ size + first_item_after test 0 later (drop skipped rest) =
+    omega (arith, found, sized, item_text-some item) in
+    ap (λ (place : ℕ). if test (amount_numbers (sums_amount later)) then place else 0) place
+    ∙ ap (λ (n : ℕ). if test (amount_numbers (sums_amount later))
+    then size + first_item_after test 0 later (drop n (byte ∷ rest)) else 0) more
+    ∙ ap (λ (front : IsoSums × ℕ). if test (amount_numbers (sums_amount front.0))
+    then size + first_item_after test 0 front.0 (drop size (byte ∷ rest)) else 0) held.1
+
+pub first_item-done : (test : DurationNumbers → Bool) (sums : IsoSums) (text : List ℕ)
+    → length text ≡ 0 → first_item_after test 0 sums text ≡ 0
+unfolding first_item_after
+first_item-done test sums [] none = refl
+first_item-done test sums (byte ∷ rest) none = absurd (omega (arith, none))
+
+is_read : (answer : Result UnsignedDuration ParseError) (amount : UnsignedDuration)
+    → Ok amount ≡ answer → IsOk answer
+is_read answer amount same = subst (λ (answer : Result UnsignedDuration ParseError). IsOk answer) same refl
+
+-- a duration that is read has read items
+pub iso-read : (start : ℕ) (order : IsoOrder) (behavior : Behavior) (text : List ℕ)
+    (amount : UnsignedDuration)
+    → Ok amount ≡ unsigned_answer_or (shifted start placed) order behavior text
+    → IsIsoRead order text
+unfolding unsigned_answer_or
+iso-read start order behavior text amount same = λ iso.
+    let view : Refused → ParseError = λ refused. refused.fault in
+    is_read (iso_form order (drop 1 text)) amount
+    (ap (refusal_map view) (same ∙ ap (λ (iso : Bool). if iso
+    then iso_form_or (shifted 1 (shifted start placed)) order (drop 1 text)
+    else form_answer_or (shifted start placed) behavior text) iso)
+    ∙ iso_after-view view (shifted 1 (shifted start placed)) 0 (no_sums order) (drop 1 text))

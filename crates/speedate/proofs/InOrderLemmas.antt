@@ -13,13 +13,13 @@ use Rattle.speedate_base.proofs.RequirementLemmas.{first_fault_or-all}
 use Rattle.speedate.specs.DurationNumbers.{DurationNumbers, signed_form}
 use Rattle.speedate.specs.Duration.{
   form_answer,
-  iso_after,
+  iso_after, iso_after_or,
   iso_from,
   iso_form,
-  unsigned_answer,
+  unsigned_answer, unsigned_answer_or,
   duration_answer,
 }
-use Rattle.speedate.proofs.DurationAnswerLemmas.{iso_from-item, duration_answer-iso}
+use Rattle.speedate.proofs.DurationAnswerLemmas.{duration_answer-form, iso_from-item, duration_answer-iso}
 use Rattle.speedate.specs.IsoOrder.{IsLaxOrRefused, IsAnswerInOrder, are_in_order, IsMadeOf, is_iso}
 use Rattle.speedate.specs.IsoForm.{
   IsoUnit,
@@ -76,7 +76,7 @@ table-both sums (Component component) lax answer both = search rules
 -- after any items
 iso-both : (skipped : ℕ) (sums : IsoSums) (text : List ℕ)
     → IsLaxOrRefused (iso_after skipped (as_lax sums) text) (iso_after skipped sums text)
-unfolding iso_after
+unfolding iso_after_or
 iso-both skipped sums [] = inl refl
 iso-both zero sums (byte ∷ rest) =
     let item = item_at (byte ∷ rest) in
@@ -102,8 +102,11 @@ unsigned-both asked behavior text iso = search (rules, iso-both)
 pub duration-both : (asked : IsoOrder) (behavior : Behavior) (text : List ℕ)
     → IsLaxOrRefused (duration_answer IsoOrder.Lax behavior text)
     (duration_answer asked behavior text)
-unfolding unsigned_answer
-duration-both asked behavior text = search (rules, both-signed, unsigned-both)
+duration-both asked behavior text =
+    let rest = drop (sign_size text) text in
+    rw (duration_answer-form IsoOrder.Lax behavior text, duration_answer-form asked behavior text)
+    (both-signed (not (has_minus text)) _ _
+    (unsigned-both asked behavior rest (slice_index rest 0 == capital_p)))
 
 -- the unit of a designator has that designator
 unit-designator : (units : List IsoUnit) (designator : ℕ) (unit : IsoUnit)
@@ -145,7 +148,7 @@ strict-end comes in_order sums = search (rules)
 items-strict : (next : List IsoUnit) (sums : IsoSums) (items : List Item) → AreGood sums items
     → iso_from (as_strict next sums) (flat_map item_text items)
     ≡ strict_end (are_in_order next items) (with_items items sums)
-unfolding iso_after
+unfolding iso_after_or
 items-strict next sums [] good = refl
 items-strict next sums (TimeDesignator ∷ items) good =
     iso_from-item (as_strict next sums) TimeDesignator (flat_map item_text items) refl
@@ -215,7 +218,7 @@ answer-strict asked behavior text items strict is =
 -- a clock and days are not asked for an order
 answer-no_iso : (asked : IsoOrder) (behavior : Behavior) (text : List ℕ) → is_iso text ≡ false
     → duration_answer asked behavior text ≡ duration_answer IsoOrder.Lax behavior text
-unfolding unsigned_answer
+unfolding unsigned_answer_or
 answer-no_iso asked behavior text other = rw other refl
 
 -- an ISO 8601 duration begins with a `P` after its sign

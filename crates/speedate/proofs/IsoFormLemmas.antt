@@ -14,10 +14,10 @@ use Rattle.speedate_base.proofs.RequirementLemmas.{
   first_fault_or-value,
 }
 use Rattle.speedate.specs.Duration.{
-  iso_after,
+  iso_after, iso_after_or,
   iso_form,
   form_answer,
-  unsigned_answer,
+  unsigned_answer, unsigned_answer_or,
   duration_answer,
   IsGrammarAnswer,
 }
@@ -153,7 +153,7 @@ from-step sums byte rest (Err fault) next met from = (
 -- so every text has an answer, which the function gives
 pub iso_after-is : (skipped : ℕ) (sums : IsoSums) (text : List ℕ)
     → IsAnswerFrom sums (drop skipped text) (iso_after skipped sums text)
-unfolding iso_after
+unfolding iso_after_or
 iso_after-is skipped sums [] =
     rw (drop-nil {A = ℕ} skipped) ([], [], record { is_text = refl; are_good = tt; ends = refl })
 iso_after-is zero sums (byte ∷ rest) =
@@ -181,7 +181,7 @@ form-only order text false form first second one two = one ∙ sym two
 pub duration_answer-grammar : (order : IsoOrder) (behavior : Behavior) (text : List ℕ)
     (answer : Result DurationNumbers ParseError)
     → answer ≡ duration_answer order behavior text → IsGrammarAnswer order behavior text answer
-unfolding unsigned_answer
+unfolding unsigned_answer_or
 duration_answer-grammar order behavior text answer same =
     let rest = drop (sign_size text) text in
     let iso = slice_index rest 0 == capital_p in

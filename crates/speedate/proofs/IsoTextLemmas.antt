@@ -25,7 +25,7 @@ use Rattle.speedate_base.proofs.TextLemmas.{text-distinct}
 use Rattle.speedate.specs.Duration.{
   iso_from,
   iso_form,
-  unsigned_answer,
+  unsigned_answer, unsigned_answer_or,
   duration_answer,
   counted_text,
   without_last_zeros,
@@ -38,7 +38,7 @@ use Rattle.speedate.specs.Duration.{
   is_whole_days,
   duration_text,
 }
-use Rattle.speedate.proofs.DurationAnswerLemmas.{iso_from-item, iso_from-end}
+use Rattle.speedate.proofs.DurationAnswerLemmas.{duration_answer-form, iso_from-item, iso_from-end}
 use Rattle.speedate.proofs.IsoItemLemmas.{item_at-component}
 use Rattle.speedate.specs.IsoOrder.{IsLaxOrRefused}
 use Rattle.speedate.proofs.InOrderLemmas.{duration-both}
@@ -328,8 +328,8 @@ text-read numbers valid =
 start-answer : (order : IsoOrder) (behavior : Behavior) (positive : Bool) (text : List ℕ)
     → duration_answer order behavior (start_text positive ++ text)
     ≡ result_and_then (signed_form positive) (iso_form order text)
-unfolding unsigned_answer
-start-answer order behavior positive text = search (rules)
+start-answer order behavior positive text =
+    duration_answer-form order behavior (start_text positive ++ text) ∙ search rules
 
 -- the printed text of a duration is answered by it where the order of the standard is asked for
 strict-reads : (behavior : Behavior) (numbers : DurationNumbers) → IsDuration numbers

@@ -4,13 +4,11 @@ mod DurationLemmas
 mod DurationPlaceLemmas
 pub mod DurationTextLemmas
 mod ExchangedLemmas
-mod FormPlaceLemmas
 mod FractionLemmas
 mod InOrderLemmas
 mod IsoAmountLemmas
 mod IsoFormLemmas
 mod IsoItemLemmas
-mod IsoPlaceLemmas
 mod IsoTextLemmas
 pub mod LineLemmas
 mod MarkLemmas

@@ -12,10 +12,12 @@ use Rattle.speedate_base.specs.Requirement.{
   ◌at_byte◌,
   ◌else_fault◌,
   ◌implies◌,
-  first_fault_or,
+  fault_alone,
+  first_refusal_or,
   result_and_then,
+  shifted,
 }
-use Rattle.speedate_civil.specs.Time.{Clock, minute_front}
+use Rattle.speedate_civil.specs.Time.{Clock, minute_front_or}
 use Rattle.speedate.specs.DurationNumbers.{UnsignedDuration}
 
 -- how many bytes come before the first `:`, or how many there are if there is none
@@ -74,16 +76,23 @@ clock_numbers hours clock = record {
 }
 
 -- the duration of a number of hours and of a clock, from its minute on, that takes all that follows
--- them
-abbrev pub after_hours : Behavior → ℕ → List ℕ → Result UnsignedDuration ParseError
-after_hours behavior hours rest =
-    first_fault_or (hours_range hours) (first_fault_or (rest_table behavior rest)
+-- them, or the refusal
+abbrev pub after_hours_or : {E : Type 0} → (ParseError → ℕ → E) → Behavior → ℕ → List ℕ
+    → Result UnsignedDuration E
+after_hours_or refuse behavior hours rest =
+    first_refusal_or refuse (rest_table behavior rest)
     (result_and_then
-    (λ clock. first_fault_or (clock_end clock rest) (Ok (clock_numbers hours clock)))
-    (minute_front behavior rest)))
+    (λ clock. first_refusal_or refuse (clock_end clock rest) (Ok (clock_numbers hours clock)))
+    (minute_front_or refuse behavior rest))
 
--- the duration that a text says as a clock, or the text's fault
-unfoldable pub clock_form : Behavior → List ℕ → Result UnsignedDuration ParseError
-clock_form behavior text =
-    first_fault_or (hours_table text)
-    (after_hours behavior (digits_value (hours text)) (from_minute text))
+-- the duration that a text says as a clock, or the text's refusal
+unfoldable pub clock_form_or : {E : Type 0} → (ParseError → ℕ → E) → Behavior → List ℕ
+    → Result UnsignedDuration E
+clock_form_or refuse behavior text =
+    let count = digits_value (hours text) in
+    first_refusal_or refuse (hours_table text) (first_refusal_or refuse (hours_range count)
+    (after_hours_or (shifted (colon_place text + 1) refuse) behavior count (from_minute text)))
+
+-- the same, with the text's fault
+abbrev pub clock_form : Behavior → List ℕ → Result UnsignedDuration ParseError
+clock_form behavior text = clock_form_or fault_alone behavior text

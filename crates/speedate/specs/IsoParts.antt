@@ -1,11 +1,13 @@
 -- What contracts see of the parts of the parser of ISO 8601 durations.
-use Rattle.std.specs.Prelude.{Bool, ◌≡◌, [], ◌∷◌, ◌==◌, length, if◌then◌else◌, drop, zero, suc, Some, List, ℕ, Result, Ok}
-use Rattle.speedate_base.specs.Requirement.{first_fault_or}
+use Rattle.std.specs.Prelude.{Bool, true, ◌≡◌, [], ◌∷◌, ◌==◌, length, if◌then◌else◌, drop, slice_index, zero, suc, Some, List, ℕ, Result, Ok, IsOk}
+use Rattle.speedate_base.specs.Requirement.{first_refusal_or}
 use Rattle.speedate.specs.declared.duration.iso.DurationUnit.{DurationUnit}
 use Rattle.speedate.specs.declared.duration.iso.Sums.{Sums}
 use Rattle.speedate.specs.declared.duration.iso.error_place.Bound.{Bound}
 use Rattle.speedate.specs.DurationNumbers.{DurationNumbers, has_days_up_to, has_seconds_up_to}
-use Rattle.speedate_civil.specs.Base.{ParseError}
+use Rattle.speedate_civil.specs.Base.{IsoOrder, ParseError}
+use Rattle.speedate_base.specs.Ascii.{capital_p}
+use Rattle.speedate.specs.Duration.{iso_form}
 use Rattle.speedate.specs.IsoForm.{
   IsoUnit,
   units,
@@ -45,12 +47,19 @@ sums_parts sums = record {
   microsecond = sums.microsecond;
 }
 
--- the sums with an item, and how many bytes it has, or its fault
-abbrev pub item_front : IsoSums → Item → Result (IsoSums × ℕ) ParseError
-item_front sums item =
-    first_fault_or (item_table sums item) (Ok (with_item item sums, length (item_text item)))
+-- the sums with an item, and how many bytes it has, or its refusal
+abbrev pub item_front_or : {E : Type 0} → (ParseError → ℕ → E) → IsoSums → Item
+    → Result (IsoSums × ℕ) E
+item_front_or refuse sums item =
+    first_refusal_or refuse (item_table sums item)
+    (Ok (with_item item sums, length (item_text item)))
 
 -- a bound of the normal form as a test of numbers
 abbrev pub bound_test : Bound → DurationNumbers → Bool
 bound_test Bound.Seconds = has_seconds_up_to 4294967295
 bound_test (Bound.Days largest) = has_days_up_to largest
+
+-- if a duration without its sign begins with `P`, what follows is accepted
+abbrev pub IsIsoRead : IsoOrder → List ℕ → Type 0
+IsIsoRead order text =
+    (slice_index text 0 == capital_p) ≡ true → IsOk (iso_form order (drop 1 text))

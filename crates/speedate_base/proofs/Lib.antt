@@ -2,6 +2,7 @@ pub mod DigitLemmas
 pub mod DigitRunLemmas
 pub mod NearestLemmas
 pub mod NumberLemmas
+pub mod RefusalLemmas
 pub mod RequirementLemmas
 pub mod TextLemmas
 pub mod TimestampLemmas

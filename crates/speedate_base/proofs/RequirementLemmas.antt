@@ -92,7 +92,7 @@ first_fault_or-value rows given value same =
     search (rules, first_fault_or-ok rows (Ok given) value same)
 
 -- where the answer to what was read is a value, something was read
-pub and_then-ok : {A B : Type 0} (next : A → Result B ParseError) (answer : Result A ParseError)
+pub and_then-ok : {A B E : Type 0} (next : A → Result B E) (answer : Result A E)
     (value : B) → result_and_then next answer ≡ Ok value
     → (read : A) × (answer ≡ Ok read) × (next read ≡ Ok value)
 and_then-ok next answer value same = search rules

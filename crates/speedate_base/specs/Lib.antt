@@ -7,3 +7,4 @@ pub mod Offset
 pub mod Nearest
 pub mod Timestamp
 pub mod Config
+pub mod Refused

@@ -45,11 +45,26 @@ infix 15 ◌implies◌
 abbrev pub ◌implies◌ : Bool → Bool → Bool
 there implies asked = if there then asked else true
 
+-- what comes next if every row of a table holds, otherwise the refusal that is made of the fault and
+-- the place of the first row that does not
+abbrev pub first_refusal_or : {Place A E : Type 0} → (ParseError → Place → E)
+    → List (Requirement Place) → Result A E → Result A E
+first_refusal_or refuse [] next = next
+first_refusal_or refuse (row ∷ rows) next =
+    if row.holds then first_refusal_or refuse rows next else Err (refuse row.fault row.place)
+
+-- a refusal that is its fault alone
+abbrev pub fault_alone : {Place : Type 0} → ParseError → Place → ParseError
+fault_alone fault place = fault
+
+-- a refusal of a part of a text that begins at a byte
+abbrev pub shifted : {E : Type 0} → ℕ → (ParseError → ℕ → E) → ParseError → ℕ → E
+shifted start refuse fault place = refuse fault (start + place)
+
 -- what comes next if every row of a table holds, otherwise the fault of the first row that does not
 abbrev pub first_fault_or : {Place A : Type 0} → List (Requirement Place) → Result A ParseError
     → Result A ParseError
-first_fault_or [] next = next
-first_fault_or (row ∷ rows) next = if row.holds then first_fault_or rows next else Err row.fault
+first_fault_or rows next = first_refusal_or fault_alone rows next
 
 -- the place of the first row of a table that does not hold, if there is one
 abbrev pub first_place : List TextRow → Option ℕ
@@ -62,8 +77,12 @@ AllHold [] = Unit {0}
 AllHold (row ∷ rows) = (row.holds ≡ true) × AllHold rows
 
 -- an answer with its value seen in another way, as a `Date` in numbers; a fault stays
-abbrev pub result_map : {A B : Type 0} → (A → B) → Result A ParseError → Result B ParseError
+abbrev pub result_map : {A B E : Type 0} → (A → B) → Result A E → Result B E
 result_map view answer = result_map_both view (λ fault. fault) answer
+
+-- an answer with its refusal seen in another way, as by its fault alone; a value stays
+abbrev pub refusal_map : {A E D : Type 0} → (E → D) → Result A E → Result A D
+refusal_map view answer = result_map_both (λ value. value) view answer
 
 -- a value and how many bytes of a text it takes, with the value seen in another way
 abbrev pub with_size : {A B : Type 0} → (A → B) → A × ℕ → B × ℕ
@@ -74,19 +93,22 @@ abbrev pub end_table : ParseError → ℕ → List ℕ → List TextRow
 end_table fault size text = (length text == size else_fault fault at_byte size) ∷ []
 
 -- the value at the front of a text, with how many bytes it takes, if the text ends with it;
--- otherwise its fault
+-- otherwise the refusal
+abbrev pub whole_or_refusal : {A E : Type 0} → (ParseError → ℕ → E) → (A → ParseError) → List ℕ
+    → A × ℕ → Result A E
+whole_or_refusal refuse fault text front =
+    first_refusal_or refuse (end_table (fault front.0) front.1 text) (Ok front.0)
+
+-- the same, otherwise its fault
 abbrev pub whole_or_fault : {A : Type 0} → (A → ParseError) → List ℕ → A × ℕ → Result A ParseError
-whole_or_fault fault text front =
-    first_fault_or (end_table (fault front.0) front.1 text) (Ok front.0)
+whole_or_fault fault text front = whole_or_refusal fault_alone fault text front
 
 -- what is answered to a value that was read; a fault stays
-abbrev pub result_and_then : {A B : Type 0} → (A → Result B ParseError) → Result A ParseError
-    → Result B ParseError
+abbrev pub result_and_then : {A B E : Type 0} → (A → Result B E) → Result A E → Result B E
 result_and_then next answer = result_flatten (result_map next answer)
 
 infixl 10 ◌>>=◌
-abbrev pub ◌>>=◌ : {A B : Type 0} → Result A ParseError → (A → Result B ParseError)
-    → Result B ParseError
+abbrev pub ◌>>=◌ : {A B E : Type 0} → Result A E → (A → Result B E) → Result B E
 answer >>= next = result_and_then next answer
 
 -- the answer of a table; but if that is a fault and the text is a number, the answer to that number

@@ -9,4 +9,5 @@
 pub mod config;
 pub mod faults;
 pub mod numbers;
+pub mod refusal;
 pub mod util;

@@ -5,8 +5,9 @@ ghost use Rattle.std.specs.Prelude.{◌≡◌, ◌≢◌, ◌≤◌, length, sli
 ghost use Rattle.speedate.specs.Date.{
   ymd,
   date_answer,
+  date_answer_or,
   date_front,
-  date_table,
+  date_front_or,
   date_text,
   date_or_timestamp,
   date_timestamp_answer,
@@ -22,8 +23,9 @@ ghost use Rattle.speedate.specs.Calendar.{
   midnight_second,
   ordinal_day,
 };
-ghost use Rattle.speedate.specs.ErrorPlace.{date_or_timestamp_place, whole_date_table};
-ghost use Rattle.speedate.specs.Requirement.{first_place, result_map};
+ghost use Rattle.speedate.specs.ErrorPlace.{date_or_timestamp_place};
+ghost use Rattle.speedate.specs.Refused.{placed, refused_place};
+ghost use Rattle.speedate.specs.Requirement.{result_map};
 ghost use Rattle.speedate_c.specs.Written.{
   written_answer,
   written_front,
@@ -184,7 +186,8 @@ pub extern "C" fn speedate_date_error_place(
 #[unsafe(no_mangle)]
 pub extern "C" fn speedate_date_error_place_rfc3339(text: &[u8], place: &mut usize) -> i32
     ensures answer { (result, place.new)
-        ≡ written_place (date_answer text.now) (first_place (whole_date_table text.now)) place.old }
+        ≡ written_place (date_answer text.now) (refused_place (date_answer_or placed text.now))
+        place.old }
 {
     write_place(Date::error_place_rfc3339(text), place);
     code_of!(Date::parse_bytes_rfc3339(text))
@@ -195,7 +198,8 @@ pub extern "C" fn speedate_date_error_place_rfc3339(text: &[u8], place: &mut usi
 #[unsafe(no_mangle)]
 pub extern "C" fn speedate_date_error_place_front(text: &[u8], place: &mut usize) -> i32
     ensures answer { (result, place.new)
-        ≡ written_place (date_front text.now) (first_place (date_table text.now)) place.old }
+        ≡ written_place (date_front text.now) (refused_place (date_front_or placed text.now))
+        place.old }
 {
     write_place(Date::error_place_front(text), place);
     code_of!(Date::parse_front(text))

@@ -9,7 +9,9 @@ ghost use Rattle.speedate.specs.DateTime.{
   utc_second,
   date_and_time,
   date_time_answer,
+  date_time_answer_or,
   date_time_front,
+  date_time_front_or,
   date_time_text,
   date_time_or_timestamp,
   date_time_timestamp_answer,
@@ -17,14 +19,10 @@ ghost use Rattle.speedate.specs.DateTime.{
   date_time_in_timezone,
   ◌gives◌,
 };
-ghost use Rattle.speedate.specs.ErrorPlace.{
-  date_time_front_table,
-  date_time_or_timestamp_place,
-  strict_date_time_table,
-  whole_date_time_table,
-};
-ghost use Rattle.speedate.specs.Standard.{strict_date_time_answer};
-ghost use Rattle.speedate.specs.Requirement.{first_place, result_map};
+ghost use Rattle.speedate.specs.ErrorPlace.{date_time_or_timestamp_place};
+ghost use Rattle.speedate.specs.Refused.{placed, refused_place};
+ghost use Rattle.speedate.specs.Requirement.{result_map};
+ghost use Rattle.speedate.specs.Standard.{strict_date_time_answer, strict_date_time_answer_or};
 ghost use Rattle.speedate_c.specs.Written.{
   written_answer,
   written_front,
@@ -216,7 +214,7 @@ pub extern "C" fn speedate_datetime_error_place_rfc3339(
     ensures answer { (result, place.new)
         ≡ with_option (choices_of config) (config_out_of_range, place.old)
         (λ config. written_place (date_time_answer config.behavior text.now)
-        (first_place (whole_date_time_table config.behavior text.now)) place.old) }
+        (refused_place (date_time_answer_or placed config.behavior text.now)) place.old) }
 {
     let config = config_or_return!(config.to_config());
     write_place(
@@ -237,7 +235,8 @@ pub extern "C" fn speedate_datetime_error_place_strict(
     ensures answer { (result, place.new)
         ≡ with_option (choices_of config) (config_out_of_range, place.old)
         (λ config. written_place (strict_date_time_answer config.behavior text.now)
-        (first_place (strict_date_time_table config.behavior text.now)) place.old) }
+        (refused_place (strict_date_time_answer_or placed config.behavior text.now))
+        place.old) }
 {
     let config = config_or_return!(config.to_config());
     let behavior = config.time_config.microseconds_precision_overflow_behavior;
@@ -256,7 +255,7 @@ pub extern "C" fn speedate_datetime_error_place_front(
     ensures answer { (result, place.new)
         ≡ with_option (choices_of config) (config_out_of_range, place.old)
         (λ config. written_place (date_time_front config.behavior text.now)
-        (first_place (date_time_front_table config.behavior text.now)) place.old) }
+        (refused_place (date_time_front_or placed config.behavior text.now)) place.old) }
 {
     let config = config_or_return!(config.to_config());
     write_place(

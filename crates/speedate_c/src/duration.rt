@@ -4,6 +4,7 @@ ghost use Rattle.std.specs.Prelude.{◌≡◌, ◌≢◌, ◌≤◌, ◌↔◌, 
 ghost use Rattle.speedate.specs.Duration.{
   duration_numbers,
   duration_answer,
+  duration_answer_or,
   duration_text,
   ◌gives◌,
 };
@@ -15,8 +16,8 @@ ghost use Rattle.speedate.specs.DurationNumbers.{
   signed_seconds,
   duration_order,
 };
-ghost use Rattle.speedate.specs.DurationPlace.{duration_table};
-ghost use Rattle.speedate.specs.Requirement.{first_place, result_map};
+ghost use Rattle.speedate.specs.Refused.{placed, refused_place};
+ghost use Rattle.speedate.specs.Requirement.{result_map};
 ghost use Rattle.speedate_c.specs.Written.{
   written_answer,
   written_place,
@@ -142,7 +143,8 @@ pub extern "C" fn speedate_duration_error_place(
     ensures answer { (result, place.new)
         ≡ with_option (choices_of config) (config_out_of_range, place.old)
         (λ config. written_place (duration_answer config.order config.behavior text.now)
-        (first_place (duration_table config.order config.behavior text.now)) place.old) }
+        (refused_place (duration_answer_or placed config.order config.behavior text.now))
+        place.old) }
 {
     let choices = config_or_return!(config.to_config());
     write_place(Duration::error_place(text, &choices.time_config), place);

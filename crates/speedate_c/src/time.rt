@@ -2,26 +2,24 @@
 
 ghost use Rattle.std.specs.Prelude.{◌≡◌, ◌≢◌, ◌≤◌, length};
 ghost use Rattle.std.specs.Option.{ForSome};
-ghost use Rattle.speedate.specs.ErrorPlace.{
-  strict_time_table,
-  time_front_table,
-  whole_time_table,
-};
 ghost use Rattle.speedate.specs.Offset.{IsOffset};
-ghost use Rattle.speedate.specs.Requirement.{first_place, result_map};
+ghost use Rattle.speedate.specs.Refused.{placed, refused_place};
+ghost use Rattle.speedate.specs.Requirement.{result_map};
 ghost use Rattle.speedate.specs.Time.{
   time_of_day,
   millisecond_of_day,
   second_of_day,
   timestamp_answer,
   time_answer,
+  time_answer_or,
   time_front,
+  time_front_or,
   time_text,
   ◌gives◌,
   time_instant_order,
   time_in_timezone,
 };
-ghost use Rattle.speedate.specs.Standard.{strict_time_answer};
+ghost use Rattle.speedate.specs.Standard.{strict_time_answer, strict_time_answer_or};
 ghost use Rattle.speedate_c.specs.Written.{
   written_answer,
   written_front,
@@ -180,7 +178,7 @@ pub extern "C" fn speedate_time_error_place(
     ensures answer { (result, place.new)
         ≡ with_option (choices_of config) (config_out_of_range, place.old)
         (λ config. written_place (time_answer config.behavior text.now)
-        (first_place (whole_time_table config.behavior text.now)) place.old) }
+        (refused_place (time_answer_or placed config.behavior text.now)) place.old) }
 {
     let config = config_or_return!(config.to_config());
     write_place(Time::error_place(text, &config.time_config), place);
@@ -198,7 +196,7 @@ pub extern "C" fn speedate_time_error_place_strict(
     ensures answer { (result, place.new)
         ≡ with_option (choices_of config) (config_out_of_range, place.old)
         (λ config. written_place (strict_time_answer config.behavior text.now)
-        (first_place (strict_time_table config.behavior text.now)) place.old) }
+        (refused_place (strict_time_answer_or placed config.behavior text.now)) place.old) }
 {
     let config = config_or_return!(config.to_config());
     let behavior = config.time_config.microseconds_precision_overflow_behavior;
@@ -217,7 +215,7 @@ pub extern "C" fn speedate_time_error_place_front(
     ensures answer { (result, place.new)
         ≡ with_option (choices_of config) (config_out_of_range, place.old)
         (λ config. written_place (time_front config.behavior text.now)
-        (first_place (time_front_table config.behavior text.now)) place.old) }
+        (refused_place (time_front_or placed config.behavior text.now)) place.old) }
 {
     let config = config_or_return!(config.to_config());
     write_place(Time::error_place_front(text, &config.time_config), place);

@@ -13,14 +13,14 @@ use Rattle.speedate_base.specs.Digits.{
   fit_digits,
   neighbours,
 }
-use Rattle.speedate_base.specs.Requirement.{first_fault_or, result_map}
+use Rattle.speedate_base.specs.Requirement.{first_refusal_or, result_map, shifted}
 use Rattle.speedate_base.proofs.PatternLemmas.{fit_length-all}
 use Rattle.speedate_civil.specs.ParserParts.{second_of}
 use Rattle.speedate_civil.specs.Time.{
   at_hour,
-  clock_front,
+  clock_front_or,
   minute_clock,
-  minute_front,
+  minute_front_or,
   second_table,
 }
 
@@ -51,12 +51,12 @@ front-read text front numbers fits from counted enough spelled =
     subst (λ (all : List ℕ). Front text all) (sym is) (front_is text five)
 
 -- the rows of the hour and the minute hold, so what follows the minute decides
-pub decided : (behavior : Behavior) (text numbers : List ℕ)
+pub decided : {E : Type 0} (refuse : ParseError → ℕ → E) (behavior : Behavior) (text numbers : List ℕ)
     → Front text numbers → 5 ≤ length text
-    → get_or numbers 0 0 ≤ 23 → get_or numbers 3 0 ≤ 59 → clock_front behavior text
+    → get_or numbers 0 0 ≤ 23 → get_or numbers 3 0 ≤ 59 → clock_front_or refuse behavior text
     ≡ result_map (at_hour (get_or numbers 0 0))
-    (first_fault_or (second_table behavior (drop 3 text)) (Ok (minute_clock (drop 3 text))))
-decided behavior text numbers front long early short =
+    (first_refusal_or (shifted 3 refuse) (second_table behavior (drop 3 text)) (Ok (minute_clock (drop 3 text))))
+decided refuse behavior text numbers front long early short =
     let hour = subst (λ (n : ℕ). n ≤ 23) front.hour_is early in
     let minute = subst (λ (n : ℕ). n ≤ 59) front.minute_is short in
     rw (
@@ -70,10 +70,10 @@ decided behavior text numbers front long early short =
     ) refl
 
 -- and those that do not hold are the fault
-pub late-hour : (behavior : Behavior) (text numbers : List ℕ)
+pub late-hour : {E : Type 0} (refuse : ParseError → ℕ → E) (behavior : Behavior) (text numbers : List ℕ)
     → Front text numbers → 5 ≤ length text
-    → 23 < get_or numbers 0 0 → clock_front behavior text ≡ Err ParseError.OutOfRangeHour
-late-hour behavior text numbers front long late =
+    → 23 < get_or numbers 0 0 → clock_front_or refuse behavior text ≡ Err (refuse ParseError.OutOfRangeHour 0)
+late-hour refuse behavior text numbers front long late =
     let hour = subst (λ (n : ℕ). 23 < n) front.hour_is late in
     rw (
       le-leb 5 (length text) long,
@@ -83,11 +83,11 @@ late-hour behavior text numbers front long late =
       lt-leb (two_digit_value text 0) 23 hour,
     ) refl
 
-pub late-minute : (behavior : Behavior) (text numbers : List ℕ)
+pub late-minute : {E : Type 0} (refuse : ParseError → ℕ → E) (behavior : Behavior) (text numbers : List ℕ)
     → Front text numbers → 5 ≤ length text
     → get_or numbers 0 0 ≤ 23 → 59 < get_or numbers 3 0
-    → clock_front behavior text ≡ Err ParseError.OutOfRangeMinute
-late-minute behavior text numbers front long early late =
+    → clock_front_or refuse behavior text ≡ Err (refuse ParseError.OutOfRangeMinute 3)
+late-minute refuse behavior text numbers front long early late =
     let hour = subst (λ (n : ℕ). n ≤ 23) front.hour_is early in
     let minute = subst (λ (n : ℕ). 59 < n) front.minute_is late in
     rw (
@@ -100,9 +100,9 @@ late-minute behavior text numbers front long early late =
     ) refl
 
 -- so are those that the eight bytes do not meet, and the length
-pub no-clock : (behavior : Behavior) (text : List ℕ) → length text < 5
-    → clock_front behavior text ≡ Err ParseError.TooShort
-no-clock behavior text short = rw (lt-leb 5 (length text) short) refl
+pub no-clock : {E : Type 0} (refuse : ParseError → ℕ → E) (behavior : Behavior) (text : List ℕ) → length text < 5
+    → clock_front_or refuse behavior text ≡ Err (refuse ParseError.TooShort (length text))
+no-clock refuse behavior text short = rw (lt-leb 5 (length text) short) refl
 
 -- two tests of which one does not hold
 first-two : (a b : Bool) (rest : ℕ) → (if a then 1 + (if b then 1 + rest else 0) else 0) < 2
@@ -132,25 +132,25 @@ fourth-of true true true false e rest count is some few = (refl, refl, refl)
 fourth-of true true true true false rest count is some few = (refl, refl, refl)
 fourth-of true true true true true rest count is some few = absurd (omega arith)
 
-pub no-hour : (behavior : Behavior) (text front : List ℕ) (fits : ℕ) → 5 ≤ length text
+pub no-hour : {E : Type 0} (refuse : ParseError → ℕ → E) (behavior : Behavior) (text front : List ℕ) (fits : ℕ) → 5 ≤ length text
     → front ≡ eight_at text 0 → fits ≡ fit_length pattern front → fits < 2
-    → clock_front behavior text ≡ Err ParseError.InvalidCharHour
-no-hour behavior text front fits long from counted few =
+    → clock_front_or refuse behavior text ≡ Err (refuse ParseError.InvalidCharHour 0)
+no-hour refuse behavior text front fits long from counted few =
     let is : fits ≡ fit_length pattern (eight_at text 0) = counted ∙ ap (fit_length pattern) from in
     rw (le-leb 5 (length text) long, first-two _ _ _ (subst (λ (n : ℕ). n < 2) is few)) refl
 
-pub no-separator : (behavior : Behavior) (text front : List ℕ) (fits : ℕ) → 5 ≤ length text
+pub no-separator : {E : Type 0} (refuse : ParseError → ℕ → E) (behavior : Behavior) (text front : List ℕ) (fits : ℕ) → 5 ≤ length text
     → front ≡ eight_at text 0 → fits ≡ fit_length pattern front → fits ≡ 2
-    → clock_front behavior text ≡ Err ParseError.InvalidCharTimeSep
-no-separator behavior text front fits long from counted two =
+    → clock_front_or refuse behavior text ≡ Err (refuse ParseError.InvalidCharTimeSep 2)
+no-separator refuse behavior text front fits long from counted two =
     let is : fits ≡ fit_length pattern (eight_at text 0) = counted ∙ ap (fit_length pattern) from in
     let tests = third-of _ _ _ _ (sym is ∙ two) in
     rw (le-leb 5 (length text) long, tests.0, tests.1) refl
 
-pub no-minute : (behavior : Behavior) (text front : List ℕ) (fits : ℕ) → 5 ≤ length text
+pub no-minute : {E : Type 0} (refuse : ParseError → ℕ → E) (behavior : Behavior) (text front : List ℕ) (fits : ℕ) → 5 ≤ length text
     → front ≡ eight_at text 0 → fits ≡ fit_length pattern front → 3 ≤ fits → fits < 5
-    → clock_front behavior text ≡ Err ParseError.InvalidCharMinute
-no-minute behavior text front fits long from counted some few =
+    → clock_front_or refuse behavior text ≡ Err (refuse ParseError.InvalidCharMinute 3)
+no-minute refuse behavior text front fits long from counted some few =
     let is : fits ≡ fit_length pattern (eight_at text 0) = counted ∙ ap (fit_length pattern) from in
     let tests = fourth-of _ _ _ _ _ _ fits is some few in
     rw (
@@ -201,26 +201,26 @@ minute-read text front numbers fits from counted enough spelled =
     subst (λ (all : List ℕ). Minute text all) (sym is) (minute_is text two)
 
 -- its range holds, so what follows it decides
-pub minute-decided : (behavior : Behavior) (text numbers : List ℕ)
+pub minute-decided : {E : Type 0} (refuse : ParseError → ℕ → E) (behavior : Behavior) (text numbers : List ℕ)
     → Minute text numbers → get_or numbers 0 0 ≤ 59
-    → minute_front behavior text ≡ first_fault_or (second_table behavior text)
+    → minute_front_or refuse behavior text ≡ first_refusal_or refuse (second_table behavior text)
     (Ok (minute_clock text))
-minute-decided behavior text numbers minute short =
+minute-decided refuse behavior text numbers minute short =
     let range = subst (λ (n : ℕ). n ≤ 59) minute.is short in
     rw (minute.digits, le-leb (two_digit_value text 0) 59 range) refl
 
 -- and where it does not hold, it is the fault
-pub minute-late : (behavior : Behavior) (text numbers : List ℕ)
+pub minute-late : {E : Type 0} (refuse : ParseError → ℕ → E) (behavior : Behavior) (text numbers : List ℕ)
     → Minute text numbers → 59 < get_or numbers 0 0
-    → minute_front behavior text ≡ Err ParseError.OutOfRangeMinute
-minute-late behavior text numbers minute late =
+    → minute_front_or refuse behavior text ≡ Err (refuse ParseError.OutOfRangeMinute 0)
+minute-late refuse behavior text numbers minute late =
     let range = subst (λ (n : ℕ). 59 < n) minute.is late in
     rw (minute.digits, lt-leb (two_digit_value text 0) 59 range) refl
 
-pub minute-none : (behavior : Behavior) (text front : List ℕ)
+pub minute-none : {E : Type 0} (refuse : ParseError → ℕ → E) (behavior : Behavior) (text front : List ℕ)
     (fits : ℕ) → front ≡ eight_at text 0 → fits ≡ fit_length pattern front → fits < 2
-    → minute_front behavior text ≡ Err ParseError.InvalidCharMinute
-minute-none behavior text front fits from counted few =
+    → minute_front_or refuse behavior text ≡ Err (refuse ParseError.InvalidCharMinute 0)
+minute-none refuse behavior text front fits from counted few =
     let early : fit_length pattern (eight_at text 0) < 2 =
     subst (λ (block : List ℕ). fit_length pattern block < 2) from
     (subst (λ (count : ℕ). count < 2) counted few) in

@@ -17,7 +17,7 @@ use Rattle.speedate_base.specs.Digits.{
 }
 use Rattle.speedate_base.proofs.PatternLemmas.{fit_length-all}
 use Rattle.speedate_civil.specs.Calendar.{month_length}
-use Rattle.speedate_civil.specs.Date.{date_front}
+use Rattle.speedate_civil.specs.Date.{date_front_or}
 use Rattle.speedate_civil.proofs.DateLemmas.{is_in_range-true}
 
 -- a date as it looks, up to its day
@@ -59,24 +59,24 @@ first-four true true true false rest few = refl
 first-four true true true true rest few = absurd (omega arith)
 
 -- so the first row that the eight bytes do not meet gives the fault
-pub no-year : (text front : List ℕ) (place : ℕ) → 10 ≤ length text → front ≡ eight_at text 0
+pub no-year : {E : Type 0} (refuse : ParseError → ℕ → E) (text front : List ℕ) (place : ℕ) → 10 ≤ length text → front ≡ eight_at text 0
     → place ≡ fit_length pattern front → place ≤ 3
-    → date_front text ≡ Err ParseError.InvalidCharYear
-no-year text front place long from counted few =
+    → date_front_or refuse text ≡ Err (refuse ParseError.InvalidCharYear 0)
+no-year refuse text front place long from counted few =
     let early : fit_length pattern (eight_at text 0) ≤ 3 =
     subst (λ (block : List ℕ). fit_length pattern block ≤ 3) from
     (subst (λ (count : ℕ). count ≤ 3) counted few) in
     rw (le-leb 10 (length text) long, first-four _ _ _ _ _ early) refl
 
-pub no-separator : (text front : List ℕ) (place : ℕ) → 10 ≤ length text → front ≡ eight_at text 0
+pub no-separator : {E : Type 0} (refuse : ParseError → ℕ → E) (text front : List ℕ) (place : ℕ) → 10 ≤ length text → front ≡ eight_at text 0
     → place ≡ fit_length pattern front
-    → (place ≡ 4) ⊎ (place ≡ 7) → date_front text ≡ Err ParseError.InvalidCharDateSep
-no-separator text front place long from counted there = grind (arith, common_steps)
+    → (place ≡ 4) ⊎ (place ≡ 7) → date_front_or refuse text ≡ Err (refuse ParseError.InvalidCharDateSep place)
+no-separator refuse text front place long from counted there = grind (arith, common_steps)
 
-pub no-month-digits : (text front : List ℕ) (place : ℕ) → 10 ≤ length text
+pub no-month-digits : {E : Type 0} (refuse : ParseError → ℕ → E) (text front : List ℕ) (place : ℕ) → 10 ≤ length text
     → front ≡ eight_at text 0 → place ≡ fit_length pattern front
-    → 5 ≤ place → place ≤ 6 → date_front text ≡ Err ParseError.InvalidCharMonth
-no-month-digits text front place long from counted five few = grind (arith, common_steps)
+    → 5 ≤ place → place ≤ 6 → date_front_or refuse text ≡ Err (refuse ParseError.InvalidCharMonth 5)
+no-month-digits refuse text front place long from counted five few = grind (arith, common_steps)
 
 -- the day was read, or it was not
 pub day-there : (there : Bool) (value day : ℕ) (found : Option ℕ)
@@ -92,10 +92,10 @@ day-none true value found is none = absurd (cc)
 day-none false value found is none = refl
 
 -- the first row that does not hold gives the fault
-pub no-day : (text numbers : List ℕ) → Front text numbers → 10 ≤ length text
+pub no-day : {E : Type 0} (refuse : ParseError → ℕ → E) (text numbers : List ℕ) → Front text numbers → 10 ≤ length text
     → two_digits_at text 8 ≡ false
-    → date_front text ≡ Err ParseError.InvalidCharDay
-no-day text numbers front long none =
+    → date_front_or refuse text ≡ Err (refuse ParseError.InvalidCharDay 8)
+no-day refuse text numbers front long none =
     rw (
       le-leb 10 (length text) long,
       front.year,
@@ -105,11 +105,11 @@ no-day text numbers front long none =
       none,
     ) refl
 
-pub no-month : (text numbers : List ℕ) → Front text numbers → 10 ≤ length text
+pub no-month : {E : Type 0} (refuse : ParseError → ℕ → E) (text numbers : List ℕ) → Front text numbers → 10 ≤ length text
     → two_digits_at text 8 ≡ true
     → is_in_range 1 12 (get_or numbers 5 0) ≡ false
-    → date_front text ≡ Err ParseError.OutOfRangeMonth
-no-month text numbers front long day out =
+    → date_front_or refuse text ≡ Err (refuse ParseError.OutOfRangeMonth 5)
+no-month refuse text numbers front long day out =
     let months = rw front.month_is at out in
     rw (
       le-leb 10 (length text) long,
@@ -130,10 +130,10 @@ pub record Read (text numbers : List ℕ) (year day : ℕ) : Type 0 where
   pub month : IsInRange 1 12 (get_or numbers 5 0)
 
 -- the month is in its range, so the day decides
-pub late-day : (text numbers : List ℕ) (year day : ℕ) → Read text numbers year day
+pub late-day : {E : Type 0} (refuse : ParseError → ℕ → E) (text numbers : List ℕ) (year day : ℕ) → Read text numbers year day
     → is_in_range 1 (month_length year (get_or numbers 5 0)) day ≡ false
-    → date_front text ≡ Err ParseError.OutOfRangeDay
-late-day text numbers year day read late =
+    → date_front_or refuse text ≡ Err (refuse ParseError.OutOfRangeDay 8)
+late-day refuse text numbers year day read late =
     let front = read.front in
     let months = rw front.month_is at (is_in_range-true 1 12 (get_or numbers 5 0) read.month) in
     let days = rw (read.year_is, front.month_is, sym read.day_is.1) at late in
@@ -148,10 +148,10 @@ late-day text numbers year day read late =
       days,
     ) refl
 
-pub date-there : (text numbers : List ℕ) (year day : ℕ) → Read text numbers year day
+pub date-there : {E : Type 0} (refuse : ParseError → ℕ → E) (text numbers : List ℕ) (year day : ℕ) → Read text numbers year day
     → is_in_range 1 (month_length year (get_or numbers 5 0)) day ≡ true
-    → date_front text ≡ Ok (record { year = year; month = get_or numbers 5 0; day = day }, 10)
-date-there text numbers year day read within =
+    → date_front_or refuse text ≡ Ok (record { year = year; month = get_or numbers 5 0; day = day }, 10)
+date-there refuse text numbers year day read within =
     let front = read.front in
     let months = rw front.month_is at (is_in_range-true 1 12 (get_or numbers 5 0) read.month) in
     let days = rw (read.year_is, front.month_is, sym read.day_is.1) at within in

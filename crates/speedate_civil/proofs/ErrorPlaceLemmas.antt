@@ -1,61 +1,185 @@
--- The whole table of dates: its answer is that of the grammar.
-use Rattle.std.proofs.Common.{◌≡◌, ◌∙◌, ℕ, List, ◌++◌, true, Ok, is_err, is_some, refl, sym}
-use Rattle.speedate_civil.specs.Base.{ParseError, TimestampUnit}
+-- The answers with another refusal: those with a place have the faults of the grammar.
+use Rattle.std.proofs.Common.{◌≡◌, ◌∙◌, ◌+◌, ap, ℕ, ℤ, List, drop, Option, Result, Ok, is_err, is_some, true, refl, rules}
+use Rattle.speedate_civil.specs.Base.{Behavior, ParseError, TimestampUnit}
 use Rattle.speedate_base.specs.Requirement.{
-  IsAnswerOf,
   TextRow,
   end_table,
+  fault_alone,
   fault_at_byte,
-  first_fault_or,
-  first_place,
+  first_refusal_or,
+  refusal_map,
   result_and_then,
-  whole_or_fault,
+  result_map,
+  shifted,
+  whole_or_refusal,
 }
-use Rattle.speedate_base.proofs.RequirementLemmas.{
-  first_fault_or-and_then,
-  first_fault_or-append,
-  fault_at_byte-is_some,
-  is_answer_of-is_some,
-  or_number-is_some,
+use Rattle.speedate_base.specs.Refused.{placed, refused_place}
+use Rattle.speedate_base.specs.declared.refusal.Refused.{Refused}
+use Rattle.speedate_base.proofs.RefusalLemmas.{
+  chain-view,
+  first_refusal_or-view,
+  map-view,
+  refusal-all,
+  refusal-value,
+  refused-is_some,
+  then-view,
+  through,
 }
+use Rattle.speedate_base.proofs.RequirementLemmas.{fault_at_byte-is_some, or_number-is_some}
 use Rattle.speedate_civil.specs.Calendar.{Ymd}
 use Rattle.speedate_civil.specs.Date.{
   date_answer,
+  date_answer_or,
   date_front,
+  date_front_or,
   date_numbers,
   date_or_timestamp,
   date_table,
   date_timestamp_answer,
 }
-use Rattle.speedate_civil.specs.ErrorPlace.{date_or_timestamp_place, whole_date_table}
+use Rattle.speedate_civil.specs.DateTime.{
+  DateAndTime,
+  date_time_answer_or,
+  date_time_front_or,
+  separator_table,
+}
+use Rattle.speedate_civil.specs.ErrorPlace.{date_or_timestamp_place}
+use Rattle.speedate_civil.specs.Standard.{
+  standard_date_time,
+  standard_time,
+  strict_date_time_answer_or,
+  strict_time_answer_or,
+}
+use Rattle.speedate_civil.specs.Time.{
+  Clock,
+  TimeOfDay,
+  at_hour,
+  clock_front_or,
+  clock_with_offset,
+  end_fault,
+  hour_range,
+  hour_table,
+  minute_clock,
+  minute_digits,
+  minute_table,
+  offset_front_or,
+  time_answer_or,
+  time_front_or,
+}
+use Rattle.speedate_base.specs.Digits.{two_digit_value}
 use Rattle.speedate_base.specs.Numbers.{whole_number}
 use Rattle.std.specs.Option.{option_map}
 
--- the value at the front of a text that a table reads, and then the end of the text
-pub whole_or_fault-table : {A : Type 0} (fault : A → ParseError) (text : List ℕ)
-    (rows : List TextRow) (value : A) (size : ℕ)
-    → result_and_then (whole_or_fault fault text) (first_fault_or rows (Ok (value, size)))
-    ≡ first_fault_or (rows ++ end_table (fault value) size text) (Ok value)
-whole_or_fault-table fault text rows value size =
-    first_fault_or-and_then (whole_or_fault fault text) rows (Ok (value, size))
-    ∙ sym (first_fault_or-append rows (end_table (fault value) size text) (Ok value))
+whole-view : {A E D : Type 0} (view : E → D) (refuse : ParseError → ℕ → E) (fault : A → ParseError)
+    (text : List ℕ) (front : A × ℕ)
+    → refusal_map view (whole_or_refusal refuse fault text front)
+    ≡ whole_or_refusal (through view refuse) fault text front
+whole-view view refuse fault text front =
+    first_refusal_or-view view refuse (end_table (fault front.0) front.1 text) (Ok front.0)
 
--- a date is what its whole table lets through
-pub date_answer-table : (text : List ℕ) → IsAnswerOf (whole_date_table text) (date_answer text)
-date_answer-table text = (
-  date_numbers text,
-  whole_or_fault-table (λ (read : Ymd). ParseError.ExtraCharacters) text (date_table text)
-      (date_numbers text) 10,
-)
+pub date_front-view : {E D : Type 0} (view : E → D) (refuse : ParseError → ℕ → E) (text : List ℕ)
+    → refusal_map view (date_front_or refuse text) ≡ date_front_or (through view refuse) text
+date_front-view view refuse text =
+    first_refusal_or-view view refuse (date_table text) (Ok (date_numbers text, 10))
 
-pub date_front-table : (text : List ℕ) → IsAnswerOf (date_table text) (date_front text)
-date_front-table text = ((date_numbers text, 10), refl)
+-- a date that is read is read with any refusal
+pub date_front-read : {E : Type 0} (refuse : ParseError → ℕ → E) (text : List ℕ) (date : Ymd × ℕ)
+    → date_front_or refuse text ≡ Ok date → date_front text ≡ Ok date
+date_front-read refuse text date same =
+    let front : Ymd × ℕ = (date_numbers text, 10) in
+    let held = refusal-value refuse (date_table text) front date same in
+    refusal-all fault_alone (date_table text) (Ok front) held.0
+    ∙ ap (λ (read : Ymd × ℕ). Ok read) held.1
 
--- a text has a place if and only if it is refused
-pub date-is_some : (text : List ℕ)
-    → is_some (first_place (whole_date_table text)) ≡ is_err (date_answer text)
-date-is_some text =
-    is_answer_of-is_some (whole_date_table text) (date_answer text) (date_answer-table text)
+pub date_answer-view : {E D : Type 0} (view : E → D) (refuse : ParseError → ℕ → E) (text : List ℕ)
+    → refusal_map view (date_answer_or refuse text) ≡ date_answer_or (through view refuse) text
+date_answer-view view refuse text =
+    then-view view _ _ _ _ (whole-view view refuse (λ (read : Ymd). ParseError.ExtraCharacters) text)
+    (date_front-view view refuse text)
+
+clock_front-view : {E D : Type 0} (view : E → D) (refuse : ParseError → ℕ → E)
+    (behavior : Behavior) (text : List ℕ)
+    → refusal_map view (clock_front_or refuse behavior text)
+    ≡ clock_front_or (through view refuse) behavior text
+clock_front-view view refuse behavior text =
+    let rest = drop 3 text in
+    let seen = through view refuse in
+    let later = minute_table behavior rest in
+    let hour = two_digit_value text 0 in
+    chain-view view refuse (hour_table text) _ _
+    (chain-view view (shifted 3 refuse) (minute_digits rest) _ _
+    (chain-view view refuse (hour_range text) _ _
+    (map-view view (at_hour hour) (first_refusal_or (shifted 3 refuse) later (Ok (minute_clock rest)))
+    ∙ ap (result_map (at_hour hour))
+    (chain-view view (shifted 3 refuse) later (Ok (minute_clock rest)) (Ok (minute_clock rest))
+    refl))))
+
+offset_front-view : {E D : Type 0} (view : E → D) (refuse : ParseError → ℕ → E) (rest : List ℕ)
+    → refusal_map view (offset_front_or refuse rest) ≡ offset_front_or (through view refuse) rest
+offset_front-view view refuse rest = search rules
+
+pub time_front-view : {E D : Type 0} (view : E → D) (refuse : ParseError → ℕ → E)
+    (behavior : Behavior) (text : List ℕ)
+    → refusal_map view (time_front_or refuse behavior text)
+    ≡ time_front_or (through view refuse) behavior text
+time_front-view view refuse behavior text =
+    then-view view _ _ _ _
+    (λ (clock : Clock). then-view view
+    (λ (offset : Option ℤ × ℕ). Ok (clock_with_offset clock offset.0, clock.size + offset.1)) _ _ _
+    (λ (offset : Option ℤ × ℕ). refl)
+    (offset_front-view view (shifted clock.size refuse) (drop clock.size text)))
+    (clock_front-view view refuse behavior text)
+
+pub time_answer-view : {E D : Type 0} (view : E → D) (refuse : ParseError → ℕ → E)
+    (behavior : Behavior) (text : List ℕ)
+    → refusal_map view (time_answer_or refuse behavior text)
+    ≡ time_answer_or (through view refuse) behavior text
+time_answer-view view refuse behavior text =
+    then-view view _ _ _ _ (whole-view view refuse (λ (read : TimeOfDay). end_fault read.offset) text)
+    (time_front-view view refuse behavior text)
+
+pub strict_time_answer-view : {E D : Type 0} (view : E → D) (refuse : ParseError → ℕ → E)
+    (behavior : Behavior) (text : List ℕ)
+    → refusal_map view (strict_time_answer_or refuse behavior text)
+    ≡ strict_time_answer_or (through view refuse) behavior text
+strict_time_answer-view view refuse behavior text =
+    then-view view _ _ _ _
+    (λ (time : TimeOfDay). first_refusal_or-view view refuse (standard_time text) (Ok time))
+    (time_answer-view view refuse behavior text)
+
+pub date_time_front-view : {E D : Type 0} (view : E → D) (refuse : ParseError → ℕ → E)
+    (behavior : Behavior) (text : List ℕ)
+    → refusal_map view (date_time_front_or refuse behavior text)
+    ≡ date_time_front_or (through view refuse) behavior text
+date_time_front-view view refuse behavior text =
+    let time = drop 11 text in
+    then-view view _ _ _ _
+    (λ (date : Ymd × ℕ). then-view view
+    (λ (time : TimeOfDay × ℕ). Ok (record { date = date.0; time = time.0 }, 11 + time.1)) _ _ _
+    (λ (time : TimeOfDay × ℕ). refl)
+    (first_refusal_or-view view refuse (separator_table text)
+    (time_front_or (shifted 11 refuse) behavior time)
+    ∙ ap (first_refusal_or (through view refuse) (separator_table text))
+    (time_front-view view (shifted 11 refuse) behavior time)))
+    (date_front-view view refuse text)
+
+pub date_time_answer-view : {E D : Type 0} (view : E → D) (refuse : ParseError → ℕ → E)
+    (behavior : Behavior) (text : List ℕ)
+    → refusal_map view (date_time_answer_or refuse behavior text)
+    ≡ date_time_answer_or (through view refuse) behavior text
+date_time_answer-view view refuse behavior text =
+    then-view view _ _ _ _
+    (whole-view view refuse (λ (read : DateAndTime). end_fault read.time.offset) text)
+    (date_time_front-view view refuse behavior text)
+
+pub strict_date_time_answer-view : {E D : Type 0} (view : E → D) (refuse : ParseError → ℕ → E)
+    (behavior : Behavior) (text : List ℕ)
+    → refusal_map view (strict_date_time_answer_or refuse behavior text)
+    ≡ strict_date_time_answer_or (through view refuse) behavior text
+strict_date_time_answer-view view refuse behavior text =
+    then-view view _ _ _ _
+    (λ (value : DateAndTime). first_refusal_or-view view refuse (standard_date_time text) (Ok value))
+    (date_time_answer-view view refuse behavior text)
 
 pub date_or_timestamp-is_some : (unit : TimestampUnit) (text : List ℕ)
     → is_some (date_or_timestamp_place unit text) ≡ is_err (date_or_timestamp unit text)
@@ -63,6 +187,7 @@ date_or_timestamp-is_some unit text =
     or_number-is_some (option_map (date_timestamp_answer unit true) (whole_number text))
     (option_map (λ number. fault_at_byte 0 (date_timestamp_answer unit true number))
     (whole_number text))
-    (date_answer text) (first_place (whole_date_table text))
+    (date_answer text) (refused_place (date_answer_or placed text))
     (fault_at_byte-is_some (date_timestamp_answer unit true) 0 (whole_number text))
-    (date-is_some text)
+    (refused-is_some (date_answer_or placed text) _
+    (date_answer-view (λ (refused : Refused). refused.fault) placed text))

@@ -226,7 +226,7 @@ clock-size behavior text clock read =
 pub time_front-is : (behavior : Behavior) (text : List ℕ) (clock : Clock) (offset : Option ℤ × ℕ)
     → clock_front behavior text ≡ Ok clock → offset_front (drop clock.size text) ≡ Ok offset
     → time_front behavior text ≡ Ok (clock_with_offset clock offset.0, clock.size + offset.1)
-time_front-is behavior text clock offset read after = cc
+time_front-is behavior text clock offset read after = rw (read, after) refl
 
 -- a time at the front of a text is that of its bytes alone, and of any more
 time_front-taken : (behavior : Behavior) (text : List ℕ)
@@ -292,7 +292,7 @@ pub date_time_front-is : (behavior : Behavior) (text : List ℕ) (date : Ymd × 
     → date_front text ≡ Ok date → AllHold (separator_table text)
     → time_front behavior (drop 11 text) ≡ Ok time
     → date_time_front behavior text ≡ Ok (record { date = date.0; time = time.0 }, 11 + time.1)
-date_time_front-is behavior text date time dated parted timed = cc
+date_time_front-is behavior text date time dated parted timed = rw (dated, parted.0, timed) refl
 
 -- so is a date-time
 pub date_time_front-taken : (behavior : Behavior) (text : List ℕ)

@@ -21,9 +21,9 @@ mod OffsetLemmas
 mod OffsetMoveLemmas
 mod ReadLemmas
 mod Rfc3339Lemmas
+mod StandardPlaceLemmas
 mod TimeLemmas
 mod UsualLemmas
-pub mod TimePlaceLemmas
 pub mod ValueLemmas
 pub mod MonthLemmas
 mod YearLemmas

@@ -1,31 +1,49 @@
 -- The text by which a time is printed is read as the time, where its offset is absent or whole
 -- minutes, whatever follows it that is no part of it.
-use Rattle.std.proofs.Common.{◌≡◌, ℕ, ◌+◌, ◌≤◌, Bool, true, false, List, [], ◌∷◌, ◌++◌, length, ◌==◌, Ok, refl, rules, arith, ◌∙◌, ap, sym, eqb-true, append-nil}
-use Rattle.speedate_civil.specs.Base.{Behavior}
+use Rattle.std.proofs.Common.{◌≡◌, ℕ, ◌+◌, ◌≤◌, Bool, true, false, List, [], ◌∷◌, ◌++◌, length, drop, ◌==◌, Option, ℤ, Result, Ok, refl, rules, arith, ◌∙◌, ap, sym, eqb-true, append-nil}
+use Rattle.speedate_civil.specs.Base.{Behavior, ParseError}
 use Rattle.std.specs.Char.{is_ascii_digit}
 use Rattle.speedate_base.specs.Ascii.{colon, full_stop}
 use Rattle.speedate_base.specs.Digits.{two_digit_text, six_digit_text, is_decimal_mark}
 use Rattle.speedate_base.specs.Offset.{IsWholeMinutes}
-use Rattle.speedate_base.specs.Requirement.{whole_or_fault, result_and_then}
+use Rattle.speedate_base.specs.Requirement.{shifted, whole_or_fault, result_and_then}
 use Rattle.speedate_civil.specs.Time.{
   Clock,
   at_hour,
   clock_answer,
   clock_front,
+  clock_with_offset,
   minute_text,
   end_fault,
+  offset_front_or,
   offset_text,
   TimeOfDay,
   IsTime,
+  time_after_clock_or,
   time_front,
   time_answer,
   clock_text,
   time_text,
   is_after_time,
 }
+use Rattle.speedate_base.proofs.RefusalLemmas.{shifted-shifted}
 use Rattle.speedate_base.proofs.RequirementLemmas.{whole_or_fault-whole}
 use Rattle.speedate_civil.proofs.ClockLemmas.{clock-whole, clock-fraction}
 use Rattle.speedate_civil.proofs.OffsetLemmas.{offset_text-first, offset_text-front}
+
+-- what is read after a clock, which begins at a byte of the whole text, decides on the time
+pub after-read : {E : Type 0} (refuse : ParseError → ℕ → E) (start : ℕ) (clock : Clock)
+    (text : List ℕ) (offset : Result (Option ℤ × ℕ) E)
+    → offset ≡ offset_front_or (shifted (start + clock.size) refuse) (drop clock.size text)
+    → result_and_then (λ (after : Option ℤ × ℕ). Ok
+    (clock_with_offset clock after.0, clock.size + after.1)) offset
+    ≡ time_after_clock_or (shifted start refuse) text clock
+after-read refuse start clock text offset read =
+    ap (result_and_then (λ (after : Option ℤ × ℕ). Ok
+    (clock_with_offset clock after.0, clock.size + after.1)))
+    (read
+    ∙ ap (λ (refuse : ParseError → ℕ → _). offset_front_or refuse (drop clock.size text))
+    (sym (shifted-shifted start clock.size refuse)))
 
 -- a printed hour, before a clock that is read
 pub front-printed : (behavior : Behavior) (hour minute second : ℕ) (tail : List ℕ) (clock : Clock)

@@ -18,8 +18,10 @@ use Rattle.speedate_base.specs.Requirement.{
   TextRow,
   ◌else_fault◌,
   ◌at_byte◌,
+  fault_alone,
   first_fault_or,
-  whole_or_fault,
+  first_refusal_or,
+  whole_or_refusal,
   ◌implies◌,
   or_number,
   result_map,
@@ -35,13 +37,13 @@ ymd date = record { year = date.year; month = date.month; day = date.day }
 
 infix 15 ◌gives◌
 -- the answer of a call, a date seen as its numbers, is the given one
-abbrev pub ◌gives◌ : Result Date ParseError → Result Ymd ParseError → Type 0
+abbrev pub ◌gives◌ : {E : Type 0} → Result Date E → Result Ymd E → Type 0
 result gives answer = result_map ymd result ≡ answer
 
 infix 15 ◌gives_front◌
 -- the answer of a call for the front of a text, a date seen as its numbers and how many bytes it
 -- takes, is the given one
-abbrev pub ◌gives_front◌ : Result (Date × ℕ) ParseError → Result (Ymd × ℕ) ParseError → Type 0
+abbrev pub ◌gives_front◌ : {E : Type 0} → Result (Date × ℕ) E → Result (Ymd × ℕ) E → Type 0
 result gives_front front = result_map (with_size ymd) result ≡ front
 
 -- what a month has to meet
@@ -86,15 +88,24 @@ date_table text = let date = date_numbers text in
     ∷ (day_row date at_byte 8)
     ∷ []
 
+-- the date at the front of a text, and how many bytes it takes, or the text's refusal, made of its
+-- fault and its place
+abbrev pub date_front_or : {E : Type 0} → (ParseError → ℕ → E) → List ℕ → Result (Ymd × ℕ) E
+date_front_or refuse text = first_refusal_or refuse (date_table text) (Ok (date_numbers text, 10))
+
+-- the date that a text is, or the text's refusal
+abbrev pub date_answer_or : {E : Type 0} → (ParseError → ℕ → E) → List ℕ → Result Ymd E
+date_answer_or refuse text = do
+  date ← date_front_or refuse text
+  whole_or_refusal refuse (λ read. ParseError.ExtraCharacters) text date
+
 -- the date at the front of a text, and how many bytes it takes, or the text's fault
 abbrev pub date_front : List ℕ → Result (Ymd × ℕ) ParseError
-date_front text = first_fault_or (date_table text) (Ok (date_numbers text, 10))
+date_front text = date_front_or fault_alone text
 
 -- the date that a text is, or the text's fault
 abbrev pub date_answer : List ℕ → Result Ymd ParseError
-date_answer text = do
-  date ← date_front text
-  whole_or_fault (λ read. ParseError.ExtraCharacters) text date
+date_answer text = date_answer_or fault_alone text
 
 -- the one text by which a date is printed
 abbrev pub date_text : Ymd → List ℕ

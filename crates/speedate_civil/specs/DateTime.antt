@@ -28,8 +28,11 @@ use Rattle.speedate_base.specs.Requirement.{
   TextRow,
   ◌else_fault◌,
   ◌at_byte◌,
+  fault_alone,
   first_fault_or,
-  whole_or_fault,
+  first_refusal_or,
+  shifted,
+  whole_or_refusal,
   result_map,
   or_number,
   with_size,
@@ -39,7 +42,7 @@ pub use Rattle.speedate_civil.specs.declared.datetime.DateTime.{DateTime}
 use Rattle.speedate_civil.specs.declared.datetime.now.Moment.{Moment}
 use Rattle.speedate_civil.specs.Instant.{by_instant, move_table}
 use Rattle.speedate_civil.specs.Calendar.{Ymd, IsDate, midnight_second, date_of_number}
-use Rattle.speedate_civil.specs.Date.{ymd, date_front, date_text, day_at, second_at}
+use Rattle.speedate_civil.specs.Date.{ymd, date_front_or, date_text, day_at, second_at}
 use Rattle.speedate_civil.specs.Time.{
   microsecond_range,
   TimeOfDay,
@@ -47,7 +50,7 @@ use Rattle.speedate_civil.specs.Time.{
   second_of_day,
   time_of_day,
   end_fault,
-  time_front,
+  time_front_or,
   time_text,
   time_at,
 }
@@ -97,13 +100,13 @@ date_and_time value = record { date = ymd value.date; time = time_of_day value.t
 
 infix 15 ◌gives◌
 -- the answer of a call, a date-time seen as its numbers, is the given one
-abbrev pub ◌gives◌ : Result DateTime ParseError → Result DateAndTime ParseError → Type 0
+abbrev pub ◌gives◌ : {E : Type 0} → Result DateTime E → Result DateAndTime E → Type 0
 result gives answer = result_map date_and_time result ≡ answer
 
 infix 15 ◌gives_front◌
 -- the answer of a call for the front of a text, a date-time seen as its numbers and how many bytes
 -- it takes, is the given one
-abbrev pub ◌gives_front◌ : Result (DateTime × ℕ) ParseError → Result (DateAndTime × ℕ) ParseError
+abbrev pub ◌gives_front◌ : {E : Type 0} → Result (DateTime × ℕ) E → Result (DateAndTime × ℕ) E
     → Type 0
 result gives_front front = result_map (with_size date_and_time) result ≡ front
 
@@ -123,18 +126,28 @@ separator_table text =
     ∷ []
 
 -- the date-time at the front of a text, a date, a separator and a time, and how many bytes it
--- takes, or the text's fault
-abbrev pub date_time_front : Behavior → List ℕ → Result (DateAndTime × ℕ) ParseError
-date_time_front behavior text = do
-  date ← date_front text
-  time ← first_fault_or (separator_table text) (time_front behavior (drop 11 text))
+-- takes, or the text's refusal
+abbrev pub date_time_front_or : {E : Type 0} → (ParseError → ℕ → E) → Behavior → List ℕ
+    → Result (DateAndTime × ℕ) E
+date_time_front_or refuse behavior text = do
+  date ← date_front_or refuse text
+  time ← first_refusal_or refuse (separator_table text)
+      (time_front_or (shifted 11 refuse) behavior (drop 11 text))
   Ok (record { date = date.0; time = time.0 }, 11 + time.1)
 
--- the date-time that a text is, or the text's fault
+-- the date-time that a text is, or the text's refusal
+abbrev pub date_time_answer_or : {E : Type 0} → (ParseError → ℕ → E) → Behavior → List ℕ
+    → Result DateAndTime E
+date_time_answer_or refuse behavior text = do
+  value ← date_time_front_or refuse behavior text
+  whole_or_refusal refuse (λ read. end_fault read.time.offset) text value
+
+-- the same, with the text's fault
+abbrev pub date_time_front : Behavior → List ℕ → Result (DateAndTime × ℕ) ParseError
+date_time_front behavior text = date_time_front_or fault_alone behavior text
+
 abbrev pub date_time_answer : Behavior → List ℕ → Result DateAndTime ParseError
-date_time_answer behavior text = do
-  value ← date_time_front behavior text
-  whole_or_fault (λ read. end_fault read.time.offset) text value
+date_time_answer behavior text = date_time_answer_or fault_alone behavior text
 
 -- the one text by which a date-time is printed
 abbrev pub date_time_text : DateAndTime → List ℕ

@@ -2,16 +2,9 @@
 use Rattle.std.specs.Prelude.{◌≡◌, ℕ, ◌+◌, ◌≤◌, List, Bool, true, false, Option, Some, None, Result, Ok, codes, drop, length, if◌then◌else◌}
 use Rattle.speedate_civil.specs.Base.{ParseError}
 use Rattle.speedate_base.specs.Digits.{eight_at, fit_length, two_digits_at, two_digit_value}
-use Rattle.speedate_base.specs.Requirement.{◌>>=◌}
 use Rattle.speedate_civil.specs.declared.time.pure.AfterMinute.{AfterMinute}
 use Rattle.speedate_civil.specs.declared.time.pure.Second.{Second}
-use Rattle.speedate_civil.specs.Time.{
-  Clock,
-  TimeOfDay,
-  clock_with_offset,
-  has_second,
-  offset_front,
-}
+use Rattle.speedate_civil.specs.Time.{Clock, has_second}
 
 -- the second of a clock that is given from its minute on
 abbrev pub second_of : List ℕ → Second
@@ -29,13 +22,6 @@ clock_after minute after = record {
   microsecond = after.microsecond;
   size = after.size;
 }
-
--- the time of a clock at the front of a text and the offset that follows it, and how many bytes it
--- takes, or the fault of the offset
-abbrev pub time_after_clock : List ℕ → Clock → Result (TimeOfDay × ℕ) ParseError
-time_after_clock text clock = do
-  offset ← offset_front (drop clock.size text)
-  Ok (clock_with_offset clock offset.0, clock.size + offset.1)
 
 -- a text of 19 bytes or more begins as a date looks, up to its month, and goes on from byte 11 as a
 -- clock with its second looks

@@ -23,12 +23,13 @@ use Rattle.speedate_base.specs.Requirement.{
   ◌else_fault◌,
   ◌at_byte◌,
   moved,
-  first_fault_or,
+  fault_alone,
+  first_refusal_or,
   ◌>>=◌,
 }
 use Rattle.speedate_civil.specs.Calendar.{month_length}
-use Rattle.speedate_civil.specs.DateTime.{DateAndTime, date_time_answer}
-use Rattle.speedate_civil.specs.Time.{has_minus_sign, is_utc, TimeOfDay, time_answer}
+use Rattle.speedate_civil.specs.DateTime.{DateAndTime, date_time_answer_or}
+use Rattle.speedate_civil.specs.Time.{has_minus_sign, is_utc, TimeOfDay, time_answer_or}
 
 -- a text is 2DIGIT, as time-hour, time-minute and time-second are (RFC 3339 5.6): the digits of a
 -- number up to the highest
@@ -132,14 +133,23 @@ standard_date_time text =
     else_fault ParseError.InvalidCharDateTimeSep at_byte 10)
     ∷ moved 11 (standard_time (drop 11 text))
 
--- the time that a text of RFC 3339 is, or the text's fault
-abbrev pub strict_time_answer : Behavior → List ℕ → Result TimeOfDay ParseError
-strict_time_answer behavior text = do
-  time ← time_answer behavior text
-  first_fault_or (standard_time text) (Ok time)
+-- the time that a text of RFC 3339 is, or the text's refusal
+abbrev pub strict_time_answer_or : {E : Type 0} → (ParseError → ℕ → E) → Behavior → List ℕ
+    → Result TimeOfDay E
+strict_time_answer_or refuse behavior text = do
+  time ← time_answer_or refuse behavior text
+  first_refusal_or refuse (standard_time text) (Ok time)
 
--- the date-time that a text of RFC 3339 is, or the text's fault
+-- the date-time that a text of RFC 3339 is, or the text's refusal
+abbrev pub strict_date_time_answer_or : {E : Type 0} → (ParseError → ℕ → E) → Behavior → List ℕ
+    → Result DateAndTime E
+strict_date_time_answer_or refuse behavior text = do
+  value ← date_time_answer_or refuse behavior text
+  first_refusal_or refuse (standard_date_time text) (Ok value)
+
+-- the same, with the text's fault
+abbrev pub strict_time_answer : Behavior → List ℕ → Result TimeOfDay ParseError
+strict_time_answer behavior text = strict_time_answer_or fault_alone behavior text
+
 abbrev pub strict_date_time_answer : Behavior → List ℕ → Result DateAndTime ParseError
-strict_date_time_answer behavior text = do
-  value ← date_time_answer behavior text
-  first_fault_or (standard_date_time text) (Ok value)
+strict_date_time_answer behavior text = strict_date_time_answer_or fault_alone behavior text

@@ -1,69 +1,89 @@
 //! The form of a duration as a clock shows it.
 
-ghost use Rattle.std.specs.Prelude.{◌≡◌, ◌+◌, ◌-◌, ◌^◌, ◌<◌, ◌≤◌, length, min, position, ◌==◌, false, Ok, Err, IfOk, IsTrue};
+ghost use Rattle.std.specs.Prelude.{◌≡◌, ◌+◌, ◌-◌, ◌^◌, ◌<◌, ◌≤◌, length, min, position, ◌==◌, false, Ok, Err, IfErr, IfOk, IsTrue};
 ghost use Rattle.speedate_base.specs.Ascii.{colon};
 ghost use Rattle.speedate_base.specs.Digits.{run_length, run_value};
-ghost use Rattle.speedate_base.specs.Requirement.{first_fault_or};
+ghost use Rattle.speedate_base.specs.Requirement.{first_refusal_or, shifted};
 ghost use Rattle.speedate.specs.ClockForm.{
   colon_place,
   has_hours,
   hours_table,
-  after_hours,
-  clock_form,
+  after_hours_or,
+  clock_form_or,
 };
 
 use super::unsigned::UnsignedDuration;
 use speedate_base::config::MicrosecondsPrecisionOverflowBehavior as Behavior;
 use speedate_base::faults::ParseError;
 use speedate_base::numbers::{DigitRun, byte_at, takes_digits};
+use speedate_base::refusal::Refusal;
 use speedate_civil::time::PureTime;
 
 /// How many bytes the hours have at most.
 const HOURS_LENGTH_MAX: usize = 10;
 
 /// How many hours a clock shows at most.
-pub(super) const HOURS_MAX: u64 = 2_400_000_000;
+const HOURS_MAX: u64 = 2_400_000_000;
 
 /// How many bytes follow the hours at most if digits are refused, as in `01:03.123456`.
-pub(super) const REST_LENGTH_MAX: usize = 12;
+const REST_LENGTH_MAX: usize = 12;
 
 impl UnsignedDuration {
-    /// Parses a duration as a clock shows it, whose hours are the digits at its front: a day, an hour
-    /// and three seconds from `b"25:00:03"`.
+    /// Parses a duration as a clock shows it, whose hours are the digits at its front, and which begins at
+    /// `start` of the whole text: a day, an hour and three seconds from `b"25:00:03"`.
     #[inline(always)]
-    #[tactic(auto, unfolding(crate::specs::ClockForm::clock_form))]
-    pub(super) fn from_clock(
+    #[tactic(auto, unfolding(crate::specs::ClockForm::clock_form_or))]
+    pub(super) fn from_clock<E: Refusal>(
         bytes: &[u8],
         hours: DigitRun,
+        start: usize,
         behavior: Behavior,
-    ) -> Result<Self, ParseError>
+    ) -> Result<Self, E>
         requires length { hours.length ≡ run_length bytes.now 0 }
         requires value { hours.value ≡ min (run_value bytes.now 0) (2 ^ 64 - 1) }
-        ensures answer { result ≡ clock_form behavior bytes.now }
+        requires start { start + length bytes.now + 16 ≤ usize.MAX }
+        ensures answer { result ≡ clock_form_or (shifted start E.refusal) behavior bytes.now }
+        ensures placed { IfErr result (E.lies_within (start + length bytes.now)) }
     {
-        let end = hours_end(bytes, hours.length)?;
-        Self::after_hours(&bytes[end + 1..], hours.value, behavior)
+        let end = hours_end::<E>(bytes, hours.length, start)?;
+        if hours.value > HOURS_MAX {
+            return Err(E::at(ParseError::DurationHourValueTooLarge, start));
+        }
+        Self::after_hours(
+            &bytes[end + 1..],
+            hours.value as u32,
+            start + (end + 1),
+            behavior,
+        )
     }
 
-    /// Parses what follows the hours of a clock, from its minute on: all of `rest`.
+    /// Parses what follows the hours of a clock, from its minute on, which begins at `start` of the whole
+    /// text: all of `rest`.
     #[inline(always)]
-    fn after_hours(rest: &[u8], hours: u64, behavior: Behavior) -> Result<Self, ParseError>
-        ensures answer { result ≡ after_hours behavior hours rest.now }
+    fn after_hours<E: Refusal>(
+        rest: &[u8],
+        hours: u32,
+        start: usize,
+        behavior: Behavior,
+    ) -> Result<Self, E>
+        requires hours { hours ≤ 2400000000 }
+        requires start { start + length rest.now + 16 ≤ usize.MAX }
+        ensures answer { result ≡ after_hours_or (shifted start E.refusal) behavior hours rest.now }
+        ensures placed { IfErr result (E.lies_within (start + length rest.now)) }
     {
-        if hours > HOURS_MAX {
-            return Err(ParseError::DurationHourValueTooLarge);
-        }
         if !takes_digits(behavior, rest.len(), REST_LENGTH_MAX) {
-            return Err(ParseError::SecondFractionTooLong);
+            return Err(E::at(
+                ParseError::SecondFractionTooLong,
+                start + REST_LENGTH_MAX,
+            ));
         }
         if rest.len() < 2 {
-            return Err(ParseError::TooShort);
+            return Err(E::at(ParseError::TooShort, start + rest.len()));
         }
-        let clock = PureTime::parse_from_minute(rest, 0, behavior)?;
+        let clock = PureTime::minute_front_at::<E>(rest, start, behavior)?;
         if clock.size != rest.len() {
-            return Err(ParseError::ExtraCharacters);
+            return Err(E::at(ParseError::ExtraCharacters, start + clock.size));
         }
-        let hours = hours as u32;
         Ok(UnsignedDuration {
             day: hours / 24,
             second: 3600 * (hours % 24) + 60 * u32::from(clock.minute) + u32::from(clock.second),
@@ -72,18 +92,22 @@ impl UnsignedDuration {
     }
 }
 
-/// Where the hours at the front end, whose digits end at `end`: at the `:` that follows them.
+/// Where the hours at the front end, whose digits end at `end`: at the `:` that follows them. They begin at
+/// `start` of the whole text.
 #[inline(always)]
-pub(super) fn hours_end(bytes: &[u8], end: usize) -> Result<usize, ParseError>
-    requires { end ≡ run_length bytes.now 0 }
-    ensures answer { result ≡ first_fault_or (hours_table bytes.now) (Ok (colon_place bytes.now)) }
+fn hours_end<E: Refusal>(bytes: &[u8], end: usize, start: usize) -> Result<usize, E>
+    requires end { end ≡ run_length bytes.now 0 }
+    requires start { start + length bytes.now ≤ usize.MAX }
+    ensures answer { result ≡ first_refusal_or (shifted start E.refusal) (hours_table bytes.now)
+        (Ok (colon_place bytes.now)) }
     ensures within { IfOk result (λ place. place < length bytes.now) }
+    ensures placed { IfErr result (E.lies_within (start + length bytes.now)) }
 {
     if bytes.len() < 5 {
-        return Err(ParseError::TooShort);
+        return Err(E::at(ParseError::TooShort, start + bytes.len()));
     }
     if !has_hours(bytes, end) {
-        return Err(hours_fault(bytes));
+        return Err(hours_refusal(bytes, end, start));
     }
     Ok(end)
 }
@@ -100,21 +124,27 @@ fn has_hours(bytes: &[u8], end: usize) -> bool
     byte_at(bytes, end) == b':' && end <= HOURS_LENGTH_MAX
 }
 
-/// The error of a clock that does not begin with hours and a `:`.
-fn hours_fault(bytes: &[u8]) -> ParseError
+/// The refusal of a clock that does not begin with hours and a `:`. Its first digits end at `end`.
+fn hours_refusal<E: Refusal>(bytes: &[u8], end: usize, start: usize) -> E
+    requires end { end ≡ run_length bytes.now 0 }
+    requires start { start + length bytes.now ≤ usize.MAX }
     requires long { 5 ≤ length bytes.now }
     requires other { has_hours bytes.now ≡ false }
-    ensures fault { Err result
-        ≡ first_fault_or (hours_table bytes.now) (Ok (colon_place bytes.now)) }
+    ensures refusal { Err result ≡ first_refusal_or (shifted start E.refusal)
+        (hours_table bytes.now) (Ok (colon_place bytes.now)) }
+    ensures placed { E.lies_within (start + length bytes.now) result }
 {
     match colon_place(bytes) {
-        Some(place) if place > HOURS_LENGTH_MAX => ParseError::DurationHourValueTooLarge,
-        _ => ParseError::InvalidCharHour,
+        None => E::at(ParseError::InvalidCharHour, start + end),
+        Some(place) if place > HOURS_LENGTH_MAX => {
+            E::at(ParseError::DurationHourValueTooLarge, start)
+        }
+        Some(_) => E::at(ParseError::InvalidCharHour, start),
     }
 }
 
 /// The place of the first `:`.
-pub(super) fn colon_place(bytes: &[u8]) -> Option<usize>
+fn colon_place(bytes: &[u8]) -> Option<usize>
     ensures place { result ≡ position (λ byte. byte == colon) bytes.now }
 {
     bytes.iter().position(|&byte| byte == b':')

@@ -1,46 +1,59 @@
 //! The form of a duration that begins with days.
 
-ghost use Rattle.std.specs.Prelude.{◌≡◌, ◌-◌, ◌^◌, ◌≤◌, length, min, Some, None, IfSome, IfOk, if◌then◌else◌};
+ghost use Rattle.std.specs.Prelude.{◌≡◌, ◌-◌, ◌^◌, ◌≤◌, ◌+◌, length, min, Some, None, IfSome, IfErr, IfOk, if◌then◌else◌};
 ghost use Rattle.speedate_base.specs.Digits.{run_length, run_value};
+ghost use Rattle.speedate_base.specs.Requirement.{shifted};
 ghost use Rattle.speedate.specs.DayForm.{
   size_of_one,
   day_endings,
   gaps,
   has_whole_ending,
   is_day_letter,
-  days_front,
-  after_days,
-  day_form,
+  days_front_or,
+  after_days_or,
+  day_form_or,
 };
 
 use super::unsigned::UnsignedDuration;
 use speedate_base::config::MicrosecondsPrecisionOverflowBehavior as Behavior;
 use speedate_base::faults::ParseError;
 use speedate_base::numbers::{DigitRun, byte_at, digit_run};
+use speedate_base::refusal::Refusal;
 
 impl UnsignedDuration {
-    /// Parses a duration whose days, the digits at its front, come first: a day and ten hours from
-    /// `b"1 day, 10:00"`.
+    /// Parses a duration whose days, the digits at its front, come first, and which begins at `start` of
+    /// the whole text: a day and ten hours from `b"1 day, 10:00"`.
     #[inline(always)]
-    #[tactic(auto, unfolding(crate::specs::DayForm::day_form))]
-    pub(super) fn from_days(
+    #[tactic(auto, unfolding(crate::specs::DayForm::day_form_or))]
+    pub(super) fn from_days<E: Refusal>(
         bytes: &[u8],
         days: DigitRun,
+        start: usize,
         behavior: Behavior,
-    ) -> Result<Self, ParseError>
+    ) -> Result<Self, E>
         requires length { days.length ≡ run_length bytes.now 0 }
         requires value { days.value ≡ min (run_value bytes.now 0) (2 ^ 64 - 1) }
-        ensures answer { result ≡ day_form behavior bytes.now }
+        requires start { start + length bytes.now + 16 ≤ usize.MAX }
+        ensures answer { result ≡ day_form_or (shifted start E.refusal) behavior bytes.now }
+        ensures placed { IfErr result (E.lies_within (start + length bytes.now)) }
     {
-        let (days, size) = days_at_front(bytes, days)?;
-        Self::after_days(&bytes[size..], days, behavior)
+        let (days, size) = days_at_front::<E>(bytes, days, start)?;
+        Self::after_days(&bytes[size..], days, start + size, behavior)
     }
 
-    /// Parses what follows the days, nothing or a clock of fewer than 24 hours, and joins the two.
+    /// Parses what follows the days, from `start` of the whole text on, nothing or a clock of fewer than 24
+    /// hours, and joins the two.
     #[inline(always)]
-    #[tactic(auto, unfolding(crate::specs::DayForm::after_days))]
-    fn after_days(rest: &[u8], days: u32, behavior: Behavior) -> Result<Self, ParseError>
-        ensures answer { result ≡ after_days behavior days rest.now }
+    #[tactic(auto, unfolding(crate::specs::DayForm::after_days_or))]
+    fn after_days<E: Refusal>(
+        rest: &[u8],
+        days: u32,
+        start: usize,
+        behavior: Behavior,
+    ) -> Result<Self, E>
+        requires { start + length rest.now + 16 ≤ usize.MAX }
+        ensures answer { result ≡ after_days_or (shifted start E.refusal) behavior days rest.now }
+        ensures placed { IfErr result (E.lies_within (start + length rest.now)) }
     {
         if rest.is_empty() {
             return Ok(UnsignedDuration {
@@ -49,35 +62,43 @@ impl UnsignedDuration {
                 microsecond: 0,
             });
         }
-        let clock = Self::from_clock(rest, digit_run(rest), behavior)?;
+        let clock = Self::from_clock::<E>(rest, digit_run(rest), start, behavior)?;
         if clock.day != 0 {
-            return Err(ParseError::DurationHourValueTooLarge);
+            return Err(E::at(ParseError::DurationHourValueTooLarge, start));
         }
         Ok(UnsignedDuration { day: days, ..clock })
     }
 }
 
 /// How many days the digits at the front are, and how many bytes they take with the word and the gap that
-/// follow them.
+/// follow them. They begin at `start` of the whole text.
 #[inline(always)]
-pub(super) fn days_at_front(bytes: &[u8], days: DigitRun) -> Result<(u32, usize), ParseError>
+fn days_at_front<E: Refusal>(
+    bytes: &[u8],
+    days: DigitRun,
+    start: usize,
+) -> Result<(u32, usize), E>
     requires length { days.length ≡ run_length bytes.now 0 }
     requires value { days.value ≡ min (run_value bytes.now 0) (2 ^ 64 - 1) }
-    ensures answer { result ≡ days_front bytes.now }
+    requires start { start + length bytes.now + 16 ≤ usize.MAX }
+    ensures answer { result ≡ days_front_or (shifted start E.refusal) bytes.now }
     ensures within { IfOk result (λ days. days.1 ≤ length bytes.now) }
+    ensures placed { IfErr result (E.lies_within (start + length bytes.now)) }
 {
     if days.length == 0 {
-        return Err(ParseError::DurationInvalidNumber);
+        return Err(E::at(ParseError::DurationInvalidNumber, start));
     }
     if days.value > u64::from(u32::MAX) {
-        return Err(ParseError::DurationValueTooLarge);
+        return Err(E::at(ParseError::DurationValueTooLarge, start));
     }
     let letter = days.length + usize::from(bytes[days.length..].starts_with(b" "));
     if !is_day_letter(byte_at(bytes, letter)) {
-        return Err(ParseError::DurationInvalidDays);
+        return Err(E::at(ParseError::DurationInvalidDays, start + letter));
     }
     let ending = letter + 1;
-    let size = ending_size(&bytes[ending..]).ok_or(ParseError::DurationInvalidDays)?;
+    let Some(size) = ending_size(&bytes[ending..]) else {
+        return Err(E::at(ParseError::DurationInvalidDays, start + ending));
+    };
     let gap = ending + size;
     Ok((days.value as u32, gap + gap_size(&bytes[gap..])))
 }

@@ -1,11 +1,12 @@
 //! The form of a duration that ISO 8601 has.
 
-ghost use Rattle.std.specs.Prelude.{◌≡◌, ◌+◌, ◌-◌, ◌*◌, ◌<◌, ◌≤◌, length, take, drop, IsTrue, true, false, Ok, Err, IfOk, IfSome, [], if◌then◌else◌};
+ghost use Rattle.std.specs.Prelude.{◌≡◌, ◌+◌, ◌-◌, ◌*◌, ◌<◌, ◌≤◌, length, take, drop, IsTrue, true, false, Ok, IfErr, IfOk, IfSome, Some, None, [], if◌then◌else◌};
 ghost use Rattle.std.specs.Char.{is_ascii_digit};
 ghost use Rattle.std.specs.List.{list_all};
 ghost use Rattle.speedate_base.specs.Digits.{fraction_value, is_decimal_mark};
 ghost use Rattle.std.specs.Option.{option_map, is_some};
-ghost use Rattle.speedate_base.specs.Requirement.{result_map, with_size};
+ghost use Rattle.speedate_base.specs.Refused.{placed};
+ghost use Rattle.speedate_base.specs.Requirement.{result_map, shifted, with_size};
 ghost use Rattle.speedate.specs.IsoForm.{
   Component,
   TimeDesignator,
@@ -27,10 +28,13 @@ ghost use Rattle.speedate.specs.IsoForm.{
 
 mod error_place;
 
+pub(super) use error_place::{Bound, first_item};
+
 use super::unsigned::UnsignedDuration;
 use speedate_base::config::IsoOrder;
 use speedate_base::faults::ParseError;
 use speedate_base::numbers::{Fraction, byte_at, digit_run, few_digits, is_decimal_mark};
+use speedate_base::refusal::Refusal;
 use speedate_base::util::{SECONDS_PER_DAY, twice_microseconds};
 
 /// How many digits of a fraction of a second are whole microseconds.
@@ -170,22 +174,29 @@ pub(super) struct Sums {
 }
 
 impl Sums {
-    ghost use Rattle.speedate.specs.Duration.{iso_from, iso_form};
-    ghost use Rattle.speedate.specs.IsoParts.{unit_parts, IsUnitOf, sums_parts, item_front};
+    ghost use Rattle.speedate.specs.Duration.{iso_from_or, iso_form_or};
+    ghost use Rattle.speedate.specs.IsoParts.{unit_parts, IsUnitOf, sums_parts, item_front_or};
 
-    /// Parses all items of a duration, and adds them up.
+    /// Parses all items of a duration, and adds them up. The text ends at `end` of the whole.
     ///
     /// Most texts are whole numbers of few digits with their designators, a `T`, and such components
     /// again. These come first: such a number times its unit fits 32 bits, which leaves the test of the
     /// sum. What is left is parsed item by item.
     #[inline(always)]
-    pub(super) fn parse(body: &[u8], order: IsoOrder) -> Result<UnsignedDuration, ParseError>
-        ensures answer { result ≡ iso_form order body.now }
+    pub(super) fn parse<E: Refusal>(
+        body: &[u8],
+        order: IsoOrder,
+        end: usize,
+    ) -> Result<UnsignedDuration, E>
+        requires { length body.now ≤ end }
+        ensures answer { result
+            ≡ iso_form_or (shifted (end - length body.now) E.refusal) order body.now }
+        ensures placed { IfErr result (E.lies_within end) }
     {
         let none = Sums::none(order);
         let (days, rest) = none.with_short_components(body);
         let (sums, rest) = days.with_short_time(rest);
-        sums.parse_items(rest)
+        sums.parse_items(rest, end)
     }
 
     /// The sums of no items.
@@ -208,8 +219,10 @@ impl Sums {
     /// The sums with the short components after a `T`, if a first one begins a text, and what follows them.
     #[inline(always)]
     fn with_short_time(self, text: &[u8]) -> (Self, &[u8])
-        ensures answer { iso_from (sums_parts result.0) result.1.now
-            ≡ iso_from (sums_parts self) text.now }
+        ensures answer { iso_from_or (shifted (length text.now - length result.1.now) placed)
+            (sums_parts result.0) result.1.now
+            ≡ iso_from_or placed (sums_parts self) text.now }
+        ensures within { length result.1.now ≤ length text.now }
     {
         match text {
             [b'T', rest @ ..] if !self.is_time => self.begin_time().with_short_components(rest),
@@ -222,8 +235,10 @@ impl Sums {
     /// add up.
     #[inline(always)]
     fn with_short_components(self, text: &[u8]) -> (Self, &[u8])
-        ensures answer { iso_from (sums_parts result.0) result.1.now
-            ≡ iso_from (sums_parts self) text.now }
+        ensures answer { iso_from_or (shifted (length text.now - length result.1.now) placed)
+            (sums_parts result.0) result.1.now
+            ≡ iso_from_or placed (sums_parts self) text.now }
+        ensures within { length result.1.now ≤ length text.now }
     {
         let mut sums = self;
         let mut rest = text;
@@ -239,7 +254,7 @@ impl Sums {
     #[inline(always)]
     fn with_short_component(self, text: &[u8]) -> Option<(Self, usize)>
         ensures item { IfSome result (λ next. Ok (sums_parts next.0, next.1)
-            ≡ item_front (sums_parts self) (item_at text.now)) }
+            ≡ item_front_or placed (sums_parts self) (item_at text.now)) }
         ensures some { IfSome result (λ next. 0 < next.1) }
         ensures within { IfSome result (λ next. next.1 ≤ length text.now) }
     {
@@ -312,19 +327,6 @@ impl Sums {
         Some(sums)
     }
 
-    /// The amount that all items add up to, if a component is among them.
-    #[inline(always)]
-    fn amount(self) -> Result<UnsignedDuration, ParseError>
-        ensures answer { result
-            ≡ (if self.has_component then Ok (sums_amount (sums_parts self))
-            else Err ParseError.TooShort) }
-    {
-        if !self.has_component {
-            return Err(ParseError::TooShort);
-        }
-        Ok(self.sum())
-    }
-
     /// The amount of sums.
     #[inline(always)]
     fn sum(self) -> UnsignedDuration
@@ -337,57 +339,71 @@ impl Sums {
         }
     }
 
-    /// Parses the items of a text one by one, with all that may be wrong in them, and adds them.
+    /// Parses the items of a text one by one, with all that may be wrong in them, and adds them. The text
+    /// ends at `end` of the whole.
     #[inline(always)]
-    fn parse_items(self, text: &[u8]) -> Result<UnsignedDuration, ParseError>
-        ensures answer { result ≡ iso_from (sums_parts self) text.now }
+    fn parse_items<E: Refusal>(self, text: &[u8], end: usize) -> Result<UnsignedDuration, E>
+        requires { length text.now ≤ end }
+        ensures answer { result
+            ≡ iso_from_or (shifted (end - length text.now) E.refusal) (sums_parts self) text.now }
+        ensures placed { IfErr result (E.lies_within end) }
     {
         let mut sums = self;
         let mut rest = text;
         while !rest.is_empty() {
-            let (next, size) = sums.with_item(rest)?;
+            let (next, size) = sums.with_item::<E>(rest, end - rest.len())?;
             sums = next;
             rest = &rest[size..];
         }
-        sums.amount()
+        if !sums.has_component {
+            return Err(E::at(ParseError::TooShort, end));
+        }
+        Ok(sums.sum())
     }
 
-    /// The sums with the item that begins a text, and how many bytes it has.
+    /// The sums with the item that begins a text, and how many bytes it has. The text begins at `start` of
+    /// the whole.
     #[inline(always)]
-    fn with_item(self, text: &[u8]) -> Result<(Self, usize), ParseError>
-        requires { 0 < length text.now }
+    fn with_item<E: Refusal>(self, text: &[u8], start: usize) -> Result<(Self, usize), E>
+        requires some { 0 < length text.now }
+        requires start { start + length text.now ≤ usize.MAX }
         ensures item { result_map (with_size sums_parts) result
-            ≡ item_front (sums_parts self) (item_at text.now) }
+            ≡ item_front_or (shifted start E.refusal) (sums_parts self) (item_at text.now) }
         ensures some { IfOk result (λ next. 0 < next.1) }
         ensures within { IfOk result (λ next. next.1 ≤ length text.now) }
+        ensures placed { IfErr result (E.lies_within (start + length text.now)) }
     {
         if text[0] != b'T' {
-            return self.with_component(text);
+            return self.with_component(text, start);
         }
         if self.is_time {
-            return Err(ParseError::DurationTRepeated);
+            return Err(E::at(ParseError::DurationTRepeated, start));
         }
         Ok((self.begin_time(), 1))
     }
 
-    /// The sums with the component that begins a text, and how many bytes it has.
+    /// The sums with the component that begins a text, and how many bytes it has. The text begins at `start`
+    /// of the whole.
     #[inline(always)]
     #[tactic(auto, using(crate::proofs::IsoItemLemmas::component_rules))]
-    fn with_component(self, text: &[u8]) -> Result<(Self, usize), ParseError>
+    fn with_component<E: Refusal>(self, text: &[u8], start: usize) -> Result<(Self, usize), E>
+        requires { start + length text.now ≤ usize.MAX }
         ensures item { result_map (with_size sums_parts) result
-            ≡ item_front (sums_parts self) (Component (component_at text.now)) }
+            ≡ item_front_or (shifted start E.refusal) (sums_parts self)
+            (Component (component_at text.now)) }
         ensures some { IfOk result (λ next. 0 < next.1) }
         ensures within { IfOk result (λ next. next.1 ≤ length text.now) }
+        ensures placed { IfErr result (E.lies_within (start + length text.now)) }
     {
         let number = digit_run(text);
         if number.length == 0 {
-            return Err(ParseError::DurationInvalidNumber);
+            return Err(E::at(ParseError::DurationInvalidNumber, start));
         }
         if number.value > u64::from(u32::MAX) {
-            return Err(ParseError::DurationValueTooLarge);
+            return Err(E::at(ParseError::DurationValueTooLarge, start));
         }
         if self.has_fraction {
-            return Err(ParseError::DurationInvalidFraction);
+            return Err(E::at(ParseError::DurationInvalidFraction, start));
         }
         let rest = &text[number.length..];
         let (microseconds, size) = fraction_at_front(rest);
@@ -396,17 +412,22 @@ impl Sums {
         } else {
             ParseError::DurationInvalidDateUnit
         };
-        let designator = byte_at(rest, size);
-        let unit = DurationUnit::from_designator(designator, self.is_time).ok_or(unit_fault)?;
+        let place = number.length + size;
+        let Some(unit) = DurationUnit::from_designator(byte_at(rest, size), self.is_time) else {
+            return Err(E::at(unit_fault, start + place));
+        };
         if !self.takes(&unit) {
-            return Err(ParseError::DurationUnitOrder);
+            return Err(E::at(ParseError::DurationUnitOrder, start + place));
         }
-        let sums = self.with_number(number.value as u32, &unit, &rest[..size], microseconds)?;
-        Ok((sums, number.length + size + 1))
+        let number = number.value as u32;
+        let Some(sums) = self.with_number(number, &unit, &rest[..size], microseconds) else {
+            return Err(E::at(ParseError::DurationValueTooLarge, start));
+        };
+        Ok((sums, place + 1))
     }
 
     /// The sums with a number of a unit, and a fraction of it, which is nothing or a decimal mark and
-    /// digits; `microseconds` is what these are of a second.
+    /// digits, or `None` if they do not fit 32 bits; `microseconds` is what the digits are of a second.
     #[inline(always)]
     fn with_number(
         self,
@@ -414,18 +435,18 @@ impl Sums {
         unit: &DurationUnit,
         fraction: &[u8],
         microseconds: u32,
-    ) -> Result<Self, ParseError>
+    ) -> Option<Self>
         requires none { self.has_fraction ≡ false }
         requires unit { IsUnitOf self.is_time unit.now }
         requires place { self.next_place ≤ unit.now.place }
         requires digits { IsTrue (list_all is_ascii_digit (drop 1 fraction.now)) }
         requires microseconds { microseconds ≡ fraction_value 6 (drop 1 fraction.now) }
         requires small { microseconds ≤ 999999 }
-        ensures sums { result_map sums_parts result
+        ensures sums { option_map sums_parts result
             ≡ (if are_counted
             (with_number (unit_parts unit.now) number fraction.now (sums_parts self))
-            then Ok (with_number (unit_parts unit.now) number fraction.now (sums_parts self))
-            else Err ParseError.DurationValueTooLarge) }
+            then Some (with_number (unit_parts unit.now) number fraction.now (sums_parts self))
+            else None) }
     {
         let (whole, microsecond) = match fraction {
             [] => (0, 0),
@@ -439,9 +460,9 @@ impl Sums {
             + number * u64::from(unit.second)
             + u64::from(whole % SECONDS_PER_DAY);
         if day > u64::from(u32::MAX) || second > u64::from(u32::MAX) {
-            return Err(ParseError::DurationValueTooLarge);
+            return None;
         }
-        Ok(Sums {
+        Some(Sums {
             order: self.order,
             next_place: self.place_after(unit),
             is_time: self.is_time,

@@ -157,7 +157,8 @@ impl Duration {
         ensures answer { result gives duration_answer order behavior bytes.now }
     {
         let (negative, size) = sign(bytes);
-        let amount = UnsignedDuration::parse::<COLUMN>(&bytes[size..], order, behavior)?;
+        let rest = &bytes[size..];
+        let amount = UnsignedDuration::parse::<ParseError, COLUMN>(rest, order, size, behavior)?;
         Self::with_sign(!negative, amount)
     }
 

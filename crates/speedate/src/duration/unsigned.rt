@@ -1,17 +1,19 @@
 //! Durations without their sign, and which form a text has.
 
-ghost use Rattle.std.specs.Prelude.{◌≡◌, ◌-◌, ◌^◌, ◌≤◌, length, min};
+ghost use Rattle.std.specs.Prelude.{◌≡◌, ◌+◌, ◌-◌, ◌^◌, ◌≤◌, IfErr, length, min};
 ghost use Rattle.std.specs.List.{list_any};
 ghost use Rattle.speedate_base.specs.Digits.{run_length, run_value};
-ghost use Rattle.speedate.specs.ClockForm.{clock_form};
+ghost use Rattle.speedate_base.specs.Requirement.{shifted};
+ghost use Rattle.speedate.specs.ClockForm.{clock_form_or};
 ghost use Rattle.speedate.specs.DayForm.{is_day_letter};
-ghost use Rattle.speedate.specs.Duration.{has_days, form_answer, unsigned_answer};
+ghost use Rattle.speedate.specs.Duration.{has_days, form_answer_or, unsigned_answer_or};
 
 use super::days::is_day_letter;
 use super::iso::Sums;
 use speedate_base::config::{IsoOrder, MicrosecondsPrecisionOverflowBehavior as Behavior};
 use speedate_base::faults::ParseError;
 use speedate_base::numbers::{DigitRun, byte_at, digit_run};
+use speedate_base::refusal::Refusal;
 
 /// An amount of time as a text says it: days, seconds and microseconds of any size.
 #[derive(Clone, Copy)]
@@ -22,59 +24,74 @@ pub(super) struct UnsignedDuration {
 }
 
 impl UnsignedDuration {
-    /// Parses a duration after its sign, in the form that its text has.
+    /// Parses a duration after its sign, which begins at `start` of the whole text, in the form that its
+    /// text has.
     #[inline(always)]
-    #[tactic(auto, unfolding(crate::specs::Duration::unsigned_answer))]
-    pub(super) fn parse<const COLUMN: bool>(
+    #[tactic(auto, unfolding(crate::specs::Duration::unsigned_answer_or))]
+    pub(super) fn parse<E: Refusal, const COLUMN: bool>(
         bytes: &[u8],
         order: IsoOrder,
+        start: usize,
         behavior: Behavior,
-    ) -> Result<Self, ParseError>
-        ensures answer { result ≡ unsigned_answer order behavior bytes.now }
+    ) -> Result<Self, E>
+        requires { start + length bytes.now + 16 ≤ usize.MAX }
+        ensures answer { result
+            ≡ unsigned_answer_or (shifted start E.refusal) order behavior bytes.now }
+        ensures placed { IfErr result (E.lies_within (start + length bytes.now)) }
     {
         if byte_at(bytes, 0) == b'P' {
-            return Sums::parse(&bytes[1..], order);
+            return Sums::parse(&bytes[1..], order, start + bytes.len());
         }
-        Self::days_or_clock::<COLUMN>(bytes, behavior)
+        Self::days_or_clock::<E, COLUMN>(bytes, start, behavior)
     }
 
-    /// Parses a duration of days, or one that a clock shows.
+    /// Parses a duration of days, or one that a clock shows, which begins at `start` of the whole text.
     #[inline(always)]
-    #[tactic(auto, unfolding(crate::specs::Duration::form_answer))]
-    fn days_or_clock<const COLUMN: bool>(
+    #[tactic(auto, unfolding(crate::specs::Duration::form_answer_or))]
+    fn days_or_clock<E: Refusal, const COLUMN: bool>(
         bytes: &[u8],
+        start: usize,
         behavior: Behavior,
-    ) -> Result<Self, ParseError>
-        ensures answer { result ≡ form_answer behavior bytes.now }
+    ) -> Result<Self, E>
+        requires { start + length bytes.now + 16 ≤ usize.MAX }
+        ensures answer { result ≡ form_answer_or (shifted start E.refusal) behavior bytes.now }
+        ensures placed { IfErr result (E.lies_within (start + length bytes.now)) }
     {
         if bytes.is_empty() {
-            return Err(ParseError::TooShort);
+            return Err(E::at(ParseError::TooShort, start));
         }
         let number = digit_run(bytes);
         if byte_at(bytes, number.length) == b':' {
-            let clock = Self::from_clock(bytes, number, behavior);
+            let clock = Self::from_clock::<E>(bytes, number, start, behavior);
             // A clock has no letter, so it is not searched for one.
             if clock.is_ok() {
                 return clock;
             }
         }
         if has_days(bytes, number.length) {
-            return Self::from_days(bytes, number, behavior);
+            return Self::from_days(bytes, number, start, behavior);
         }
         // As the answer itself, the call's result would keep the answer in memory on the other ways too.
-        let clock = Self::refused_clock(bytes, number, behavior);
+        let clock = Self::refused_clock::<E>(bytes, number, start, behavior);
         clock
     }
 
     /// Parses a refused clock again, for its error: out of line, so that it does not lengthen the way of
     /// a clock that is parsed.
     #[inline(never)]
-    fn refused_clock(bytes: &[u8], hours: DigitRun, behavior: Behavior) -> Result<Self, ParseError>
+    fn refused_clock<E: Refusal>(
+        bytes: &[u8],
+        hours: DigitRun,
+        start: usize,
+        behavior: Behavior,
+    ) -> Result<Self, E>
         requires length { hours.length ≡ run_length bytes.now 0 }
         requires value { hours.value ≡ min (run_value bytes.now 0) (2 ^ 64 - 1) }
-        ensures answer { result ≡ clock_form behavior bytes.now }
+        requires start { start + length bytes.now + 16 ≤ usize.MAX }
+        ensures answer { result ≡ clock_form_or (shifted start E.refusal) behavior bytes.now }
+        ensures placed { IfErr result (E.lies_within (start + length bytes.now)) }
     {
-        Self::from_clock(bytes, hours, behavior)
+        Self::from_clock(bytes, hours, start, behavior)
     }
 }
 

@@ -1,19 +1,20 @@
 //! Where a text that is refused as a date has its error.
 
 ghost use Rattle.std.specs.Prelude.{◌≡◌, ◌≤◌, IfSome, is_err, is_some, length};
-ghost use Rattle.speedate_base.specs.Requirement.{IsAnswerOf, first_place};
+ghost use Rattle.speedate_base.specs.Refused.{placed, without_place, refused_place};
 ghost use Rattle.speedate_civil.specs.Date.{
   date_answer,
+  date_answer_or,
   date_front,
+  date_front_or,
   date_or_timestamp,
-  date_table,
 };
-ghost use Rattle.speedate_civil.specs.ErrorPlace.{date_or_timestamp_place, whole_date_table};
+ghost use Rattle.speedate_civil.specs.ErrorPlace.{date_or_timestamp_place};
 
-use super::{Date, TEXT_LENGTH};
+use super::Date;
 use speedate_base::config::DateConfig;
-use speedate_base::faults::ParseError;
-use speedate_base::numbers::{byte_at, int_parse_bytes};
+use speedate_base::numbers::int_parse_bytes;
+use speedate_base::refusal::Refused;
 
 impl Date {
     /// The byte at which the error lies for which [`Date::parse_bytes_with_config`] refuses a text, and
@@ -42,15 +43,12 @@ impl Date {
     ///
     /// It is the place [that the row has](docs/GRAMMAR.md#date) that names the error.
     pub fn error_place_rfc3339(bytes: &[u8]) -> Option<usize>
-        ensures place { result ≡ first_place (whole_date_table bytes.now) }
-        ensures table { IsAnswerOf (whole_date_table bytes.now) (date_answer bytes.now) }
+        ensures place { result ≡ refused_place (date_answer_or placed bytes.now) }
+        ensures fault { without_place (date_answer_or placed bytes.now) ≡ date_answer bytes.now }
         ensures refused { is_some result ≡ is_err (date_answer bytes.now) }
         ensures within { IfSome result (λ place. place ≤ length bytes.now) }
     {
-        match Self::error_place_front(bytes) {
-            Some(place) => Some(place),
-            None => (bytes.len() != TEXT_LENGTH).then_some(TEXT_LENGTH),
-        }
+        Refused::place_of(Self::whole(bytes))
     }
 
     /// The byte at which the error lies for which [`Date::parse_front`] refuses a text, and `None` for a
@@ -58,19 +56,11 @@ impl Date {
     ///
     /// It is the place [that the row has](docs/GRAMMAR.md#date) that names the error.
     pub fn error_place_front(bytes: &[u8]) -> Option<usize>
-        ensures place { result ≡ first_place (date_table bytes.now) }
-        ensures table { IsAnswerOf (date_table bytes.now) (date_front bytes.now) }
+        ensures place { result ≡ refused_place (date_front_or placed bytes.now) }
+        ensures fault { without_place (date_front_or placed bytes.now) ≡ date_front bytes.now }
         ensures refused { is_some result ≡ is_err (date_front bytes.now) }
         ensures within { IfSome result (λ place. place ≤ length bytes.now) }
     {
-        match Self::parse_front(bytes) {
-            Ok(_) => None,
-            Err(ParseError::TooShort) => Some(bytes.len()),
-            Err(ParseError::InvalidCharYear) => Some(0),
-            Err(ParseError::InvalidCharDateSep) if byte_at(bytes, 4) == b'-' => Some(7),
-            Err(ParseError::InvalidCharDateSep) => Some(4),
-            Err(ParseError::InvalidCharMonth | ParseError::OutOfRangeMonth) => Some(5),
-            Err(_) => Some(8),
-        }
+        Refused::place_of(Self::front(bytes))
     }
 }

@@ -1,6 +1,6 @@
 //! Parsers of dates: of texts of RFC 3339, at the front of a text, and of timestamps.
 
-ghost use Rattle.std.specs.Prelude.{◌≡◌, ◌≤◌, ◌↔◌, Err, IfOk, Ok, OnOk, codes, length, take};
+ghost use Rattle.std.specs.Prelude.{◌≡◌, ◌≤◌, ◌↔◌, Err, IfErr, IfOk, Ok, OnOk, codes, length, take};
 ghost use Rattle.speedate_civil.specs.Base.{TimestampUnit};
 ghost use Rattle.speedate_base.specs.Ascii.{HasNoControl};
 ghost use Rattle.speedate_base.specs.Digits.{eight_at, fit_length};
@@ -9,7 +9,9 @@ ghost use Rattle.speedate_civil.specs.Calendar.{Ymd};
 ghost use Rattle.speedate_civil.specs.Date.{
   ymd,
   date_front,
+  date_front_or,
   date_answer,
+  date_answer_or,
   date_or_timestamp,
   ◌gives◌,
   ◌gives_front◌,
@@ -22,6 +24,7 @@ use speedate_base::faults::ParseError;
 use speedate_base::numbers::{
     LANES, eight_bytes, fit_length, int_parse_bytes, two_digit_numbers, two_digits,
 };
+use speedate_base::refusal::Refusal;
 use std::simd::prelude::*;
 use std::str::FromStr;
 
@@ -116,11 +119,7 @@ impl Date {
         ensures answer { result gives date_answer bytes.now }
         ensures no_number { OnOk result (number_answer bytes.now ≡ NoNumber) }
     {
-        let (date, size) = Self::parse_front(bytes)?;
-        if size != bytes.len() {
-            return Err(ParseError::ExtraCharacters);
-        }
-        Ok(date)
+        Self::whole(bytes)
     }
 
     /// Parses the date at the front of a text, whatever follows it, and returns how many bytes it takes,
@@ -143,45 +142,73 @@ impl Date {
         Self::front(bytes)
     }
 
+    /// Parses the date at the front of a date-time. It is apart from [`Date::front`], so that it is inlined
+    /// by its size.
+    #[inline]
+    pub(crate) fn front_of<E: Refusal>(bytes: &[u8]) -> Result<(Self, usize), E>
+        ensures answer { result gives_front date_front_or E.refusal bytes.now }
+        ensures within { IfOk result (λ front. front.1 ≤ length bytes.now) }
+        ensures placed { IfErr result (E.lies_within (length bytes.now)) }
+    {
+        Self::front(bytes)
+    }
+
+    /// Parses the date that takes all the bytes.
+    #[inline(always)]
+    pub(super) fn whole<E: Refusal>(bytes: &[u8]) -> Result<Self, E>
+        ensures answer { result gives date_answer_or E.refusal bytes.now }
+        ensures placed { IfErr result (E.lies_within (length bytes.now)) }
+    {
+        let (date, size) = Self::front::<E>(bytes)?;
+        if size != bytes.len() {
+            return Err(E::at(ParseError::ExtraCharacters, size));
+        }
+        Ok(date)
+    }
+
     /// Parses the date at the front of a text, and how many bytes it takes, whatever follows it.
     #[inline(always)]
-    fn front(bytes: &[u8]) -> Result<(Self, usize), ParseError>
-        ensures answer { result gives_front date_front bytes.now }
+    pub(crate) fn front<E: Refusal>(bytes: &[u8]) -> Result<(Self, usize), E>
+        ensures answer { result gives_front date_front_or E.refusal bytes.now }
+        ensures within { IfOk result (λ front. front.1 ≤ length bytes.now) }
+        ensures placed { IfErr result (E.lies_within (length bytes.now)) }
     {
         if bytes.len() < TEXT_LENGTH {
-            return Err(ParseError::TooShort);
+            return Err(E::at(ParseError::TooShort, bytes.len()));
         }
         let front = eight_bytes(bytes, 0);
         let place = fit_length(front, u8x8::from_array(*b"0000-00-"));
         if place < LANES {
-            return Err(match place {
-                0..=3 => ParseError::InvalidCharYear,
-                4 | 7 => ParseError::InvalidCharDateSep,
-                _ => ParseError::InvalidCharMonth,
-            });
+            return match place {
+                0..=3 => Err(E::at(ParseError::InvalidCharYear, 0)),
+                4 | 7 => Err(E::at(ParseError::InvalidCharDateSep, place)),
+                _ => Err(E::at(ParseError::InvalidCharMonth, 5)),
+            };
         }
         Self::with_month(front, bytes)
     }
 
     /// The date at the front of a text whose first eight bytes, which are given, look like those of one.
     #[inline(always)]
-    pub(crate) fn with_month(front: u8x8, bytes: &[u8]) -> Result<(Self, usize), ParseError>
+    pub(crate) fn with_month<E: Refusal>(front: u8x8, bytes: &[u8]) -> Result<(Self, usize), E>
         requires front { front ≡ eight_at bytes.now 0 }
         requires long { 10 ≤ length bytes.now }
         requires looks { 8 ≤ fit_length (codes "0000-00-") front }
-        ensures answer { result gives_front date_front bytes.now }
+        ensures answer { result gives_front date_front_or E.refusal bytes.now }
+        ensures within { IfOk result (λ front. front.1 ≤ length bytes.now) }
+        ensures placed { IfErr result (E.lies_within (length bytes.now)) }
     {
         let form = u8x8::from_array(*b"0000-00-");
         let [century, _, year, _, _, month, _, _] = two_digit_numbers(front, form, LANES);
         let year = 100 * u16::from(century) + u16::from(year);
         let Some(day) = two_digits(bytes, 8) else {
-            return Err(ParseError::InvalidCharDay);
+            return Err(E::at(ParseError::InvalidCharDay, 8));
         };
         if month < 1 || month > 12 {
-            return Err(ParseError::OutOfRangeMonth);
+            return Err(E::at(ParseError::OutOfRangeMonth, 5));
         }
         if !is_day(year, month, day) {
-            return Err(ParseError::OutOfRangeDay);
+            return Err(E::at(ParseError::OutOfRangeDay, 8));
         }
         Ok((Date { year, month, day }, TEXT_LENGTH))
     }

@@ -3,28 +3,26 @@
 ghost use Rattle.std.specs.Prelude.{◌≡◌, ◌≤◌, IfSome, Some, is_err, is_some, length};
 ghost use Rattle.speedate_base.specs.Config.{choices, time_choices};
 ghost use Rattle.speedate_base.specs.Numbers.{decimal_value};
-ghost use Rattle.speedate_base.specs.Requirement.{IsAnswerOf, first_place};
+ghost use Rattle.speedate_base.specs.Requirement.{first_place};
+ghost use Rattle.speedate_base.specs.Refused.{placed, refused_place, without_place};
 ghost use Rattle.speedate_base.specs.Timestamp.{decimal_row};
 ghost use Rattle.speedate_civil.specs.DateTime.{
   date_time_answer,
+  date_time_answer_or,
   date_time_by_config,
   date_time_front,
+  date_time_front_or,
 };
 ghost use Rattle.speedate_civil.specs.ErrorPlace.{
-  date_time_front_table,
   date_time_or_timestamp_place,
   decimal_table,
-  strict_date_time_table,
-  whole_date_time_table,
 };
-ghost use Rattle.speedate_civil.specs.Standard.{standard_date_time, strict_date_time_answer};
+ghost use Rattle.speedate_civil.specs.Standard.{strict_date_time_answer, strict_date_time_answer_or};
 
 use super::DateTime;
-use super::parse::{SEPARATOR_PLACE, TIME_PLACE, has_letter_t, has_separator};
-use crate::date::Date;
-use crate::time::Time;
 use speedate_base::config::{DateTimeConfig, MicrosecondsPrecisionOverflowBehavior, TimeConfig};
 use speedate_base::numbers::{Decimal, IntFloat, float_parse_bytes, takes_digits};
+use speedate_base::refusal::Refused;
 use speedate_base::util::{decimal_to_seconds_micros, decimal_unit};
 
 impl DateTime {
@@ -50,15 +48,15 @@ impl DateTime {
     /// separator, or [a time](docs/GRAMMAR.md#time), which begins at byte 11.
     pub fn error_place_rfc3339(bytes: &[u8], config: &TimeConfig) -> Option<usize>
         ensures place { result
-            ≡ first_place (whole_date_time_table (time_choices config.now).behavior bytes.now) }
-        ensures table { IsAnswerOf
-            (whole_date_time_table (time_choices config.now).behavior bytes.now)
-            (date_time_answer (time_choices config.now).behavior bytes.now) }
+            ≡ refused_place (date_time_answer_or placed (time_choices config.now).behavior bytes.now) }
+        ensures fault { without_place (date_time_answer_or placed (time_choices config.now).behavior bytes.now)
+            ≡ date_time_answer (time_choices config.now).behavior bytes.now }
         ensures refused { is_some result
             ≡ is_err (date_time_answer (time_choices config.now).behavior bytes.now) }
         ensures within { IfSome result (λ place. place ≤ length bytes.now) }
     {
-        Self::whole_error_place(bytes, config.microseconds_precision_overflow_behavior)
+        let behavior = config.microseconds_precision_overflow_behavior;
+        Refused::place_of(Self::parse_whole(bytes, behavior))
     }
 
     /// The byte at which the error lies for which [`DateTime::parse_bytes_strict`] refuses a text, and
@@ -70,16 +68,15 @@ impl DateTime {
         bytes: &[u8],
         behavior: MicrosecondsPrecisionOverflowBehavior,
     ) -> Option<usize>
-        ensures place { result ≡ first_place (strict_date_time_table behavior bytes.now) }
-        ensures table { IsAnswerOf (strict_date_time_table behavior bytes.now)
-            (strict_date_time_answer behavior bytes.now) }
-        ensures refused { is_some result ≡ is_err (strict_date_time_answer behavior bytes.now) }
+        ensures place { result
+            ≡ refused_place (strict_date_time_answer_or placed behavior bytes.now) }
+        ensures fault { without_place (strict_date_time_answer_or placed behavior bytes.now)
+            ≡ strict_date_time_answer behavior bytes.now }
+        ensures refused { is_some result
+            ≡ is_err (strict_date_time_answer behavior bytes.now) }
         ensures within { IfSome result (λ place. place ≤ length bytes.now) }
     {
-        match Self::whole_error_place(bytes, behavior) {
-            Some(place) => Some(place),
-            None => standard_error_place(bytes),
-        }
+        Refused::place_of(Self::strict(bytes, behavior))
     }
 
     /// The byte at which the error lies for which [`DateTime::parse_front`] refuses a text, and `None`
@@ -90,15 +87,15 @@ impl DateTime {
     /// separator, or [a time](docs/GRAMMAR.md#time), which begins at byte 11.
     pub fn error_place_front(bytes: &[u8], config: &TimeConfig) -> Option<usize>
         ensures place { result
-            ≡ first_place (date_time_front_table (time_choices config.now).behavior bytes.now) }
-        ensures table { IsAnswerOf
-            (date_time_front_table (time_choices config.now).behavior bytes.now)
-            (date_time_front (time_choices config.now).behavior bytes.now) }
+            ≡ refused_place (date_time_front_or placed (time_choices config.now).behavior bytes.now) }
+        ensures fault { without_place (date_time_front_or placed (time_choices config.now).behavior bytes.now)
+            ≡ date_time_front (time_choices config.now).behavior bytes.now }
         ensures refused { is_some result
             ≡ is_err (date_time_front (time_choices config.now).behavior bytes.now) }
         ensures within { IfSome result (λ place. place ≤ length bytes.now) }
     {
-        Self::front_error_place(bytes, config.microseconds_precision_overflow_behavior)
+        let behavior = config.microseconds_precision_overflow_behavior;
+        Refused::place_of(Self::front(bytes, behavior))
     }
 
     /// The place of the error for which a text is neither a date-time nor a timestamp.
@@ -118,53 +115,6 @@ impl DateTime {
             IntFloat::Float(decimal) => decimal_error_place(bytes, decimal, config),
             IntFloat::Err => Some(place),
         }
-    }
-
-    /// The place of the error for which a text is no date-time.
-    fn whole_error_place(
-        bytes: &[u8],
-        behavior: MicrosecondsPrecisionOverflowBehavior,
-    ) -> Option<usize>
-        ensures place { result ≡ first_place (whole_date_time_table behavior bytes.now) }
-        ensures within { IfSome result (λ place. place ≤ length bytes.now) }
-    {
-        match Self::front(bytes, behavior) {
-            Ok((_, size)) => (size != bytes.len()).then_some(size),
-            Err(_) => Self::front_error_place(bytes, behavior),
-        }
-    }
-
-    /// The place of the error for which a text has no date-time at its front.
-    fn front_error_place(
-        bytes: &[u8],
-        behavior: MicrosecondsPrecisionOverflowBehavior,
-    ) -> Option<usize>
-        ensures place { result ≡ first_place (date_time_front_table behavior bytes.now) }
-        ensures within { IfSome result (λ place. place ≤ length bytes.now) }
-    {
-        if let Some(place) = Date::error_place_front(bytes) {
-            return Some(place);
-        }
-        if !has_separator(bytes) {
-            return Some(SEPARATOR_PLACE);
-        }
-        match Time::front_error_place(&bytes[TIME_PLACE..], behavior) {
-            Some(place) => Some(TIME_PLACE + place),
-            None => None,
-        }
-    }
-}
-
-/// The place of the error for which a text that is a date-time is none of RFC 3339.
-fn standard_error_place(bytes: &[u8]) -> Option<usize>
-    ensures place { result ≡ first_place (standard_date_time bytes.now) }
-{
-    if !has_letter_t(bytes) {
-        return Some(SEPARATOR_PLACE);
-    }
-    match Time::standard_error_place(&bytes[TIME_PLACE..]) {
-        Some(place) => Some(TIME_PLACE + place),
-        None => None,
     }
 }
 

@@ -1,21 +1,31 @@
 //! Parsers of date-times: of texts of RFC 3339, relaxed or alone, at the front of a text, and of
 //! timestamps.
 
-ghost use Rattle.std.specs.Prelude.{◌≡◌, ◌+◌, ◌≤◌, ◌↔◌, ◌==◌, ◌||◌, Err, IfOk, IsOk, IsTrue, None, Ok, OnOk, drop, length, slice_index, take};
+ghost use Rattle.std.specs.Prelude.{◌≡◌, ◌+◌, ◌≤◌, ◌↔◌, ◌==◌, ◌||◌, ℕ, Err, IfErr, IfOk, IfSome, IsOk, IsTrue, None, Ok, OnOk, drop, length, slice_index, take};
 ghost use Rattle.speedate_base.specs.Ascii.{HasNoControl, capital_t, small_t};
 ghost use Rattle.speedate_base.specs.Config.{choices, time_choices};
 ghost use Rattle.speedate_base.specs.Numbers.{NoNumber, decimal_value, number_answer};
 ghost use Rattle.speedate_base.specs.Offset.{IsWholeMinutes};
-ghost use Rattle.speedate_base.specs.Requirement.{first_fault_or, or_number, result_map, with_size};
+ghost use Rattle.speedate_base.specs.Requirement.{
+  first_fault_or,
+  first_place,
+  first_refusal_or,
+  or_number,
+  result_map,
+  shifted,
+  with_size,
+};
 ghost use Rattle.speedate_base.specs.Timestamp.{IsInYears, unix_instant};
 ghost use Rattle.speedate_civil.specs.Base.{Behavior, TimestampUnit};
 ghost use Rattle.speedate_civil.specs.DateTime.{
   DateAndTime,
   date_and_time,
   date_time_answer,
+  date_time_answer_or,
   date_time_at,
   date_time_by_config,
   date_time_front,
+  date_time_front_or,
   date_time_or_timestamp,
   decimal_text_instant,
   is_separator,
@@ -30,8 +40,9 @@ ghost use Rattle.speedate_civil.specs.Standard.{
   IsDateTime,
   standard_date_time,
   strict_date_time_answer,
+  strict_date_time_answer_or,
 };
-ghost use Rattle.speedate_civil.specs.Time.{time_front, time_of_day};
+ghost use Rattle.speedate_civil.specs.Time.{time_front, time_front_or, time_of_day};
 
 use super::DateTime;
 use crate::date::{Date, may_be_number};
@@ -43,6 +54,7 @@ use speedate_base::faults::ParseError;
 use speedate_base::numbers::{
     Decimal, IntFloat, are_between, byte_at, first_eight, float_parse_bytes, takes_digits,
 };
+use speedate_base::refusal::Refusal;
 use speedate_base::util::{
     UnixTime, decimal_to_seconds_micros, decimal_unit, timestamp_to_seconds_micros,
 };
@@ -233,8 +245,9 @@ impl DateTime {
         ensures standard { IsOk result ↔ IsDateTime behavior bytes.now }
         ensures minutes { IfOk result (λ value. IsWholeMinutes value.time.tz_offset) }
     {
-        let value = Self::parse_whole(bytes, behavior)?;
-        require_standard_date_time(bytes)?;
+        // Where it has two callers, `strict` is not inlined.
+        let value = Self::parse_whole::<ParseError>(bytes, behavior)?;
+        require_standard::<ParseError>(bytes)?;
         Ok(value)
     }
 
@@ -283,34 +296,51 @@ impl DateTime {
 
     /// Parses the date-time that takes all the bytes.
     #[inline(always)]
-    fn parse_whole(
+    pub(super) fn parse_whole<E: Refusal>(
         bytes: &[u8],
         behavior: MicrosecondsPrecisionOverflowBehavior,
-    ) -> Result<Self, ParseError>
-        ensures answer { result gives date_time_answer behavior bytes.now }
+    ) -> Result<Self, E>
+        ensures answer { result gives date_time_answer_or E.refusal behavior bytes.now }
+        ensures placed { IfErr result (E.lies_within (length bytes.now)) }
         ensures minutes { IfOk result (λ value. IsWholeMinutes value.time.tz_offset) }
         ensures no_number { OnOk result (number_answer bytes.now ≡ NoNumber) }
     {
-        let (value, size) = Self::front(bytes, behavior)?;
+        let (value, size) = Self::front::<E>(bytes, behavior)?;
         if size != bytes.len() {
-            return Err(end_fault(value.time.tz_offset));
+            return Err(E::at(end_fault(value.time.tz_offset), size));
         }
+        Ok(value)
+    }
+
+    /// Parses the date-time of RFC 3339 that takes all the bytes.
+    #[inline(always)]
+    pub(super) fn strict<E: Refusal>(
+        bytes: &[u8],
+        behavior: MicrosecondsPrecisionOverflowBehavior,
+    ) -> Result<Self, E>
+        ensures answer { result gives strict_date_time_answer_or E.refusal behavior bytes.now }
+        ensures placed { IfErr result (E.lies_within (length bytes.now)) }
+        ensures minutes { IfOk result (λ value. IsWholeMinutes value.time.tz_offset) }
+    {
+        let value = Self::parse_whole::<E>(bytes, behavior)?;
+        require_standard::<E>(bytes)?;
         Ok(value)
     }
 
     /// Parses the date-time at the front of a text, and how many bytes it takes, whatever follows it.
     #[inline(always)]
-    pub(super) fn front(
+    pub(super) fn front<E: Refusal>(
         bytes: &[u8],
         behavior: MicrosecondsPrecisionOverflowBehavior,
-    ) -> Result<(Self, usize), ParseError>
-        ensures answer { result gives_front date_time_front behavior bytes.now }
+    ) -> Result<(Self, usize), E>
+        ensures answer { result gives_front date_time_front_or E.refusal behavior bytes.now }
+        ensures placed { IfErr result (E.lies_within (length bytes.now)) }
         ensures within { IfOk result (λ front. front.1 ≤ length bytes.now) }
         ensures minutes { IfOk result (λ front. IsWholeMinutes front.0.time.tz_offset) }
         ensures no_number { OnOk result (number_answer bytes.now ≡ NoNumber) }
     {
-        let (date, _) = Date::parse_front(bytes)?;
-        let (time, size) = time_after_date(bytes, behavior)?;
+        let (date, _) = Date::front_of::<E>(bytes)?;
+        let (time, size) = time_after_date::<E>(bytes, behavior)?;
         Ok((DateTime { date, time }, TIME_PLACE + size))
     }
 
@@ -403,19 +433,22 @@ fn looks_usual(bytes: &[u8]) -> bool
 /// Parses the separator after the date at the front of a text and the time after it, and returns how
 /// many bytes the time takes.
 #[inline(always)]
-fn time_after_date(
+fn time_after_date<E: Refusal>(
     bytes: &[u8],
     behavior: MicrosecondsPrecisionOverflowBehavior,
-) -> Result<(Time, usize), ParseError>
+) -> Result<(Time, usize), E>
+    requires { 10 ≤ length bytes.now }
     ensures answer { result_map (with_size time_of_day) result
-        ≡ first_fault_or (separator_table bytes.now) (time_front behavior (drop 11 bytes.now)) }
+        ≡ first_refusal_or E.refusal (separator_table bytes.now)
+        (time_front_or (shifted 11 E.refusal) behavior (drop 11 bytes.now)) }
+    ensures placed { IfErr result (E.lies_within (length bytes.now)) }
     ensures within { IfOk result (λ front. TIME_PLACE + front.1 ≤ length bytes.now) }
     ensures minutes { IfOk result (λ front. IsWholeMinutes front.0.tz_offset) }
 {
     if !has_separator(bytes) {
-        return Err(ParseError::InvalidCharDateTimeSep);
+        return Err(E::at(ParseError::InvalidCharDateTimeSep, SEPARATOR_PLACE));
     }
-    Time::front(&bytes[TIME_PLACE..], behavior)
+    Time::front_at(&bytes[TIME_PLACE..], TIME_PLACE, behavior)
 }
 
 /// What [`time_after_date`] does, for a text that looks as most do.
@@ -453,14 +486,26 @@ pub(super) fn has_separator(bytes: &[u8]) -> bool
 ///
 /// Those of [RFC 3339 alone](docs/GRAMMAR.md#rfc-3339-alone), in the order of the rows.
 #[inline(always)]
-#[tactic(auto, using(std::proofs::lemmas::List::take_rest))]
 pub fn require_standard_date_time(text: &[u8]) -> Result<(), ParseError>
     ensures answer { result ≡ first_fault_or (standard_date_time text.now) (Ok tt) }
 {
+    require_standard(text)
+}
+
+/// What [`require_standard_date_time`] does, with any refusal.
+#[inline]
+#[tactic(auto, using(std::proofs::lemmas::List::take_rest))]
+fn require_standard<E: Refusal>(text: &[u8]) -> Result<(), E>
+    ensures answer { result
+        ≡ first_refusal_or E.refusal (standard_date_time text.now) (Ok tt) }
+    ensures placed { (size : ℕ)
+        → IfSome (first_place (standard_date_time text.now)) (λ place. place ≤ size)
+        → IfErr result (E.lies_within size) }
+{
     if !has_letter_t(text) {
-        return Err(ParseError::InvalidCharDateTimeSep);
+        return Err(E::at(ParseError::InvalidCharDateTimeSep, SEPARATOR_PLACE));
     }
-    Time::require_standard(&text[TIME_PLACE..])
+    Time::require_standard(&text[TIME_PLACE..], TIME_PLACE)
 }
 
 /// Whether `T` or `t` follows the ten bytes of a date.

@@ -1,6 +1,6 @@
 //! Offsets from UTC, after a time.
 
-ghost use Rattle.std.specs.Prelude.{◌≡◌, ◌≤◌, ◌+◌, ◌<◌, ◌∷◌, ◌*◌, ◌++◌, ◌==◌, ◌||◌, IfOk, Ok, IsTrue, length, drop, codes, if◌then◌else◌, unsigned_abs};
+ghost use Rattle.std.specs.Prelude.{◌≡◌, ◌≤◌, ◌+◌, ◌<◌, ◌∷◌, ◌*◌, ◌++◌, ◌==◌, ◌||◌, ℕ, IfErr, IfOk, Ok, IsTrue, length, drop, codes, if◌then◌else◌, unsigned_abs};
 ghost use Rattle.std.specs.Int.{is_negative};
 ghost use Rattle.std.specs.Option.{ForSome};
 ghost use Rattle.arrayvec.specs.ArrayString.{array_string_len};
@@ -9,15 +9,15 @@ ghost use Rattle.speedate_base.specs.Digits.{two_digit_value, fit_length};
 ghost use Rattle.speedate_base.specs.Numbers.{with_sign};
 ghost use Rattle.speedate_base.specs.Offset.{IsOffset, IsWholeMinutes};
 ghost use Rattle.speedate_base.specs.Timestamp.{seconds_per_day};
-ghost use Rattle.speedate_base.specs.Requirement.{first_fault_or};
+ghost use Rattle.speedate_base.specs.Requirement.{first_refusal_or, shifted};
 ghost use Rattle.speedate_civil.specs.Time.{
   end_fault,
   has_minus_sign,
   is_plus_or_minus,
   is_utc,
   offset_digits,
-  offset_front,
-  signed_front,
+  offset_front_or,
+  signed_front_or,
   offset_minute,
   offset_digits_size,
   offset_size_text,
@@ -28,6 +28,7 @@ use crate::text::two_digit_text;
 use arrayvec::ArrayString;
 use speedate_base::faults::ParseError;
 use speedate_base::numbers::{byte_at, eight_bytes, fit_length, two_digit_numbers};
+use speedate_base::refusal::Refusal;
 use speedate_base::util::SECONDS_PER_DAY;
 use std::simd::prelude::*;
 
@@ -36,24 +37,31 @@ use std::simd::prelude::*;
 /// ` GET`.
 ///
 /// It takes a place, and not the slice from there: near the end of the text the one load of its
-/// digits begins before the place.
+/// digits begins before the place, which is `start` of the whole text.
 #[inline(always)]
-pub(crate) fn parse_offset(bytes: &[u8], place: usize) -> Result<(Option<i32>, usize), ParseError>
-    requires { place ≤ length bytes.now }
-    ensures answer { result ≡ offset_front (drop place bytes.now) }
+pub(crate) fn parse_offset<E: Refusal>(
+    bytes: &[u8],
+    place: usize,
+    start: usize,
+) -> Result<(Option<i32>, usize), E>
+    requires place { place ≤ length bytes.now }
+    requires start { start + 16 ≤ usize.MAX }
+    ensures answer { result ≡ offset_front_or (shifted start E.refusal) (drop place bytes.now) }
+    ensures placed { (size : ℕ) → start + length (drop place bytes.now) ≤ size
+        → IfErr result (E.lies_within size) }
     ensures range { IfOk result (λ front. ForSome front.0 IsOffset) }
     ensures minutes { IfOk result (λ front. IsWholeMinutes front.0) }
     ensures within { IfOk result (λ front. place + front.1 ≤ length bytes.now) }
 {
     let first = byte_at(bytes, place);
     if is_plus_or_minus(first) {
-        return signed_offset(first == b'-', 1, bytes, place + 1);
+        return signed_offset(first == b'-', 1, bytes, place + 1, start + 1);
     }
     if is_utc(first) {
         return Ok((Some(0), 1));
     }
     if has_minus_sign(bytes, place) {
-        return signed_offset(true, 3, bytes, place + 3);
+        return signed_offset(true, 3, bytes, place + 3, start + 3);
     }
     Ok((None, 0))
 }
@@ -99,67 +107,78 @@ pub(super) fn is_utc(byte: u8) -> bool
     byte == b'Z' || byte == b'z'
 }
 
-/// The offset whose hour begins at `place`, west of UTC or east of it, and how many bytes it takes
-/// with its sign, which has `sign` bytes.
+/// The offset whose hour begins at `place`, and at `start` of the whole text, west of UTC or east of it, and
+/// how many bytes it takes with its sign, which has `sign` bytes.
 #[inline(always)]
-pub(super) fn signed_offset(
+pub(super) fn signed_offset<E: Refusal>(
     west: bool,
     sign: usize,
     bytes: &[u8],
     place: usize,
-) -> Result<(Option<i32>, usize), ParseError>
+    start: usize,
+) -> Result<(Option<i32>, usize), E>
     requires place { place ≤ length bytes.now }
     requires sign { sign ≤ place }
-    ensures answer { result ≡ signed_front west sign (drop place bytes.now) }
+    requires start { start + 3 ≤ usize.MAX }
+    ensures answer { result
+        ≡ signed_front_or (shifted start E.refusal) west sign (drop place bytes.now) }
+    ensures placed { (size : ℕ) → start + length (drop place bytes.now) ≤ size
+        → IfErr result (E.lies_within size) }
     ensures range { IfOk result (λ front. ForSome front.0 IsOffset) }
     ensures minutes { IfOk result (λ front. IsWholeMinutes front.0) }
     ensures within { IfOk result (λ front. place + front.1 ≤ sign + length bytes.now) }
 {
-    let ((hour, minute), size) = hour_and_minute(eight_bytes(bytes, place))?;
+    let ((hour, minute), size) = hour_and_minute::<E>(eight_bytes(bytes, place), start)?;
     if minute > 59 {
-        return Err(ParseError::OutOfRangeTzMinute);
+        return Err(E::at(ParseError::OutOfRangeTzMinute, start + (size - 2)));
     }
     let seconds = 3600 * u32::from(hour) + 60 * u32::from(minute);
     if seconds >= SECONDS_PER_DAY {
-        return Err(ParseError::OutOfRangeTz);
+        return Err(E::at(ParseError::OutOfRangeTz, start));
     }
     Ok((Some(with_sign(west, seconds)), sign + size))
 }
 
 /// The hour and the minute at the front of an offset without its sign, and how many bytes they take:
-/// `HH:MM` or `HHMM`.
+/// `HH:MM` or `HHMM`. They begin at `start` of the whole text.
 #[inline(always)]
-fn hour_and_minute(front: u8x8) -> Result<((u8, u8), usize), ParseError>
-    ensures numbers { result ≡ first_fault_or (offset_digits front)
+fn hour_and_minute<E: Refusal>(front: u8x8, start: usize) -> Result<((u8, u8), usize), E>
+    requires { start + 3 ≤ usize.MAX }
+    ensures numbers { result ≡ first_refusal_or (shifted start E.refusal) (offset_digits front)
         (Ok ((two_digit_value front 0, offset_minute front), offset_digits_size front)) }
     ensures small { IfOk result (λ front. (front.0.0 ≤ 99) × (front.0.1 ≤ 99)) }
+    ensures placed { (size : ℕ) → start + fit_length (codes "00:00:00") front ≤ size
+        → IfErr result (E.lies_within size) }
 {
     let pattern = u8x8::from_array(*b"00:00:00");
     let fits = fit_length(front, pattern);
     if fits < 2 {
-        return Err(ParseError::InvalidCharTzHour);
+        return Err(E::at(ParseError::InvalidCharTzHour, start));
     }
     if fits >= 5 {
         let [hour, _, _, minute, _, _, _, _] = two_digit_numbers(front, pattern, 5);
         return Ok(((hour, minute), 5));
     }
     if fits > 2 {
-        return Err(ParseError::InvalidCharTzMinute);
+        return Err(E::at(ParseError::InvalidCharTzMinute, start + 3));
     }
-    hour_then_minute(front)
+    hour_then_minute(front, start)
 }
 
 /// The hour, the minute and the length of an offset that has no `:` after the two digits of its hour.
 #[inline(always)]
-fn hour_then_minute(front: u8x8) -> Result<((u8, u8), usize), ParseError>
-    requires { fit_length (codes "00:00:00") front ≡ 2 }
-    ensures numbers { result ≡ first_fault_or (offset_digits front)
+fn hour_then_minute<E: Refusal>(front: u8x8, start: usize) -> Result<((u8, u8), usize), E>
+    requires start { start + 3 ≤ usize.MAX }
+    requires hour { fit_length (codes "00:00:00") front ≡ 2 }
+    ensures numbers { result ≡ first_refusal_or (shifted start E.refusal) (offset_digits front)
         (Ok ((two_digit_value front 0, offset_minute front), offset_digits_size front)) }
     ensures small { IfOk result (λ front. (front.0.0 ≤ 99) × (front.0.1 ≤ 99)) }
+    ensures placed { (size : ℕ) → start + fit_length (codes "00:00:00") front ≤ size
+        → IfErr result (E.lies_within size) }
 {
     let pattern = u8x8::splat(b'0');
     if fit_length(front, pattern) < 4 {
-        return Err(ParseError::InvalidCharTzMinute);
+        return Err(E::at(ParseError::InvalidCharTzMinute, start + 2));
     }
     let [hour, _, minute, _, _, _, _, _] = two_digit_numbers(front, pattern, 4);
     Ok(((hour, minute), 4))

@@ -1,25 +1,28 @@
 //! Parsers of times of day: of texts, of texts of RFC 3339 alone, and at the front of a text.
 
-ghost use Rattle.std.specs.Prelude.{◌≡◌, ◌≤◌, ◌↔◌, IfOk, IsOk, Ok, codes, drop, take, length};
+ghost use Rattle.std.specs.Prelude.{◌≡◌, ◌≤◌, ◌+◌, ◌↔◌, ℕ, IfErr, IfOk, IfSome, IsOk, Ok, codes, drop, take, length};
 ghost use Rattle.speedate_base.specs.Ascii.{HasNoControl};
 ghost use Rattle.speedate_base.specs.Config.{time_choices};
 ghost use Rattle.speedate_base.specs.Digits.{eight_at, fit_length};
 ghost use Rattle.speedate_base.specs.Offset.{IsWholeMinutes};
-ghost use Rattle.speedate_base.specs.Requirement.{first_fault_or};
+ghost use Rattle.speedate_base.specs.Requirement.{first_place, first_refusal_or, moved, shifted};
 ghost use Rattle.speedate_civil.specs.Base.{Behavior};
 ghost use Rattle.speedate_civil.specs.Standard.{
   standard_offset,
   standard_time,
   strict_time_answer,
+  strict_time_answer_or,
   IsFullTime,
 };
-ghost use Rattle.speedate_civil.specs.ParserParts.{time_after_clock};
 ghost use Rattle.speedate_civil.specs.Time.{
   clock_parts,
+  time_after_clock_or,
   time_of_day,
   TimeOfDay,
   time_front,
+  time_front_or,
   time_answer,
+  time_answer_or,
   ◌gives◌,
   ◌gives_front◌,
 };
@@ -29,6 +32,7 @@ use super::{PureTime, Time};
 use speedate_base::config::{MicrosecondsPrecisionOverflowBehavior, TimeConfig};
 use speedate_base::faults::ParseError;
 use speedate_base::numbers::{LANES, byte_at, first_eight, run_end};
+use speedate_base::refusal::Refusal;
 use std::str::FromStr;
 
 impl Time {
@@ -123,9 +127,7 @@ impl Time {
         ensures standard { IsOk result ↔ IsFullTime behavior bytes.now }
         ensures minutes { IfOk result (λ time. IsWholeMinutes time.tz_offset) }
     {
-        let time = Self::parse_whole(bytes, behavior)?;
-        Self::require_standard(bytes)?;
-        Ok(time)
+        Self::strict(bytes, behavior)
     }
 
     /// Parses the time at the front of a text, whatever follows it, and returns how many bytes it takes:
@@ -159,32 +161,52 @@ impl Time {
 
     /// Parses the time that takes all the bytes.
     #[inline(always)]
-    fn parse_whole(
+    pub(super) fn parse_whole<E: Refusal>(
         bytes: &[u8],
         behavior: MicrosecondsPrecisionOverflowBehavior,
-    ) -> Result<Self, ParseError>
-        ensures answer { result gives time_answer behavior bytes.now }
+    ) -> Result<Self, E>
+        ensures answer { result gives time_answer_or E.refusal behavior bytes.now }
+        ensures placed { IfErr result (E.lies_within (length bytes.now)) }
         ensures minutes { IfOk result (λ time. IsWholeMinutes time.tz_offset) }
     {
-        let (time, size) = Self::front(bytes, behavior)?;
+        let (time, size) = Self::front::<E>(bytes, behavior)?;
         if size != bytes.len() {
-            return Err(end_fault(time.tz_offset));
+            return Err(E::at(end_fault(time.tz_offset), size));
         }
         Ok(time)
     }
 
     /// Parses the time at the front of a text, and how many bytes it takes, whatever follows it.
     #[inline(always)]
-    pub(crate) fn front(
+    pub(super) fn front<E: Refusal>(
         bytes: &[u8],
         behavior: MicrosecondsPrecisionOverflowBehavior,
-    ) -> Result<(Self, usize), ParseError>
-        ensures answer { result gives_front time_front behavior bytes.now }
+    ) -> Result<(Self, usize), E>
+        ensures answer { result gives_front time_front_or E.refusal behavior bytes.now }
+        ensures placed { IfErr result (E.lies_within (length bytes.now)) }
         ensures within { IfOk result (λ front. front.1 ≤ length bytes.now) }
         ensures minutes { IfOk result (λ front. IsWholeMinutes front.0.tz_offset) }
     {
-        let clock = PureTime::parse(bytes, 0, behavior)?;
-        Self::after_clock(clock, bytes)
+        Self::front_at(bytes, 0, behavior)
+    }
+
+    /// Parses the time at the front of a text, which begins at `start` of the whole, and how many bytes it
+    /// takes, whatever follows it.
+    #[inline(always)]
+    pub(crate) fn front_at<E: Refusal>(
+        text: &[u8],
+        start: usize,
+        behavior: MicrosecondsPrecisionOverflowBehavior,
+    ) -> Result<(Self, usize), E>
+        requires { start + length text.now + 16 ≤ usize.MAX }
+        ensures answer { result
+            gives_front time_front_or (shifted start E.refusal) behavior text.now }
+        ensures placed { IfErr result (E.lies_within (start + length text.now)) }
+        ensures within { IfOk result (λ front. front.1 ≤ length text.now) }
+        ensures minutes { IfOk result (λ front. IsWholeMinutes front.0.tz_offset) }
+    {
+        let clock = PureTime::front_at::<E>(text, start, behavior)?;
+        Self::after_clock(clock, text, start)
     }
 
     /// What [`Time::front`] does, for a text that begins as a clock with its second looks.
@@ -199,52 +221,86 @@ impl Time {
         ensures within { IfOk result (λ front. front.1 ≤ length bytes.now) }
         ensures minutes { IfOk result (λ front. IsWholeMinutes front.0.tz_offset) }
     {
-        let clock = PureTime::with_minute(first_eight(bytes), LANES, bytes, behavior)?;
-        Self::after_clock(clock, bytes)
+        let clock = PureTime::with_minute(first_eight(bytes), LANES, bytes, 0, behavior)?;
+        Self::after_clock(clock, bytes, 0)
     }
 
-    /// The time of the clock at the front of a text and the offset that follows it, and how many bytes
-    /// it takes.
+    /// The time of the clock at the front of a text, which begins at `start` of the whole, and the offset that
+    /// follows it, and how many bytes it takes.
     #[inline(always)]
-    fn after_clock(clock: PureTime, bytes: &[u8]) -> Result<(Self, usize), ParseError>
-        requires { clock.size ≤ length bytes.now }
-        ensures answer { result gives_front time_after_clock bytes.now (clock_parts clock) }
-        ensures within { IfOk result (λ front. front.1 ≤ length bytes.now) }
+    fn after_clock<E: Refusal>(
+        clock: PureTime,
+        text: &[u8],
+        start: usize,
+    ) -> Result<(Self, usize), E>
+        requires size { clock.size ≤ length text.now }
+        requires start { start + length text.now + 16 ≤ usize.MAX }
+        ensures answer { result gives_front time_after_clock_or (shifted start E.refusal) text.now
+            (clock_parts clock) }
+        ensures placed { IfErr result (E.lies_within (start + length text.now)) }
+        ensures within { IfOk result (λ front. front.1 ≤ length text.now) }
         ensures minutes { IfOk result (λ front. IsWholeMinutes front.0.tz_offset) }
     {
-        let (tz_offset, offset_size) = parse_offset(bytes, clock.size)?;
+        let (tz_offset, offset_size) = parse_offset::<E>(text, clock.size, start + clock.size)?;
         Ok((clock.at_offset(tz_offset), clock.size + offset_size))
     }
 
-    /// Refuses a text that is parsed as a time, but is none of RFC 3339.
+    /// Parses the time of RFC 3339 that takes all the bytes.
     #[inline(always)]
-    pub(crate) fn require_standard(text: &[u8]) -> Result<(), ParseError>
-        ensures answer { result ≡ first_fault_or (standard_time text.now) (Ok tt) }
+    pub(super) fn strict<E: Refusal>(
+        bytes: &[u8],
+        behavior: MicrosecondsPrecisionOverflowBehavior,
+    ) -> Result<Self, E>
+        ensures answer { result gives strict_time_answer_or E.refusal behavior bytes.now }
+        ensures placed { IfErr result (E.lies_within (length bytes.now)) }
+        ensures minutes { IfOk result (λ time. IsWholeMinutes time.tz_offset) }
+    {
+        let time = Self::parse_whole::<E>(bytes, behavior)?;
+        Self::require_standard::<E>(bytes, 0)?;
+        Ok(time)
+    }
+
+    /// Refuses a text that is parsed as a time, but is none of RFC 3339. It begins at `start` of the
+    /// whole text.
+    #[inline(always)]
+    pub(crate) fn require_standard<E: Refusal>(text: &[u8], start: usize) -> Result<(), E>
+        requires { start + 12 + length text.now ≤ usize.MAX }
+        ensures answer { result
+            ≡ first_refusal_or (shifted start E.refusal) (standard_time text.now) (Ok tt) }
+        ensures placed { (size : ℕ)
+            → IfSome (first_place (standard_time text.now)) (λ place. start + place ≤ size)
+            → IfErr result (E.lies_within size) }
     {
         if byte_at(text, 5) != b':' {
-            return Err(ParseError::InvalidCharTimeSep);
+            return Err(E::at(ParseError::InvalidCharTimeSep, start + 5));
         }
         match byte_at(text, 8) {
-            b',' => Err(ParseError::InvalidCharTzSign),
-            b'.' => Self::require_standard_offset(text, run_end(text, 9)),
-            _ => Self::require_standard_offset(text, 8),
+            b',' => Err(E::at(ParseError::InvalidCharTzSign, start + 8)),
+            b'.' => Self::require_standard_offset(text, run_end(text, 9), start),
+            _ => Self::require_standard_offset(text, 8, start),
         }
     }
 
     /// Refuses an offset that is parsed at `place`, but is none of RFC 3339.
-    fn require_standard_offset(text: &[u8], place: usize) -> Result<(), ParseError>
-        ensures answer { result ≡ first_fault_or (standard_offset (drop place text.now)) (Ok tt) }
+    fn require_standard_offset<E: Refusal>(text: &[u8], place: usize, start: usize) -> Result<(), E>
+        requires { start + place + 3 ≤ usize.MAX }
+        ensures answer { result ≡ first_refusal_or (shifted start E.refusal)
+            (moved place (standard_offset (drop place text.now))) (Ok tt) }
+        ensures placed { (size : ℕ)
+            → IfSome (first_place (moved place (standard_offset (drop place text.now))))
+            (λ place. start + place ≤ size)
+            → IfErr result (E.lies_within size) }
     {
         if place >= text.len() {
-            return Err(ParseError::TzRequired);
+            return Err(E::at(ParseError::TzRequired, start + place));
         }
         if has_minus_sign(text, place) {
-            return Err(ParseError::InvalidCharTzSign);
+            return Err(E::at(ParseError::InvalidCharTzSign, start + place));
         }
         if is_utc(text[place]) || byte_at(text, place + 3) == b':' {
             Ok(())
         } else {
-            Err(ParseError::InvalidCharTzMinute)
+            Err(E::at(ParseError::InvalidCharTzMinute, start + (place + 3)))
         }
     }
 }

@@ -1,6 +1,6 @@
 //! Times of day without their offsets, at the front of a text.
 
-ghost use Rattle.std.specs.Prelude.{◌≡◌, ◌+◌, ◌≤◌, ◌==◌, ◌||◌, IfOk, IsTrue, Ok, length, drop, codes};
+ghost use Rattle.std.specs.Prelude.{◌≡◌, ◌+◌, ◌≤◌, ◌==◌, ◌||◌, ℕ, IfErr, IfOk, IsTrue, Ok, length, drop, codes};
 ghost use Rattle.speedate_base.specs.Digits.{
   run_length,
   run_digits,
@@ -16,6 +16,7 @@ use speedate_base::faults::ParseError;
 use speedate_base::numbers::{
     Fraction, byte_at, eight_bytes, fit_length, is_decimal_mark, takes_digits, two_digit_numbers,
 };
+use speedate_base::refusal::Refusal;
 use std::simd::prelude::*;
 
 /// A clock within a longer text: its time of day, without an offset, and how many bytes it takes.
@@ -63,12 +64,14 @@ enum Second {
 impl PureTime {
     ghost use Rattle.std.specs.Option.{ForSome};
     ghost use Rattle.speedate_base.specs.Offset.{IsOffset, IsWholeMinutes};
-    ghost use Rattle.speedate_base.specs.Requirement.{first_fault_or, result_map};
+    ghost use Rattle.speedate_base.specs.Requirement.{first_refusal_or, result_map, shifted};
     ghost use Rattle.speedate_civil.specs.ParserParts.{clock_after, second_of};
     ghost use Rattle.speedate_civil.specs.Time.{
       clock_front,
+      clock_front_or,
       minute_clock,
       minute_front,
+      minute_front_or,
       second_table,
       clock_parts,
       has_decimal_mark,
@@ -82,54 +85,74 @@ impl PureTime {
     /// The errors are those of [`Time::parse_str`](crate::time::Time::parse_str) up to
     /// `SecondFractionTooLong`, which only the behavior `Error` gives.
     #[inline(always)]
+    #[tactic(auto, using(std::proofs::lemmas::List::take_rest))]
     pub fn parse(bytes: &[u8], place: usize, behavior: Behavior) -> Result<Self, ParseError>
         requires { place ≤ length bytes.now }
         ensures answer { result_map clock_parts result
             ≡ clock_front behavior (drop place bytes.now) }
         ensures within { IfOk result (λ time. place + time.size ≤ length bytes.now) }
     {
-        let text = &bytes[place..];
+        Self::front_at(&bytes[place..], 0, behavior)
+    }
+
+    /// Parses the clock at the front of a text, which begins at `start` of the whole, whatever follows it.
+    #[inline(always)]
+    pub(super) fn front_at<E: Refusal>(
+        text: &[u8],
+        start: usize,
+        behavior: Behavior,
+    ) -> Result<Self, E>
+        requires { start + length text.now + 16 ≤ usize.MAX }
+        ensures answer { result_map clock_parts result
+            ≡ clock_front_or (shifted start E.refusal) behavior text.now }
+        ensures placed { IfErr result (E.lies_within (start + length text.now)) }
+        ensures within { IfOk result (λ time. time.size ≤ length text.now) }
+    {
         if text.len() < 5 {
-            return Err(ParseError::TooShort);
+            return Err(E::at(ParseError::TooShort, start + text.len()));
         }
         let front = eight_bytes(text, 0);
         let fits = fit_length(front, u8x8::from_array(*b"00:00:00"));
         if fits < 5 {
-            return Err(match fits {
-                0 | 1 => ParseError::InvalidCharHour,
-                2 => ParseError::InvalidCharTimeSep,
-                _ => ParseError::InvalidCharMinute,
-            });
+            return match fits {
+                0 | 1 => Err(E::at(ParseError::InvalidCharHour, start)),
+                2 => Err(E::at(ParseError::InvalidCharTimeSep, start + 2)),
+                _ => Err(E::at(ParseError::InvalidCharMinute, start + 3)),
+            };
         }
-        Self::with_minute(front, fits, text, behavior)
+        Self::with_minute(front, fits, text, start, behavior)
     }
 
-    /// The clock at the front of a text, by its first eight bytes and how many of them fit `00:00:00`, which
-    /// those of the minute do at least.
+    /// What [`PureTime::front_at`] does, for a text of which the first eight bytes are given, and how many of
+    /// them fit `00:00:00`: those of the minute at least.
     #[inline(always)]
-    pub(super) fn with_minute(
+    pub(super) fn with_minute<E: Refusal>(
         front: u8x8,
         fits: usize,
         text: &[u8],
+        start: usize,
         behavior: Behavior,
-    ) -> Result<Self, ParseError>
+    ) -> Result<Self, E>
         requires front { front ≡ eight_at text.now 0 }
         requires long { 5 ≤ length text.now }
         requires looks { fits ≡ fit_length (codes "00:00:00") front }
         requires minute { 5 ≤ fits }
-        ensures answer { result_map clock_parts result ≡ clock_front behavior text.now }
+        requires start { start + length text.now + 16 ≤ usize.MAX }
+        ensures answer { result_map clock_parts result
+            ≡ clock_front_or (shifted start E.refusal) behavior text.now }
+        ensures placed { IfErr result (E.lies_within (start + length text.now)) }
         ensures within { IfOk result (λ time. time.size ≤ length text.now) }
     {
         let pattern = u8x8::from_array(*b"00:00:00");
         let [hour, _, _, minute, _, _, _, _] = two_digit_numbers(front, pattern, 5);
         if hour > 23 {
-            return Err(ParseError::OutOfRangeHour);
+            return Err(E::at(ParseError::OutOfRangeHour, start));
         }
         if minute > 59 {
-            return Err(ParseError::OutOfRangeMinute);
+            return Err(E::at(ParseError::OutOfRangeMinute, start + 3));
         }
         let second = Second::in_front(front, fits, 3);
-        let after = Self::after_minute(second, text, 3, behavior)?;
+        let after = Self::after_minute::<E>(second, text, 3, start + 3, behavior)?;
         Ok(PureTime {
             hour,
             minute,
@@ -146,6 +169,7 @@ impl PureTime {
     /// [`Time::parse_str`](crate::time::Time::parse_str) from `OutOfRangeMinute` to
     /// `SecondFractionTooLong`, which only the behavior `Error` gives.
     #[inline(always)]
+    #[tactic(auto, using(std::proofs::lemmas::List::take_rest))]
     pub fn parse_from_minute(
         bytes: &[u8],
         place: usize,
@@ -156,19 +180,37 @@ impl PureTime {
             ≡ minute_front behavior (drop place bytes.now) }
         ensures within { IfOk result (λ time. place + time.size ≤ length bytes.now) }
     {
-        let rest = &bytes[place..];
+        Self::minute_front_at(&bytes[place..], 0, behavior)
+    }
+
+    /// Parses the clock, from its minute on, at the front of a text, which begins at `start` of the whole,
+    /// whatever follows it; its hour is 0. It is 13 minutes and 14 seconds, in five bytes, from `b"13:14"`.
+    ///
+    /// The errors are those of [`PureTime::parse_from_minute`].
+    #[inline(always)]
+    pub fn minute_front_at<E: Refusal>(
+        rest: &[u8],
+        start: usize,
+        behavior: Behavior,
+    ) -> Result<Self, E>
+        requires { start + length rest.now + 16 ≤ usize.MAX }
+        ensures answer { result_map clock_parts result
+            ≡ minute_front_or (shifted start E.refusal) behavior rest.now }
+        ensures placed { IfErr result (E.lies_within (start + length rest.now)) }
+        ensures within { IfOk result (λ time. time.size ≤ length rest.now) }
+    {
         let front = eight_bytes(rest, 0);
         let pattern = u8x8::from_array(*b"00:00:00");
         let fits = fit_length(front, pattern);
         if fits < 2 {
-            return Err(ParseError::InvalidCharMinute);
+            return Err(E::at(ParseError::InvalidCharMinute, start));
         }
         let [minute, _, _, _, _, _, _, _] = two_digit_numbers(front, pattern, 2);
         if minute > 59 {
-            return Err(ParseError::OutOfRangeMinute);
+            return Err(E::at(ParseError::OutOfRangeMinute, start));
         }
         let second = Second::in_front(front, fits, 0);
-        let after = Self::after_minute(second, rest, 0, behavior)?;
+        let after = Self::after_minute::<E>(second, rest, 0, start, behavior)?;
         Ok(PureTime {
             hour: 0,
             minute,
@@ -195,24 +237,29 @@ impl PureTime {
     }
 
     /// Tests the range of the second that follows the minute at the front of a text, and parses the
-    /// fraction after it.
+    /// fraction after it. The minute begins at `minute` of the text, and at `start` of the whole.
     #[inline(always)]
-    fn after_minute(
+    fn after_minute<E: Refusal>(
         second: Second,
         bytes: &[u8],
         minute: usize,
+        start: usize,
         behavior: Behavior,
-    ) -> Result<AfterMinute, ParseError>
+    ) -> Result<AfterMinute, E>
+        requires start { start + 16 ≤ usize.MAX }
         requires minute { minute + 2 ≤ length bytes.now }
         requires second { second ≡ second_of (drop minute bytes.now) }
         ensures answer { result_map (clock_after (two_digit_value (drop minute bytes.now) 0)) result
-            ≡ first_fault_or (second_table behavior (drop minute bytes.now))
+            ≡ first_refusal_or (shifted start E.refusal)
+            (second_table behavior (drop minute bytes.now))
             (Ok (minute_clock (drop minute bytes.now))) }
+        ensures placed { (size : ℕ) → start + length (drop minute bytes.now) ≤ size
+            → IfErr result (E.lies_within size) }
         ensures within { IfOk result (λ after. minute + after.size ≤ length bytes.now) }
     {
         let second = match second {
             Second::Number(second) => second,
-            Second::Faulty => return Err(ParseError::InvalidCharSecond),
+            Second::Faulty => return Err(E::at(ParseError::InvalidCharSecond, start + 3)),
             Second::Absent => {
                 return Ok(AfterMinute {
                     second: 0,
@@ -222,7 +269,7 @@ impl PureTime {
             }
         };
         if second > 59 {
-            return Err(ParseError::OutOfRangeSecond);
+            return Err(E::at(ParseError::OutOfRangeSecond, start + 3));
         }
         if !Self::has_decimal_mark(&bytes[minute..]) {
             return Ok(AfterMinute {
@@ -233,10 +280,10 @@ impl PureTime {
         }
         let fraction = fraction_after_second(bytes, minute);
         if fraction.length == 0 {
-            return Err(ParseError::SecondFractionMissing);
+            return Err(E::at(ParseError::SecondFractionMissing, start + 6));
         }
         if !takes_digits(behavior, fraction.length, 6) {
-            return Err(ParseError::SecondFractionTooLong);
+            return Err(E::at(ParseError::SecondFractionTooLong, start + 12));
         }
         Ok(AfterMinute {
             second,

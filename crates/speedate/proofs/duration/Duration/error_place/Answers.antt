@@ -1,14 +1,19 @@
 use Rattle.std.proofs.Common.{◌∙◌, ap, is_some}
-use Rattle.speedate.proofs.DurationPlaceLemmas.{duration-is_some, duration_answer-table}
+use Rattle.speedate_base.specs.Refused.{placed}
+use Rattle.speedate_base.specs.declared.refusal.Refused.{Refused}
+use Rattle.speedate_base.proofs.RefusalLemmas.{refused-is_some}
+use Rattle.speedate.specs.Duration.{duration_answer_or}
+use Rattle.speedate.proofs.DurationPlaceLemmas.{duration_answer-view}
 use Rattle.speedate.proofs.duration.Duration.error_place.Goals as goal
 
-pub returns-clause-table : goal.returns-clause-table
-returns-clause-table c =
-    duration_answer-table c.args.config.now.iso_order
+pub returns-clause-fault : goal.returns-clause-fault
+returns-clause-fault c =
+    duration_answer-view (λ (refused : Refused). refused.fault) placed c.args.config.now.iso_order
     c.args.config.now.microseconds_precision_overflow_behavior c.args.bytes.now
 
 pub returns-clause-refused : goal.returns-clause-refused
 returns-clause-refused c =
     ap is_some c.duration_error_place.ensures.place
-    ∙ duration-is_some c.args.config.now.iso_order
-    c.args.config.now.microseconds_precision_overflow_behavior c.args.bytes.now
+    ∙ refused-is_some (duration_answer_or placed c.args.config.now.iso_order
+    c.args.config.now.microseconds_precision_overflow_behavior c.args.bytes.now) _
+    (returns-clause-fault c)

@@ -1,8 +1,12 @@
-use Rattle.speedate_civil.proofs.ErrorPlaceLemmas.{date_answer-table}
+use Rattle.std.proofs.Common.{rules}
+use Rattle.speedate_base.specs.Refused.{placed}
+use Rattle.speedate_base.specs.declared.refusal.Refused.{Refused}
+use Rattle.speedate_base.proofs.RefusalLemmas.{refused-is_some}
+use Rattle.speedate_civil.proofs.ErrorPlaceLemmas.{date_answer-view}
 use Rattle.speedate_civil.proofs.date.Date.error_place_rfc3339.Goals as goal
 
-pub returns-in-Some-clause-table : goal.returns-in-Some-clause-table
-returns-in-Some-clause-table c = date_answer-table c.args.bytes.now
+pub returns-clause-fault : goal.returns-clause-fault
+returns-clause-fault c = date_answer-view (λ (refused : Refused). refused.fault) placed c.args.bytes.now
 
-pub returns-in-None-clause-table : goal.returns-in-None-clause-table
-returns-in-None-clause-table c = date_answer-table c.args.bytes.now
+pub returns-clause-refused : goal.returns-clause-refused
+returns-clause-refused c = let same = refused-is_some _ _ (returns-clause-fault c) in search rules

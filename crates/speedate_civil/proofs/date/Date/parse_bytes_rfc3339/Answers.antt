@@ -1,23 +1,19 @@
-use Rattle.std.proofs.Common.{◌∙◌, ap, sym, arith}
-use Rattle.std.proofs.lemmas.Grind.{common_steps}
+use Rattle.std.proofs.Common.{◌≡◌, rules}
 use Rattle.speedate_civil.specs.Base.{ParseError}
-use Rattle.speedate_base.specs.Requirement.{whole_or_fault, result_and_then}
+use Rattle.speedate_base.specs.Numbers.{NoNumber, number_answer}
+use Rattle.speedate_base.specs.Requirement.{whole_or_fault}
 use Rattle.speedate_civil.specs.Calendar.{Ymd}
-use Rattle.speedate_base.proofs.RequirementLemmas.{whole_or_fault-longer}
-use Rattle.speedate_civil.specs.Date.{ymd}
+use Rattle.speedate_civil.specs.Date.{date_front, ymd}
 use Rattle.speedate_civil.proofs.NumberTextLemmas.{number_answer-date}
+use Rattle.speedate_civil.proofs.ReadLemmas.{read-result, read-then}
 use Rattle.speedate_civil.proofs.date.Date.parse_bytes_rfc3339.Goals as goal
 
 pub returns-clause-no_number : goal.returns-clause-no_number
-returns-clause-no_number c = number_answer-date c.args.bytes.now _ (sym c.in_ok-date.ensures.answer)
-
-pub returns-then-size-bytes-clause-answer : goal.returns-then-size-bytes-clause-answer
-returns-then-size-bytes-clause-answer c =
+returns-clause-no_number c =
     let bytes = c.args.bytes.now in
-    let fault = λ (read : Ymd). ParseError.ExtraCharacters in
-    sym (whole_or_fault-longer fault bytes (ymd c.in_ok-date.date) c.in_ok-date.size
-    (λ same. c.if-size-bytes.true (sym same)))
-    ∙ ap (result_and_then (whole_or_fault fault bytes)) c.in_ok-date.ensures.answer
-
-pub returns-clause-answer : goal.returns-clause-answer
-returns-clause-answer c = grind (arith, common_steps)
+    let end = λ (read : Ymd). ParseError.ExtraCharacters in
+    read-result ymd (λ (read : Ymd). number_answer bytes ≡ NoNumber) c.whole.result _
+    c.whole.ensures.answer
+    (read-then (λ (read : Ymd). number_answer bytes ≡ NoNumber) (whole_or_fault end bytes)
+    (date_front bytes)
+    (λ front is. let none = number_answer-date bytes front is in search rules))

@@ -15,11 +15,11 @@ use Rattle.speedate_civil.proofs.DateFrontLemmas.{
 use Rattle.speedate_civil.proofs.date.Date.with_month.Goals as goal
 
 pub two_digit_numbers-requires-clause-fits : goal.two_digit_numbers-requires-clause-fits
-two_digit_numbers-requires-clause-fits c =
+two_digit_numbers-requires-clause-fits g c =
     c.requires.looks
 
 pub overflow_add-year : goal.overflow_add-year
-overflow_add-year c =
+overflow_add-year g c =
     omega (
       arith,
       c.from.ensures,
@@ -28,28 +28,28 @@ overflow_add-year c =
       c.two_digit_numbers.ensures.small 2,
     )
 
-pub returns-in_default : goal.returns-in_default
-returns-in_default c =
+pub returns-in_default-clause-answer : goal.returns-in_default-clause-answer
+returns-in_default-clause-answer g c =
     let front = front-read c.args.bytes.now _ _ _ c.requires.front
     refl c.requires.looks
     c.two_digit_numbers.ensures.numbers in
     let none = day-none _ _ _ c.two_digits.ensures.value c.in_default.is in
-    record { answer = sym (no-day c.args.bytes.now _ front c.requires.long none) }
+    let no = sym (no-day g.E.Refusal.refusal c.args.bytes.now _ front c.requires.long none) in
+    search rules
 
-pub returns-then-month-lt1 : goal.returns-then-month-lt1
-returns-then-month-lt1 c =
+pub returns-then-month-lt1-clause-answer : goal.returns-then-month-lt1-clause-answer
+returns-then-month-lt1-clause-answer g c =
     let front = front-read c.args.bytes.now _ _ _ c.requires.front
     refl c.requires.looks
     c.two_digit_numbers.ensures.numbers in
     let day : two_digits_at c.args.bytes.now 8 ≡ true = search rules in
-    record {
-      answer = sym
-          (no-month c.args.bytes.now _ front c.requires.long day
-          (out-of-range _ c.then-month-lt1.either));
-    }
+    let no = sym
+    (no-month g.E.Refusal.refusal c.args.bytes.now _ front c.requires.long day
+    (out-of-range _ c.then-month-lt1.either)) in
+    search rules
 
-pub returns-then-not-is_day : goal.returns-then-not-is_day
-returns-then-not-is_day c =
+pub returns-then-not-is_day-clause-answer : goal.returns-then-not-is_day-clause-answer
+returns-then-not-is_day-clause-answer g c =
     let front = front-read c.args.bytes.now _ _ _ c.requires.front
     refl c.requires.looks
     c.two_digit_numbers.ensures.numbers in
@@ -62,13 +62,13 @@ returns-then-not-is_day c =
       day_is = day-there _ _ _ _ c.two_digits.ensures.value c.in-Some.is;
       month = (c.if-month-lt1.false, c.if-month-gt12.false);
     } in
-    record {
-      answer = sym
-          (late-day c.args.bytes.now _ _ _ read (sym c.is_day.ensures ∙ c.if-not-is_day.true));
-    }
+    let no = sym
+    (late-day g.E.Refusal.refusal c.args.bytes.now _ _ _ read
+    (sym c.is_day.ensures ∙ c.if-not-is_day.true)) in
+    search rules
 
 pub invariant_of-result : goal.invariant_of-result
-invariant_of-result c = record {
+invariant_of-result g c = record {
   year_in_range = omega (
     arith,
     c.from.ensures,
@@ -80,8 +80,8 @@ invariant_of-result c = record {
   day_in_range = in-range 1 _ c.in-Some.day (sym c.is_day.ensures ∙ c.if-not-is_day.false);
 }
 
-pub returns : goal.returns
-returns c =
+pub returns-clause-answer : goal.returns-clause-answer
+returns-clause-answer g c =
     let front = front-read c.args.bytes.now _ _ _ c.requires.front
     refl c.requires.looks
     c.two_digit_numbers.ensures.numbers in
@@ -94,7 +94,7 @@ returns c =
       day_is = day-there _ _ _ _ c.two_digits.ensures.value c.in-Some.is;
       month = (c.if-month-lt1.false, c.if-month-gt12.false);
     } in
-    record {
-      answer = sym
-          (date-there c.args.bytes.now _ _ _ read (sym c.is_day.ensures ∙ c.if-not-is_day.false));
-    }
+    let there = sym
+    (date-there g.E.Refusal.refusal c.args.bytes.now _ _ _ read
+    (sym c.is_day.ensures ∙ c.if-not-is_day.false)) in
+    search rules

@@ -7,19 +7,19 @@ use Rattle.speedate_base.proofs.RequirementLemmas.{first_fault_or-read}
 use Rattle.speedate_civil.proofs.Rfc3339Lemmas.{date-time-standard}
 use Rattle.speedate_civil.proofs.datetime.DateTime.parse_bytes_strict.Goals as goal
 
-pub returns-in_err-require_standard_date_time-clause-answer
-    : goal.returns-in_err-require_standard_date_time-clause-answer
-returns-in_err-require_standard_date_time-clause-answer c =
-    let p = err_from_is_err_and c.from_residual-in_err-require_standard_date_time.result
-    c.from_residual-in_err-require_standard_date_time.ensures.1 in
+pub returns-in_err-require_standard-clause-answer
+    : goal.returns-in_err-require_standard-clause-answer
+returns-in_err-require_standard-clause-answer c =
+    let p = err_from_is_err_and c.from_residual-in_err-require_standard.result
+    c.from_residual-in_err-require_standard.ensures.1 in
     rw (p.1, p.2) (first_fault_or-read (standard_date_time c.args.bytes.now)
     (date_and_time c.in_ok-value.value)
-    _ _ c.in_ok-value.ensures.answer c.in_err-require_standard_date_time.ensures.answer)
+    _ _ c.in_ok-value.ensures.answer c.in_err-require_standard.ensures.answer)
 
 pub returns-clause-answer : goal.returns-clause-answer
 returns-clause-answer c =
     first_fault_or-read (standard_date_time c.args.bytes.now) (date_and_time c.in_ok-value.value)
-    _ _ c.in_ok-value.ensures.answer c.in_ok-require_standard_date_time.ensures.answer
+    _ _ c.in_ok-value.ensures.answer c.in_ok-require_standard.ensures.answer
 
 pub returns-in_err-value-clause-standard : goal.returns-in_err-value-clause-standard
 returns-in_err-value-clause-standard c =
@@ -28,12 +28,12 @@ returns-in_err-value-clause-standard c =
     (ap (result_and_then (λ (found : DateAndTime). first_fault_or
     (standard_date_time c.args.bytes.now) (Ok found))) c.in_err-value.ensures.answer))
 
-pub returns-in_err-require_standard_date_time-clause-standard
-    : goal.returns-in_err-require_standard_date_time-clause-standard
-returns-in_err-require_standard_date_time-clause-standard c =
+pub returns-in_err-require_standard-clause-standard
+    : goal.returns-in_err-require_standard-clause-standard
+returns-in_err-require_standard-clause-standard c =
     date-time-standard c.args.behavior c.args.bytes.now
-    c.from_residual-in_err-require_standard_date_time.result
-    (returns-in_err-require_standard_date_time-clause-answer c)
+    c.from_residual-in_err-require_standard.result
+    (returns-in_err-require_standard-clause-answer c)
 
 pub returns-clause-standard : goal.returns-clause-standard
 returns-clause-standard c =

@@ -1,12 +1,12 @@
-use Rattle.std.proofs.Common.{◌∙◌, ap, is_some}
-use Rattle.speedate_civil.proofs.TimePlaceLemmas.{time_front-is_some, time_front-table}
+use Rattle.std.proofs.Common.{rules}
+use Rattle.speedate_base.specs.Refused.{placed}
+use Rattle.speedate_base.specs.declared.refusal.Refused.{Refused}
+use Rattle.speedate_base.proofs.RefusalLemmas.{refused-is_some}
+use Rattle.speedate_civil.proofs.ErrorPlaceLemmas.{time_front-view}
 use Rattle.speedate_civil.proofs.time.Time.error_place_front.Goals as goal
 
-pub returns-clause-table : goal.returns-clause-table
-returns-clause-table c =
-    time_front-table c.args.config.now.microseconds_precision_overflow_behavior c.args.bytes.now
+pub returns-clause-fault : goal.returns-clause-fault
+returns-clause-fault c = time_front-view (λ (refused : Refused). refused.fault) placed c.args.config.now.microseconds_precision_overflow_behavior c.args.bytes.now
 
 pub returns-clause-refused : goal.returns-clause-refused
-returns-clause-refused c =
-    ap is_some c.front_error_place.ensures.place
-    ∙ time_front-is_some c.args.config.now.microseconds_precision_overflow_behavior c.args.bytes.now
+returns-clause-refused c = let same = refused-is_some _ _ (returns-clause-fault c) in search rules

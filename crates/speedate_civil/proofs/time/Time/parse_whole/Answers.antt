@@ -1,23 +1,29 @@
 use Rattle.std.proofs.Common.{◌∙◌, ap, sym, Err}
-use Rattle.speedate_base.specs.Requirement.{whole_or_fault, result_and_then}
+use Rattle.speedate_civil.specs.Base.{ParseError}
+use Rattle.speedate_base.specs.Requirement.{whole_or_refusal, result_and_then}
 use Rattle.speedate_civil.specs.Time.{end_fault, TimeOfDay, time_of_day}
-use Rattle.speedate_base.proofs.RequirementLemmas.{whole_or_fault-longer, whole_or_fault-whole}
+use Rattle.speedate_base.proofs.RefusalLemmas.{refusal-longer, refusal-whole}
 use Rattle.speedate_civil.proofs.time.Time.parse_whole.Goals as goal
 
 pub returns-then-size-bytes-clause-answer : goal.returns-then-size-bytes-clause-answer
-returns-then-size-bytes-clause-answer c =
+returns-then-size-bytes-clause-answer g c =
     let bytes = c.args.bytes.now in
-    let time = time_of_day c.in_ok-time.time in
+    let refuse = g.E.Refusal.refusal in
+    let value = time_of_day c.in_ok-time.time in
     let fault = λ (read : TimeOfDay). end_fault read.offset in
-    ap Err c.end_fault.ensures.fault
-    ∙ sym (whole_or_fault-longer fault bytes time c.in_ok-time.size
+    ap Err (c.at.ensures.refusal
+    ∙ ap (λ (fault : ParseError). refuse fault c.in_ok-time.size) c.end_fault.ensures.fault)
+    ∙ sym (refusal-longer refuse fault bytes value c.in_ok-time.size
     (λ same. c.if-size-bytes.true (sym same)))
-    ∙ ap (result_and_then (whole_or_fault fault bytes)) c.in_ok-time.ensures.answer
+    ∙ ap (result_and_then (whole_or_refusal refuse fault bytes))
+    c.in_ok-time.ensures.answer
 
 pub returns-clause-answer : goal.returns-clause-answer
-returns-clause-answer c =
+returns-clause-answer g c =
     let bytes = c.args.bytes.now in
+    let refuse = g.E.Refusal.refusal in
     let fault = λ (read : TimeOfDay). end_fault read.offset in
-    sym (whole_or_fault-whole fault bytes (time_of_day c.in_ok-time.time) c.in_ok-time.size
+    sym (refusal-whole refuse fault bytes (time_of_day c.in_ok-time.time) c.in_ok-time.size
     (sym c.if-size-bytes.false))
-    ∙ ap (result_and_then (whole_or_fault fault bytes)) c.in_ok-time.ensures.answer
+    ∙ ap (result_and_then (whole_or_refusal refuse fault bytes))
+    c.in_ok-time.ensures.answer

@@ -1,7 +1,10 @@
-use Rattle.std.proofs.Common.{rules, ◌≡◌, ◌∙◌, add-zero, ap, ap₂, sym, ℕ, List, drop, true, ◌==◌, slice_index, drop-drop, get_or-drop, arith}
+use Rattle.std.proofs.Common.{rules, refl, length, length-drop, ◌≤◌, ◌≡◌, ◌∙◌, ◌+◌, add-zero, ap, ap₂, sym, ℕ, List, drop, true, ◌==◌, slice_index, drop-drop, get_or-drop, arith}
 use Rattle.std.proofs.lemmas.Grind.{common_steps}
 use Rattle.speedate_base.specs.Ascii.{hyphen}
-use Rattle.speedate_civil.specs.Time.{is_plus_or_minus, is_utc, signed_front}
+use Rattle.speedate_civil.specs.Base.{ParseError}
+use Rattle.speedate_base.specs.Requirement.{shifted}
+use Rattle.speedate_base.proofs.RefusalLemmas.{shifted-shifted}
+use Rattle.speedate_civil.specs.Time.{is_plus_or_minus, is_utc, signed_front_or}
 use Rattle.speedate_civil.proofs.time.offset.parse_offset.Goals as goal
 
 -- the byte at a place is the first of what begins there
@@ -11,18 +14,23 @@ first bytes place byte is =
     get_or-drop place bytes 0 0 ∙ ap (slice_index bytes) (add-zero place) ∙ sym is
 
 pub returns-then-is_plus_or_minus-clause-answer : goal.returns-then-is_plus_or_minus-clause-answer
-returns-then-is_plus_or_minus-clause-answer c =
+returns-then-is_plus_or_minus-clause-answer g c =
+    let refuse = g.E.Refusal.refusal in
     let byte = first c.args.bytes.now c.args.place _ c.byte_at-first.ensures.byte in
     rw (ap is_plus_or_minus byte ∙ sym c.if-is_plus_or_minus.ensures.value)
     (c.signed_offset.ensures.answer
-    ∙ ap₂ (λ (b : ℕ) (numbers : List ℕ). signed_front (b == hyphen) 1 numbers) (sym byte)
-    (sym (drop-drop 1 c.args.place c.args.bytes.now)))
+    ∙ ap₂ (λ (b : ℕ) (numbers : List ℕ). signed_front_or (shifted (c.args.start + 1) refuse)
+    (b == hyphen) 1 numbers) (sym byte) (sym (drop-drop 1 c.args.place c.args.bytes.now))
+    ∙ ap (λ (refuse : ParseError → ℕ → _). signed_front_or refuse
+    (slice_index (drop c.args.place c.args.bytes.now) 0 == hyphen) 1
+    (drop 1 (drop c.args.place c.args.bytes.now))) (sym (shifted-shifted c.args.start 1 refuse)))
 
 pub returns-then-is_utc-clause-answer : goal.returns-then-is_utc-clause-answer
-returns-then-is_utc-clause-answer c = search (rules, first)
+returns-then-is_utc-clause-answer g c = search (rules, first)
 
 pub returns-then-has_minus_sign-clause-answer : goal.returns-then-has_minus_sign-clause-answer
-returns-then-has_minus_sign-clause-answer c =
+returns-then-has_minus_sign-clause-answer g c =
+    let refuse = g.E.Refusal.refusal in
     let byte = first c.args.bytes.now c.args.place _ c.byte_at-first.ensures.byte in
     rw (
       ap is_plus_or_minus byte ∙ sym c.if-is_plus_or_minus.ensures.value,
@@ -30,13 +38,42 @@ returns-then-has_minus_sign-clause-answer c =
       sym c.if-has_minus_sign.ensures.value,
     )
     (c.signed_offset-then-has_minus_sign.ensures.answer
-    ∙ ap (signed_front true 3) (sym (drop-drop 3 c.args.place c.args.bytes.now)))
+    ∙ ap (signed_front_or (shifted (c.args.start + 3) refuse) true 3)
+    (sym (drop-drop 3 c.args.place c.args.bytes.now))
+    ∙ ap (λ (refuse : ParseError → ℕ → _). signed_front_or refuse true 3
+    (drop 3 (drop c.args.place c.args.bytes.now))) (sym (shifted-shifted c.args.start 3 refuse)))
 
 pub returns-clause-answer : goal.returns-clause-answer
-returns-clause-answer c = search (rules, first)
+returns-clause-answer g c = search (rules, first)
 
 pub signed_offset-requires-clause-place : goal.signed_offset-requires-clause-place
-signed_offset-requires-clause-place c = grind (arith, common_steps)
+signed_offset-requires-clause-place g c = grind (arith, common_steps)
 
 pub returns-then-is_utc-clause-within : goal.returns-then-is_utc-clause-within
-returns-then-is_utc-clause-within c = grind (arith, common_steps)
+returns-then-is_utc-clause-within g c = grind (arith, common_steps)
+
+pub returns-then-is_plus_or_minus-clause-placed : goal.returns-then-is_plus_or_minus-clause-placed
+returns-then-is_plus_or_minus-clause-placed g c = λ size within.
+    let bytes = c.args.bytes.now in
+    let there : c.args.place + 1 ≤ length bytes = grind (arith, common_steps) in
+    c.signed_offset.ensures.placed size
+    (omega (
+      arith,
+      there,
+      within,
+      length-drop c.args.place bytes,
+      length-drop (c.args.place + 1) bytes,
+    ))
+
+pub returns-then-has_minus_sign-clause-placed : goal.returns-then-has_minus_sign-clause-placed
+returns-then-has_minus_sign-clause-placed g c = λ size within.
+    let bytes = c.args.bytes.now in
+    let there = c.if-has_minus_sign.ensures.there refl in
+    c.signed_offset-then-has_minus_sign.ensures.placed size
+    (omega (
+      arith,
+      there,
+      within,
+      length-drop c.args.place bytes,
+      length-drop (c.args.place + 3) bytes,
+    ))

@@ -1,4 +1,4 @@
-use Rattle.std.proofs.Common.{◌≡◌, ◌∙◌, ap, sym, ℕ, ◌+◌, ◌*◌, Bool, List, [], ◌∷◌, drop, Ok, Option, Some, w32, arith, rules, ℤ, Result, nat_le, nat_lt, SFits}
+use Rattle.std.proofs.Common.{◌≡◌, ◌∙◌, ap, sym, ℕ, ◌+◌, ◌-◌, ◌≤◌, ◌*◌, Bool, List, [], ◌∷◌, drop, Ok, Option, Some, w32, arith, rules, ℤ, Result, nat_le, nat_lt, SFits}
 use Rattle.speedate_civil.specs.Base.{ParseError}
 use Rattle.std.proofs.lemmas.Grind.{common_steps}
 use Rattle.std.proofs.lemmas.Bool.Decides.{nat_tests}
@@ -7,100 +7,112 @@ use Rattle.std.proofs.lemmas.Result.{err_from_is_err_and}
 use Rattle.speedate_base.specs.Digits.{two_digit_value, eight_at}
 use Rattle.speedate_base.specs.Numbers.{with_sign}
 use Rattle.speedate_base.specs.Timestamp.{seconds_per_day}
-use Rattle.speedate_base.specs.Requirement.{◌else_fault◌, first_fault_or}
+use Rattle.speedate_base.specs.Requirement.{◌at_byte◌, ◌else_fault◌, first_refusal_or, shifted}
 use Rattle.speedate_civil.specs.Time.{
   offset_digits,
   offset_ranges,
-  signed_front,
+  signed_front_or,
   offset_minute,
+  offset_minute_place,
   offset_digits_size,
   offset_size,
 }
-use Rattle.speedate_base.proofs.RequirementLemmas.{
-  first_fault_or-all,
-  first_fault_or-next,
-  first_fault_or-value,
+use Rattle.speedate_base.proofs.RefusalLemmas.{
+  first_refusal_or-next,
+  refusal-all,
+  refusal-value,
 }
 use Rattle.speedate_base.proofs.PatternLemmas.{eight_at-drop}
 use Rattle.speedate_civil.proofs.time.offset.signed_offset.Goals as goal
 
--- hour, minute and length of an offset after its sign, or the fault of its digits
-abbrev numbers_of : List ℕ → Result ((ℕ × ℕ) × ℕ) ParseError
-numbers_of rest =
-    first_fault_or (offset_digits rest)
+-- hour, minute and length of an offset after its sign, or the refusal of its digits
+abbrev numbers_of : {E : Type 0} → (ParseError → ℕ → E) → List ℕ → Result ((ℕ × ℕ) × ℕ) E
+numbers_of refuse rest =
+    first_refusal_or refuse (offset_digits rest)
     (Ok ((two_digit_value rest 0, offset_minute rest), offset_digits_size rest))
 
 -- eight bytes have them all
-eight-enough : (rest : List ℕ) → numbers_of (eight_at rest 0) ≡ numbers_of rest
-eight-enough rest = grind (arith, common_steps)
+eight-enough : {E : Type 0} (refuse : ParseError → ℕ → E) (rest : List ℕ)
+    → numbers_of refuse (eight_at rest 0) ≡ numbers_of refuse rest
+eight-enough refuse rest = grind (arith, common_steps)
 
-read : (text front : List ℕ) (place : ℕ) (answer : Result ((ℕ × ℕ) × ℕ) ParseError)
-    → front ≡ eight_at text place → answer ≡ numbers_of front
-    → answer ≡ numbers_of (drop place text)
-read text front place answer from is =
-    is ∙ ap (numbers_of) (from ∙ eight_at-drop place text) ∙ eight-enough (drop place text)
+read : {E : Type 0} (refuse : ParseError → ℕ → E) (text front : List ℕ) (place : ℕ)
+    (answer : Result ((ℕ × ℕ) × ℕ) E)
+    → front ≡ eight_at text place → answer ≡ numbers_of refuse front
+    → answer ≡ numbers_of refuse (drop place text)
+read refuse text front place answer from is =
+    is ∙ ap (numbers_of refuse) (from ∙ eight_at-drop place text)
+    ∙ eight-enough refuse (drop place text)
 
 -- what is left to decide once they are known
-abbrev decided : Bool → ℕ → (ℕ × ℕ) × ℕ → Result (Option ℤ × ℕ) ParseError
-decided west sign numbers = first_fault_or (
-    (nat_le numbers.0.1 59 else_fault ParseError.OutOfRangeTzMinute)
+abbrev decided : {E : Type 0} → (ParseError → ℕ → E) → Bool → ℕ → ℕ → (ℕ × ℕ) × ℕ
+    → Result (Option ℤ × ℕ) E
+decided refuse west sign minute numbers = first_refusal_or refuse (
+    (nat_le numbers.0.1 59 else_fault ParseError.OutOfRangeTzMinute at_byte minute)
     ∷ (nat_lt (3600 * numbers.0.0 + 60 * numbers.0.1) seconds_per_day
-    else_fault ParseError.OutOfRangeTz)
+    else_fault ParseError.OutOfRangeTz at_byte 0)
     ∷ []
     ) (Ok (Some (with_sign west (3600 * numbers.0.0 + 60 * numbers.0.1)), sign + numbers.1))
 
-known : (west : Bool) (sign : ℕ) (text front : List ℕ) (place : ℕ) (numbers : (ℕ × ℕ) × ℕ)
-    → front ≡ eight_at text place → Ok numbers ≡ numbers_of front
-    → decided west sign numbers ≡ signed_front west sign (drop place text)
-known west sign text front place numbers from is =
+known : {E : Type 0} (refuse : ParseError → ℕ → E) (west : Bool) (sign : ℕ) (text front : List ℕ)
+    (place : ℕ) (numbers : (ℕ × ℕ) × ℕ)
+    → front ≡ eight_at text place → Ok numbers ≡ numbers_of refuse front
+    → (decided refuse west sign (numbers.1 - 2) numbers
+    ≡ signed_front_or refuse west sign (drop place text)) × (2 ≤ numbers.1)
+known refuse west sign text front place numbers from is =
     let rest : List ℕ = drop place text in
-    let value = first_fault_or-value (offset_digits rest) _ numbers
-    (sym (read text front place _ from is)) in
-    ap (decided west sign) (sym value.1)
-    ∙ sym (first_fault_or-all (offset_digits rest)
-    (first_fault_or (offset_ranges rest)
-    (Ok (Some (with_sign west (offset_size rest)), sign + offset_digits_size rest)))
-    value.0)
+    let value = refusal-value refuse (offset_digits rest) _ numbers
+    (sym (read refuse text front place _ from is)) in
+    let size : offset_digits_size rest ≡ numbers.1 =
+    ap (λ (numbers : (ℕ × ℕ) × ℕ). numbers.1) value.1 in (
+      ap (λ (minute : ℕ). decided refuse west sign minute numbers) (omega (arith, size))
+          ∙ ap (decided refuse west sign (offset_minute_place rest)) (sym value.1)
+          ∙ sym (refusal-all refuse (offset_digits rest)
+          (first_refusal_or refuse (offset_ranges rest)
+          (Ok (Some (with_sign west (offset_size rest)), sign + offset_digits_size rest)))
+          value.0),
+      omega (arith, size),
+    )
 
 pub returns-in_err-hour-clause-answer : goal.returns-in_err-hour-clause-answer
-returns-in_err-hour-clause-answer c =
+returns-in_err-hour-clause-answer g c =
     let rest : List ℕ = drop c.args.place c.args.bytes.now in
     let p = err_from_is_err_and c.from_residual.result c.from_residual.ensures.1 in
     let refused =
-    read c.args.bytes.now _ c.args.place _ c.eight_bytes.ensures.bytes
+    read (shifted c.args.start g.E.Refusal.refusal) c.args.bytes.now _ c.args.place _ c.eight_bytes.ensures.bytes
     c.in_err-hour.ensures.numbers in
-    let next : Result (Option ℤ × ℕ) ParseError =
-    first_fault_or (offset_ranges rest)
+    let next : Result (Option ℤ × ℕ) _ =
+    first_refusal_or (shifted c.args.start g.E.Refusal.refusal) (offset_ranges rest)
     (Ok (
       Some (with_sign c.args.west (offset_size rest)),
       c.args.sign + offset_digits_size rest,
     )) in
-    rw (p.1, p.2) (first_fault_or-next (offset_digits rest) _ _ next refused)
+    rw (p.1, p.2) (first_refusal_or-next (shifted c.args.start g.E.Refusal.refusal) (offset_digits rest) _ _ next refused)
 
 pub returns-then-minute-gt59-clause-answer : goal.returns-then-minute-gt59-clause-answer
-returns-then-minute-gt59-clause-answer c =
-    let is = known c.args.west c.args.sign c.args.bytes.now _ c.args.place
+returns-then-minute-gt59-clause-answer g c =
+    let is = known (shifted c.args.start g.E.Refusal.refusal) c.args.west c.args.sign c.args.bytes.now _ c.args.place
     ((c.in_ok-hour.hour, c.in_ok-hour.minute), c.in_ok-hour.size)
     c.eight_bytes.ensures.bytes c.in_ok-hour.ensures.numbers in
-    grind (arith, nat_tests) ∙ is
+    grind (arith, nat_tests) ∙ is.0
 
 pub returns-then-seconds-ge-SECONDS_PER_DAY-clause-answer
     : goal.returns-then-seconds-ge-SECONDS_PER_DAY-clause-answer
-returns-then-seconds-ge-SECONDS_PER_DAY-clause-answer c =
-    let is = known c.args.west c.args.sign c.args.bytes.now _ c.args.place
+returns-then-seconds-ge-SECONDS_PER_DAY-clause-answer g c =
+    let is = known (shifted c.args.start g.E.Refusal.refusal) c.args.west c.args.sign c.args.bytes.now _ c.args.place
     ((c.in_ok-hour.hour, c.in_ok-hour.minute), c.in_ok-hour.size)
     c.eight_bytes.ensures.bytes c.in_ok-hour.ensures.numbers in
-    grind (arith, nat_tests, c.from.ensures, c.from-2.ensures) ∙ is
+    grind (arith, nat_tests, c.from.ensures, c.from-2.ensures) ∙ is.0
 
 pub returns-clause-answer : goal.returns-clause-answer
-returns-clause-answer c =
-    let is = known c.args.west c.args.sign c.args.bytes.now _ c.args.place
+returns-clause-answer g c =
+    let is = known (shifted c.args.start g.E.Refusal.refusal) c.args.west c.args.sign c.args.bytes.now _ c.args.place
     ((c.in_ok-hour.hour, c.in_ok-hour.minute), c.in_ok-hour.size)
     c.eight_bytes.ensures.bytes c.in_ok-hour.ensures.numbers in
     let fits : SFits w32 c.with_sign.result = search rules in
     let value = to_z-of_z w32 c.with_sign.result fits in
     grind (arith, nat_tests, c.from.ensures, c.from-2.ensures, value, c.with_sign.ensures.value)
-    ∙ is
+    ∙ is.0
 
 pub returns-clause-within : goal.returns-clause-within
-returns-clause-within c = grind (arith, common_steps)
+returns-clause-within g c = grind (arith, common_steps)

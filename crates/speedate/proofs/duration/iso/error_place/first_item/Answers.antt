@@ -1,17 +1,29 @@
-use Rattle.std.proofs.Common.{◌≡◌, ◌≤◌, ◌<◌, ◌-◌, ◌+◌, ◌∙◌, ap, sym, subst, arith, rules, ℕ, Bool, true, false, List, length, drop, if◌then◌else◌}
+use Rattle.std.proofs.Common.{◌≡◌, ◌≤◌, ◌<◌, ◌-◌, ◌+◌, ◌∙◌, ap, sym, subst, arith, rules, ℕ, Bool, true, false, List, length, drop, if◌then◌else◌, IsOk, Result, Ok, Err}
 use Rattle.std.proofs.lemmas.Bool.Decides.{nat_tests}
-use Rattle.std.proofs.lemmas.List.{length-drop, take_rest}
+use Rattle.std.proofs.lemmas.List.{drop-drop, length-drop, take_rest}
+use Rattle.speedate_base.specs.Refused.{placed}
+use Rattle.speedate_base.specs.declared.refusal.Refused.{Refused}
+use Rattle.speedate_base.specs.Requirement.{fault_alone, refusal_map, shifted}
+use Rattle.speedate_civil.specs.Base.{ParseError}
+use Rattle.speedate.specs.Duration.{iso_from}
 use Rattle.speedate.specs.DurationNumbers.{UnsignedDuration}
-use Rattle.speedate.specs.DurationPlace.{amount_numbers, first_item, items_after}
+use Rattle.speedate.specs.DurationPlace.{amount_numbers, first_item_after}
 use Rattle.speedate.specs.IsoForm.{item_at}
-use Rattle.speedate.specs.IsoParts.{bound_test, item_front, sums_parts}
-use Rattle.speedate.proofs.IsoPlaceLemmas.{
+use Rattle.speedate.specs.IsoParts.{bound_test, item_front_or, sums_parts}
+use Rattle.speedate.proofs.DurationPlaceLemmas.{
+  first_item-done,
   first_item-step,
-  is_rest-good,
-  is_rest-step,
-  items_after-none,
+  iso_after-view,
+  iso_from-read,
+  iso_from-refused,
+  item_front-any,
 }
 use Rattle.speedate.proofs.duration.iso.error_place.first_item.Goals as goal
+
+is_ok-err : (answer : Result UnsignedDuration ParseError) (fault : ParseError)
+    → Err fault ≡ answer → IsOk answer → ⊥
+is_ok-err answer fault same ok =
+    absurd (cc (sym same, ok))
 
 pub returns-then-not-holds-clause-place : goal.returns-then-not-holds-clause-place
 returns-then-not-holds-clause-place c =
@@ -22,41 +34,55 @@ returns-then-not-holds-clause-place c =
     let test = bound_test c.args.bound in
     let text = take_rest body place in
     let more : place < length body = grind (arith, nat_tests, c.loop-place-test.true) in
+    let left : length (drop place body) ≡ length body - place = length-drop place body in
     let fails : c.holds.result ≡ false = search rules in
     let step =
-    first_item-step test body sums next place c.in-Ok.size more
-    (c.in-Ok.ensures.item ∙ ap (λ (text : List ℕ). item_front sums (item_at text)) text)
-    (subst (λ (text : List ℕ). c.in-Ok.size ≤ length text) text c.in-Ok.ensures.within) in
+    first_item-step (shifted place placed) test sums next (drop place body) c.in-Ok.size
+    (omega (arith, left, more))
+    (subst (λ (text : List ℕ). c.in-Ok.size ≤ length text) text c.in-Ok.ensures.within)
+    (c.in-Ok.ensures.item
+    ∙ ap (λ (text : List ℕ). item_front_or (shifted place placed) sums (item_at text)) text) in
     let held =
     ap (λ (amount : UnsignedDuration). test (amount_numbers amount)) (sym c.sum.ensures.amount)
     ∙ sym c.holds.ensures ∙ fails in
-    sym (c.loop-place.invariant.1 ∙ step
-    ∙ ap (λ (holds : Bool). if holds then first_item test next (items_after 0 (place + c.in-Ok.size)
-    (drop (place + c.in-Ok.size) body)) else place) held)
+    let none = step ∙ ap (λ (holds : Bool). if holds then c.in-Ok.size
+    + first_item_after test 0 next (drop c.in-Ok.size (drop place body)) else 0) held in
+    omega (arith, none, c.loop-place.invariant.0)
 
 pub loop-place-preserved : goal.loop-place-preserved
 loop-place-preserved c =
     let body = c.args.body.now in
     let place = c.loop-place.place in
+    let size = c.in-Ok.size in
+    let rest = drop place body in
     let sums = sums_parts c.loop-place.sums in
     let next = sums_parts c.in-Ok.next in
     let test = bound_test c.args.bound in
     let text = take_rest body place in
     let more : place < length body = grind (arith, nat_tests, c.loop-place-test.true) in
+    let left : length rest ≡ length body - place = length-drop place body in
+    let some : 0 < length rest = omega (arith, left, more) in
     let holds : c.holds.result ≡ true = search rules in
     let read =
-    c.in-Ok.ensures.item ∙ ap (λ (text : List ℕ). item_front sums (item_at text)) text in
-    let small = subst (λ (text : List ℕ). c.in-Ok.size ≤ length text) text c.in-Ok.ensures.within in
-    let step = first_item-step test body sums next place c.in-Ok.size more read small in
+    c.in-Ok.ensures.item
+    ∙ ap (λ (text : List ℕ). item_front_or (shifted place placed) sums (item_at text)) text in
+    let small = subst (λ (text : List ℕ). size ≤ length text) text c.in-Ok.ensures.within in
+    let step = first_item-step (shifted place placed) test sums next rest size some small read in
     let held =
     ap (λ (amount : UnsignedDuration). test (amount_numbers amount)) (sym c.sum.ensures.amount)
-    ∙ sym c.holds.ensures ∙ holds in (
-      is_rest-step c.args.order body sums next place c.in-Ok.size c.loop-place.invariant.0 more read
-          small,
-      c.loop-place.invariant.1 ∙ step
-          ∙ ap (λ (holds : Bool). if holds then first_item test next
-          (items_after 0 (place + c.in-Ok.size) (drop (place + c.in-Ok.size) body))
-          else place) held,
+    ∙ sym c.holds.ensures ∙ holds in
+    let found = step
+    ∙ ap (λ (holds : Bool). if holds then size + first_item_after test 0 next (drop size rest)
+    else 0) held
+    ∙ ap (λ (text : List ℕ). size + first_item_after test 0 next text)
+    (drop-drop size place body) in
+    let later = iso_from-read fault_alone sums next rest size some small
+    (item_front-any (shifted place placed) fault_alone sums (item_at rest) (next, size) read) in (
+      omega (arith, found, c.loop-place.invariant.0),
+      omega (arith, left, small, more),
+      subst (λ (text : List ℕ). IsOk (iso_from next text)) (drop-drop size place body)
+          (subst (λ (answer : Result UnsignedDuration ParseError). IsOk answer) later
+          c.loop-place.invariant.2),
     )
 
 pub returns-after-loop-place-clause-place : goal.returns-after-loop-place-clause-place
@@ -66,17 +92,24 @@ returns-after-loop-place-clause-place c =
     let left : length (drop place body) ≡ length body - place = length-drop place body in
     let none : length (drop place body) ≡ 0 =
     grind (arith, nat_tests, left, c.loop-place-test.false) in
-    sym (c.loop-place.invariant.1
-    ∙ ap (first_item (bound_test c.args.bound) (sums_parts c.loop-place.sums))
-    (items_after-none place (drop place body) none))
+    let done = first_item-done (bound_test c.args.bound) (sums_parts c.loop-place.sums)
+    (drop place body) none in
+    omega (arith, done, c.loop-place.invariant.0)
 
 pub returns-in_default-clause-place : goal.returns-in_default-clause-place
 returns-in_default-clause-place c =
     let body = c.args.body.now in
     let place = c.loop-place.place in
+    let rest = drop place body in
     let sums = sums_parts c.loop-place.sums in
     let more : place < length body = grind (arith, nat_tests, c.loop-place-test.true) in
-    absurd (is_rest-good c.args.order body sums place c.in_default.field-0 c.requires.good
-    c.loop-place.invariant.0 more
+    let left : length rest ≡ length body - place = length-drop place body in
+    let view : Refused → ParseError = λ refused. refused.fault in
+    let refused = iso_from-refused (shifted place placed) sums rest c.in_default.field-0
+    (omega (arith, left, more))
     (c.in_default.ensures.item
-    ∙ ap (λ (text : List ℕ). item_front sums (item_at text)) (take_rest body place)))
+    ∙ ap (λ (text : List ℕ). item_front_or (shifted place placed) sums (item_at text))
+    (take_rest body place)) in
+    absurd (is_ok-err (iso_from sums rest) c.in_default.field-0.fault
+    (ap (refusal_map view) refused ∙ iso_after-view view (shifted place placed) 0 sums rest)
+    c.loop-place.invariant.2)

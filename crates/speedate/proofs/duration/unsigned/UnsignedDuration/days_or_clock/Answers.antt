@@ -1,5 +1,6 @@
-use Rattle.std.proofs.Common.{rules, ◌≡◌, refl, true, Result, Ok, Err, is_ok}
-use Rattle.speedate.specs.Duration.{form_answer}
+use Rattle.std.proofs.Common.{◌≡◌, ◌∙◌, rules, refl, sym, true, Result, Ok, Err, is_ok}
+use Rattle.speedate_base.specs.Requirement.{shifted}
+use Rattle.speedate.specs.Duration.{form_answer_or}
 use Rattle.speedate.proofs.ClockFormLemmas.{clock-no_letter}
 use Rattle.speedate.proofs.duration.unsigned.UnsignedDuration.days_or_clock.Goals as goal
 
@@ -9,6 +10,13 @@ seen : {A E : Type 0} (answer : Result A E) → is_ok answer ≡ true
 seen (Ok found) ok = (found, refl)
 seen (Err fault) ok = absurd (cc)
 
-pub returns-then-is_ok : goal.returns-then-is_ok
-unfolding form_answer
-returns-then-is_ok c = search (rules, seen, clock-no_letter)
+pub returns-then-is_ok-clause-answer : goal.returns-then-is_ok-clause-answer
+unfolding form_answer_or
+returns-then-is_ok-clause-answer g c =
+    let read = seen c.from_clock-clock.result (search rules) in
+    let none = clock-no_letter (shifted c.args.start g.E.Refusal.refusal) c.args.behavior
+    c.args.bytes.now read.0 (sym c.from_clock-clock.ensures.answer ∙ read.1) in
+    rw (none) (search rules)
+
+pub returns-then-is_ok-clause-placed : goal.returns-then-is_ok-clause-placed
+returns-then-is_ok-clause-placed g c = c.from_clock-clock.ensures.placed

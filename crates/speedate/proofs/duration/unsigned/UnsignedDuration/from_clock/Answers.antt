@@ -1,40 +1,55 @@
-use Rattle.std.proofs.Common.{arith, ◌∙◌, sym, ap, ap₂, ℕ, ◌+◌, ◌-◌, ◌^◌, min, take, drop}
-use Rattle.std.proofs.lemmas.Bool.Decides.{nat_tests}
-use Rattle.std.proofs.lemmas.Int.{ints}
-use Rattle.std.proofs.lemmas.Result.{err_from_is_err_and}
+use Rattle.std.proofs.Common.{◌∙◌, add-zero, ap, ap₂, sym, ℕ, ◌+◌, List, drop, Err}
 use Rattle.std.proofs.lemmas.List.{take_rest}
+use Rattle.std.proofs.lemmas.Result.{err_from_is_err_and}
 use Rattle.speedate_base.specs.Digits.{digits_value}
-use Rattle.speedate_base.proofs.RequirementLemmas.{first_fault_or-next, first_fault_or-value}
+use Rattle.speedate_base.specs.Requirement.{first_refusal_or, shifted}
+use Rattle.speedate_base.proofs.RefusalLemmas.{first_refusal_or-next, shifted-shifted}
+use Rattle.speedate_civil.specs.Base.{ParseError}
 use Rattle.speedate.specs.ClockForm.{
-  hours,
-  clock_form,
-  hours_table,
+  after_hours_or,
+  clock_form_or,
   colon_place,
-  after_hours,
   from_minute,
+  hours,
+  hours_range,
+  hours_table,
 }
-use Rattle.speedate.proofs.ClockFormLemmas.{hours-run, after_hours-saturated}
+use Rattle.speedate.proofs.ClockFormLemmas.{clock-many, clock-rest}
 use Rattle.speedate.proofs.duration.unsigned.UnsignedDuration.from_clock.Goals as goal
 
 pub returns-in_err-end : goal.returns-in_err-end
-unfolding clock_form
-returns-in_err-end c = grind (arith, ints, nat_tests, first_fault_or-next, err_from_is_err_and)
-
-pub returns : goal.returns
-unfolding clock_form
-returns c =
+unfolding clock_form_or
+returns-in_err-end g c =
+    let refuse = shifted c.args.start g.E.Refusal.refusal in
     let text = c.args.bytes.now in
-    let next = after_hours c.args.behavior (digits_value (hours text)) (from_minute text) in
-    let held = first_fault_or-value (hours_table text) (colon_place text) _
-    (sym c.in_ok-end.ensures.answer) in
-    let number =
-    ap (λ (n : ℕ). digits_value (take n text)) (hours-run text held.0.1.0 held.0.1.1.1.0) in
-    let rest = take_rest text _ ∙ ap (λ (n : ℕ). drop (n + 1) text) (sym held.1) in
-    record {
-      answer =
-          c.after_hours.ensures.answer ∙ ap₂ (after_hours c.args.behavior)
-          (c.requires.value ∙ ap (λ (n : ℕ). min n (2 ^ 64 - 1)) number) rest
-          ∙ after_hours-saturated c.args.behavior (digits_value (hours text)) (from_minute text)
-          ∙ first_fault_or-next (hours_table text) (colon_place text)
-          _ next c.in_ok-end.ensures.answer;
-    }
+    let count = digits_value (hours text) in
+    let p = err_from_is_err_and c.from_residual.result c.from_residual.ensures.1 in
+    rw (p.1, p.2) (record {
+      answer = first_refusal_or-next refuse (hours_table text) (colon_place text) _
+          (first_refusal_or refuse (hours_range count) (after_hours_or
+          (shifted (colon_place text + 1) refuse) c.args.behavior count (from_minute text)))
+          c.in_err-end.ensures.answer;
+      placed = c.in_err-end.ensures.placed;
+    })
+
+pub returns-then-hours-gt-HOURS_MAX-clause-answer
+    : goal.returns-then-hours-gt-HOURS_MAX-clause-answer
+returns-then-hours-gt-HOURS_MAX-clause-answer g c =
+    ap Err (c.at.ensures.refusal
+    ∙ ap (g.E.Refusal.refusal ParseError.DurationHourValueTooLarge) (sym (add-zero c.args.start)))
+    ∙ clock-many (shifted c.args.start g.E.Refusal.refusal) c.args.behavior c.args.bytes.now
+    c.in_ok-end.end c.args.hours.value c.in_ok-end.ensures.answer c.requires.value
+    c.if-hours-gt-HOURS_MAX.true
+
+pub returns-clause-answer : goal.returns-clause-answer
+returns-clause-answer g c =
+    let refuse = g.E.Refusal.refusal in
+    let start = c.args.start in
+    let text = c.args.bytes.now in
+    let end = c.in_ok-end.end in
+    let after = λ (refuse : ParseError → ℕ → _) (rest : List ℕ).
+    after_hours_or refuse c.args.behavior c.args.hours.value rest in
+    c.after_hours.ensures.answer
+    ∙ ap₂ after (sym (shifted-shifted start (end + 1) refuse)) (take_rest text (end + 1))
+    ∙ clock-rest (shifted start refuse) c.args.behavior text end c.args.hours.value
+    c.in_ok-end.ensures.answer c.requires.value c.if-hours-gt-HOURS_MAX.false

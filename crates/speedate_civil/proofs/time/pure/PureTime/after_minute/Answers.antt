@@ -4,17 +4,17 @@ use Rattle.speedate_civil.proofs.time.pure.PureTime.after_minute.Goals as goal
 
 pub returns-then-not-has_decimal_mark-clause-answer
     : goal.returns-then-not-has_decimal_mark-clause-answer
-returns-then-not-has_decimal_mark-clause-answer c = grind (arith, common_steps)
+returns-then-not-has_decimal_mark-clause-answer g c = grind (arith, common_steps)
 
 pub returns-then-not-has_decimal_mark-clause-within
     : goal.returns-then-not-has_decimal_mark-clause-within
-returns-then-not-has_decimal_mark-clause-within c = grind (arith, common_steps)
+returns-then-not-has_decimal_mark-clause-within g c = grind (arith, common_steps)
 
 pub returns-then-fraction-eq0-clause-answer : goal.returns-then-fraction-eq0-clause-answer
-returns-then-fraction-eq0-clause-answer c = grind (arith, common_steps)
+returns-then-fraction-eq0-clause-answer g c = grind (arith, common_steps)
 
 pub returns-then-not-takes_digits-clause-answer : goal.returns-then-not-takes_digits-clause-answer
-returns-then-not-takes_digits-clause-answer c = grind (arith, common_steps)
+returns-then-not-takes_digits-clause-answer g c = grind (arith, common_steps)
 
 pub returns-clause-answer : goal.returns-clause-answer
-returns-clause-answer c = grind (arith, common_steps)
+returns-clause-answer g c = grind (arith, common_steps)

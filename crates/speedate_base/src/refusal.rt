@@ -1,0 +1,72 @@
+//! What a parser answers to a text that it refuses: the error alone, or with its place.
+
+use crate::faults::ParseError;
+
+/// What a parser answers to a text that it refuses, by the error and the byte at which it lies.
+pub trait Refusal: Copy {
+    ghost use Rattle.std.specs.Prelude.{◌≡◌, ◌≤◌, ℕ};
+    ghost use Rattle.speedate_base.specs.Requirement.{ParseError};
+
+    // The refusal with this error at this byte.
+    ghost refusal: { ParseError → ℕ → Self };
+
+    // The refusal lies within so many bytes.
+    ghost lies_within: { ℕ → Self → Type 0 };
+
+    /// The refusal with this error at this byte.
+    fn at(fault: ParseError, place: usize) -> Self
+        ensures refusal { result ≡ refusal fault place }
+        ensures within { (size : ℕ) → place ≤ size → lies_within size result };
+}
+
+impl Refusal for ParseError {
+    ghost use Rattle.speedate_base.specs.Requirement.{fault_alone};
+
+    ghost refusal = { fault_alone };
+
+    ghost lies_within = { λ size fault. Unit {0} };
+
+    #[inline]
+    fn at(fault: ParseError, _place: usize) -> Self {
+        fault
+    }
+}
+
+/// An error and the byte at which it lies, or the text's end.
+#[derive(Clone, Copy, Debug, PartialEq, Eq)]
+pub struct Refused {
+    /// Why the text is refused.
+    pub fault: ParseError,
+    /// The byte at which the part begins, or would begin, that the error is about.
+    pub place: usize,
+}
+
+impl Refusal for Refused {
+    ghost use Rattle.std.specs.Prelude.{◌≤◌};
+    ghost use Rattle.speedate_base.specs.Refused.{placed};
+
+    ghost refusal = { placed };
+
+    ghost lies_within = { λ size refused. refused.place ≤ size };
+
+    #[inline]
+    fn at(fault: ParseError, place: usize) -> Self {
+        Refused { fault, place }
+    }
+}
+
+impl Refused {
+    ghost use Rattle.std.specs.Prelude.{◌≡◌};
+    ghost use Rattle.speedate_base.specs.Refused.{refused_place};
+
+    /// The place of a refusal: none of a value.
+    #[inline(always)]
+    pub fn place_of<T: Copy>(answer: Result<T, Refused>) -> Option<usize>
+        ensures place { result ≡ refused_place answer }
+    {
+        match answer {
+            Ok(_) => None,
+            Err(refused) => Some(refused.place),
+        }
+    }
+}
