@@ -173,8 +173,8 @@ enum SpeedateCode {
 
     /* From 101 on: mistakes of the caller. */
 
-    /* A value that was passed is out of range, such as month 13 or a flag of 2; or, from speedate_code_name and
-     * speedate_code_documentation, the number is no code. */
+    /* A value that was passed is out of range, such as month 13 or a flag of 2; or, from speedate_code_name and its
+     * like, the number is no code, or no kind. */
     SPEEDATE_VALUE_OUT_OF_RANGE = 101,
     /* A field of the configuration is out of range. */
     SPEEDATE_CONFIG_OUT_OF_RANGE = 102,
@@ -213,7 +213,7 @@ static inline const char *speedate_code_string(int code) {
     return "unknown code";
 }
 
-/* Room for the name or the documentation text of a code, with its zero byte. */
+/* Room for a text of a code, with its zero byte. */
 #define SPEEDATE_CODE_TEXT_SIZE 64
 
 /* Prints the name of a code of the library: "too_short" for 1. It fails with SPEEDATE_VALUE_OUT_OF_RANGE for 0 and for
@@ -223,6 +223,23 @@ SPEEDATE_NODISCARD int speedate_code_name(int code, char *buffer, size_t size, s
 /* Prints the documentation text of a code: "input is too short" for 1. It fails when speedate_code_name does. The texts
  * of 1 to 40 were written for the Rust crate and can mention the wrong cause, so log the name too. */
 SPEEDATE_NODISCARD int speedate_code_documentation(int code, char *buffer, size_t size, size_t *length);
+
+/* The kinds of calls, on which it depends what a call expects. A call on a column is of the kind of its lines, and one on
+ * the front of a text of that of the same value. A call that takes values or numbers, and no text, is of the first. */
+#define SPEEDATE_KIND_VALUES 0
+#define SPEEDATE_KIND_DATE 1
+#define SPEEDATE_KIND_DATE_OR_TIMESTAMP 2
+#define SPEEDATE_KIND_TIME 3
+#define SPEEDATE_KIND_TIME_STRICT 4
+#define SPEEDATE_KIND_DATETIME 5
+#define SPEEDATE_KIND_DATETIME_OR_TIMESTAMP 6
+#define SPEEDATE_KIND_DATETIME_STRICT 7
+#define SPEEDATE_KIND_DURATION 8
+
+/* Prints what a call of a kind expected where it failed with a code, a phrase for people: "month, 01 to 12" for 21. In a
+ * text that is the place that an _error_place call gives. It fails when speedate_code_name does, and for a number that is
+ * not a kind. */
+SPEEDATE_NODISCARD int speedate_code_expected(int code, int kind, char *buffer, size_t size, size_t *length);
 
 /* ---- Configurations ---- */
 

@@ -56,6 +56,14 @@ class Error {
     /* "day value is outside expected range". */
     std::string documentation() const { return printed(speedate_code_documentation); }
 
+    /* What a call of a kind, one of SPEEDATE_KIND_DATE and its like, expected: "month, 01 to 12". */
+    std::string expected(int kind) const {
+        char text[SPEEDATE_CODE_TEXT_SIZE];
+        std::size_t length;
+        const int failed = speedate_code_expected(code_, kind, text, sizeof text, &length);
+        return failed == SPEEDATE_OK ? std::string(text, length) : "unknown code or kind";
+    }
+
     friend bool operator==(Error first, Error second) noexcept { return first.code_ == second.code_; }
     friend bool operator!=(Error first, Error second) noexcept { return first.code_ != second.code_; }
     friend std::ostream &operator<<(std::ostream &to, Error error) { return to << error.name(); }

@@ -24,15 +24,21 @@ const SHORT_SIZES = Array.from({ length: 65 }, (_, size) => BigInt(size));
 const SECONDS_IN_DAY = 86400;
 const CODE = { tzRequired: 19, dateTooSmall: 38 };
 const MISSING = { error: 0, utc: 1 };
+/** The kinds of calls in C, on which it depends what is expected, by what a text of one may be. */
+const VALUES = 0;
+const KINDS = { date: { lax: 1, timestamps: 2 }, time: { lax: 3, strict: 4 }, dateTime: { lax: 5, timestamps: 6, strict: 7 }, duration: { lax: 8 } };
+const kindOf = (kinds, { timestamps, strict }) => (timestamps !== undefined ? kinds.timestamps : strict === 1 ? kinds.strict : kinds.lax);
 
 export class SpeedateError extends RangeError {
   name = "SpeedateError";
   fault;
   code;
-  constructor({ fault, code, message }, text, place) {
+  expected;
+  constructor({ fault, code, message, expected }, text, place) {
     super(message);
     this.fault = fault;
     this.code = code;
+    this.expected = expected;
     if (place === undefined) return;
     this.text = text;
     this.place = place;
@@ -45,13 +51,15 @@ class Refusal {
   fault;
   code;
   message;
+  expected;
   #text;
   #numbers;
   #find;
-  constructor({ fault, code, message }, text, numbers, find) {
+  constructor({ fault, code, message, expected }, text, numbers, find) {
     this.fault = fault;
     this.code = code;
     this.message = message;
+    this.expected = expected;
     this.#text = text;
     this.#numbers = numbers;
     this.#find = find;
@@ -121,21 +129,25 @@ function start() {
   if (kept === undefined) init(ownModule());
 }
 
-/** The names and texts of the faults, by code. */
+/** The names and texts of the faults, by the kind of the call and the code. */
 const faults = [];
-function told(call, code) {
-  accept(call(code, address.buffer, BUFFER_SIZE, address.taken));
+function told(call, ...numbers) {
+  accept(call(...numbers, address.buffer, BUFFER_SIZE, address.taken));
   return printed();
 }
 
-function faultOf(code) {
-  faults[code] ??= { fault: told(calls.speedate_code_name, code), code, message: told(calls.speedate_code_documentation, code) };
-  return faults[code];
+function faultOf(code, kind) {
+  const own = (faults[kind] ??= []);
+  own[code] ??= {
+    fault: told(calls.speedate_code_name, code), code, message: told(calls.speedate_code_documentation, code),
+    expected: told(calls.speedate_code_expected, code, kind),
+  };
+  return own[code];
 }
 
 /** Throws if this is the code of a call that refused. */
 function accept(code) {
-  if (code !== 0) throw new SpeedateError(faultOf(code));
+  if (code !== 0) throw new SpeedateError(faultOf(code, VALUES));
 }
 
 /** The size that a call has written: of its 64 bits a memory needs 32. */
@@ -578,11 +590,15 @@ const keptText = (text) => (typeof text === "string" ? text : new Uint8Array(tex
 const keptNumbers = (options) => (options === undefined ? NO_OPTIONS : lastNumbers);
 
 /** The answer to a text that a call has refused with this code. It keeps what its place is found from, once that is asked for. */
-const refusal = (code, text, options, find) => new Refusal(faultOf(code), keptText(text), keptNumbers(options), find);
+function refusal(code, text, options, find, kinds) {
+  const numbers = keptNumbers(options);
+  return new Refusal(faultOf(code, kindOf(kinds, numbers)), keptText(text), numbers, find);
+}
 /** The error. It has its place as a property of its own: beside an error, whose stack is told, that is little to find. */
-function errorOf(code, text, options, find) {
-  const place = placeOfLast(text, keptNumbers(options), find);
-  return new SpeedateError(faultOf(code), keptText(text), place);
+function errorOf(code, text, options, find, kinds) {
+  const numbers = keptNumbers(options);
+  const place = placeOfLast(text, numbers, find);
+  return new SpeedateError(faultOf(code, kindOf(kinds, numbers)), keptText(text), place);
 }
 
 /** The place of an error in a text that was refused, and in the one that was refused last. */
@@ -614,39 +630,39 @@ function unitsBefore(text, size) {
 
 export function parseDate(text, options) {
   const code = codeOfDate(text, options);
-  if (code !== 0) throw errorOf(code, text, options, findDate);
+  if (code !== 0) throw errorOf(code, text, options, findDate, KINDS.date);
   return DATE.read(kept);
 }
 export function parseTime(text, options) {
   const code = codeOfTime(text, options);
-  if (code !== 0) throw errorOf(code, text, options, findTime);
+  if (code !== 0) throw errorOf(code, text, options, findTime, KINDS.time);
   return TIME.read(kept);
 }
 export function parseDateTime(text, options) {
   const code = codeOfDateTime(text, options);
-  if (code !== 0) throw errorOf(code, text, options, findDateTime);
+  if (code !== 0) throw errorOf(code, text, options, findDateTime, KINDS.dateTime);
   return DATE_TIME.read(kept);
 }
 export function parseDuration(text, options) {
   const code = codeOfDuration(text, options);
-  if (code !== 0) throw errorOf(code, text, options, findDuration);
+  if (code !== 0) throw errorOf(code, text, options, findDuration, KINDS.duration);
   return DURATION.read(kept);
 }
 export function safeParseDate(text, options) {
   const code = codeOfDate(text, options);
-  return code === 0 ? { ok: true, value: DATE.read(kept) } : refusal(code, text, options, findDate);
+  return code === 0 ? { ok: true, value: DATE.read(kept) } : refusal(code, text, options, findDate, KINDS.date);
 }
 export function safeParseTime(text, options) {
   const code = codeOfTime(text, options);
-  return code === 0 ? { ok: true, value: TIME.read(kept) } : refusal(code, text, options, findTime);
+  return code === 0 ? { ok: true, value: TIME.read(kept) } : refusal(code, text, options, findTime, KINDS.time);
 }
 export function safeParseDateTime(text, options) {
   const code = codeOfDateTime(text, options);
-  return code === 0 ? { ok: true, value: DATE_TIME.read(kept) } : refusal(code, text, options, findDateTime);
+  return code === 0 ? { ok: true, value: DATE_TIME.read(kept) } : refusal(code, text, options, findDateTime, KINDS.dateTime);
 }
 export function safeParseDuration(text, options) {
   const code = codeOfDuration(text, options);
-  return code === 0 ? { ok: true, value: DURATION.read(kept) } : refusal(code, text, options, findDuration);
+  return code === 0 ? { ok: true, value: DURATION.read(kept) } : refusal(code, text, options, findDuration, KINDS.duration);
 }
 
 /** A value that was read at the front of a text, with its size. */
@@ -664,30 +680,30 @@ function unitsOf(text, size) {
 
 export function parseDateFront(text, options) {
   const code = codeOfDateFront(text, options);
-  if (code !== 0) throw errorOf(code, seenOf(text), options, findDateFront);
+  if (code !== 0) throw errorOf(code, seenOf(text), options, findDateFront, KINDS.date);
   return frontAnswer(DATE.read(kept), text);
 }
 export function parseTimeFront(text, options) {
   const code = codeOfTimeFront(text, options);
-  if (code !== 0) throw errorOf(code, seenOf(text), options, findTimeFront);
+  if (code !== 0) throw errorOf(code, seenOf(text), options, findTimeFront, KINDS.time);
   return frontAnswer(TIME.read(kept), text);
 }
 export function parseDateTimeFront(text, options) {
   const code = codeOfDateTimeFront(text, options);
-  if (code !== 0) throw errorOf(code, seenOf(text), options, findDateTimeFront);
+  if (code !== 0) throw errorOf(code, seenOf(text), options, findDateTimeFront, KINDS.dateTime);
   return frontAnswer(DATE_TIME.read(kept), text);
 }
 export function safeParseDateFront(text, options) {
   const code = codeOfDateFront(text, options);
-  return code === 0 ? { ok: true, value: frontAnswer(DATE.read(kept), text) } : refusal(code, seenOf(text), options, findDateFront);
+  return code === 0 ? { ok: true, value: frontAnswer(DATE.read(kept), text) } : refusal(code, seenOf(text), options, findDateFront, KINDS.date);
 }
 export function safeParseTimeFront(text, options) {
   const code = codeOfTimeFront(text, options);
-  return code === 0 ? { ok: true, value: frontAnswer(TIME.read(kept), text) } : refusal(code, seenOf(text), options, findTimeFront);
+  return code === 0 ? { ok: true, value: frontAnswer(TIME.read(kept), text) } : refusal(code, seenOf(text), options, findTimeFront, KINDS.time);
 }
 export function safeParseDateTimeFront(text, options) {
   const code = codeOfDateTimeFront(text, options);
-  return code === 0 ? { ok: true, value: frontAnswer(DATE_TIME.read(kept), text) } : refusal(code, seenOf(text), options, findDateTimeFront);
+  return code === 0 ? { ok: true, value: frontAnswer(DATE_TIME.read(kept), text) } : refusal(code, seenOf(text), options, findDateTimeFront, KINDS.dateTime);
 }
 
 // ---- Schemas ----
@@ -695,8 +711,8 @@ export function safeParseDateTimeFront(text, options) {
 /** The calls of schemas, by their kinds, which are those of the options. */
 const SCHEMAS = { date: safeParseDate, time: safeParseTime, dateTime: safeParseDateTime, duration: safeParseDuration };
 
-function issueOf({ message, fault, code, place }) {
-  return { message, fault, code, place };
+function issueOf({ message, fault, code, place, expected }) {
+  return { message, fault, code, place, expected };
 }
 
 export function schema(kind, options) {
@@ -729,8 +745,8 @@ const DAYS = { Numbers: Int32Array, numberAt: (view, at) => view.getInt32(at, tr
 const MILLISECONDS = { Numbers: Float64Array, numberAt: millisecondsAt };
 const MICROSECONDS = { Numbers: BigInt64Array, numberAt: (view, at) => view.getBigInt64(at, true) };
 
-/** A column of which pieces come: how it is read, how many lines it had, and what it has of an unfinished one. */
-const columnOf = (name, handedOut, numbers) => ({ name, ...handedOut, numbers, lines: 0, unfinished: [], hasEnded: false });
+/** A column of which pieces come: how it is read, of which kind, how many lines it had, and what it has of an unfinished one. */
+const columnOf = (name, kinds, handedOut, numbers) => ({ name, kind: kindOf(kinds, numbers), ...handedOut, numbers, lines: 0, unfinished: [], hasEnded: false });
 
 /** Writes how a column is read into the memory of a library, and gives its address: returns are dropped, and a refused line ends it. */
 function putColumnConfig({ start, view }, { timestamps, strict, missingOffset = MISSING.error }, isEnd) {
@@ -759,7 +775,7 @@ function putUnfinished({ unfinished }) {
 /** Has the library read what is unfinished, and keeps of it what follows its lines. Adds to the parts arrays of numbers, and to
  * the refusals those of lines. */
 function readLines(column, isEnd, parts, refusals) {
-  const { name, numbers } = column;
+  const { name, kind, numbers } = column;
   const { library, end } = putUnfinished(column);
   const { bytes, view, calls: inC } = library;
   const addressOf = (place) => BigInt(library.start + place);
@@ -776,9 +792,9 @@ function readLines(column, isEnd, parts, refusals) {
     lines = view.getUint32(COLUMN.progress, true);
     at += view.getUint32(COLUMN.progress + 8, true);
     const error = view.getInt32(COLUMN.progress + 16, true);
-    if (error !== 0) throw Object.assign(new SpeedateError(faultOf(error)), { index: column.lines + lines });
+    if (error !== 0) throw Object.assign(new SpeedateError(faultOf(error, kind)), { index: column.lines + lines });
     parts.push(numbersIn(view, lines, column));
-    if (hasErrors) addRefusals(refusals, bytes.subarray(COLUMN.errors, COLUMN.errors + lines), column.lines);
+    if (hasErrors) addRefusals(refusals, bytes.subarray(COLUMN.errors, COLUMN.errors + lines), column);
     column.lines += lines;
   } while (lines === LINES_AT_ONCE);
   column.unfinished = [bytes.slice(at, end)];
@@ -790,11 +806,11 @@ function numbersIn(view, lines, { Numbers, numberAt }) {
   return numbers;
 }
 
-/** Adds the refusals among lines, of which the first has this index. */
-function addRefusals(refusals, errors, first) {
+/** Adds the refusals among the next lines of a column. */
+function addRefusals(refusals, errors, { kind, lines }) {
   for (let i = 0; i < errors.length; i++) {
     if (errors[i] === 0) continue;
-    refusals.push({ index: first + i, ...faultOf(errors[i]) });
+    refusals.push({ index: lines + i, ...faultOf(errors[i], kind) });
   }
 }
 
@@ -830,12 +846,12 @@ function concatenated(parts, Numbers) {
 function newDateColumn(options) {
   const numbers = numbersOf(options, OPTIONS_OF.dateColumn);
   start();
-  return columnOf("date_column", DAYS, numbers);
+  return columnOf("date_column", KINDS.date, DAYS, numbers);
 }
 function newDateTimeColumn(options) {
   const numbers = numbersOf(options, OPTIONS_OF.dateTimeColumn);
   start();
-  return columnOf("datetime_column", numbers.unit === 1 ? MICROSECONDS : MILLISECONDS, numbers);
+  return columnOf("datetime_column", KINDS.dateTime, numbers.unit === 1 ? MICROSECONDS : MILLISECONDS, numbers);
 }
 const readerOf = (column) => ({
   read: (text) => readPiece(column, text, false),

@@ -426,6 +426,10 @@ static int run_value(void) {
     VERSION(version_minor, SPEEDATE_VERSION_MINOR)
     PRINT(code_name, int, (int)number)
     PRINT(code_documentation, int, (int)number)
+    if (is_call("code_expected")) {
+        int of = (int)number(), kind = (int)number();
+        PRINTS(speedate_code_expected(of, kind, buffer, size, length))
+    }
     CHECK(date_check, SpeedateDate, date)
     PRINT(date_to_text, SpeedateDate, date)
     TWO_VALUES(int32_t, say_number, date_compare, SpeedateDate, date, SpeedateDate, date)
@@ -511,8 +515,8 @@ static int cut(char *row) {
     return count;
 }
 
-/* A code has a name, which is its string too, and a documentation text, for which there is room. Another number has
- * neither, and a string of its own. */
+/* A code has a name, which is its string too, a documentation text, and what is expected, by calls of each kind, for which
+ * there is room. Another number has none, and a string of its own. */
 static void try_code(int code) {
     char name[SPEEDATE_CODE_TEXT_SIZE], text[SPEEDATE_CODE_TEXT_SIZE];
     size_t length = 0;
@@ -527,6 +531,11 @@ static void try_code(int code) {
         fprintf(stderr, "the code %d is named by mistake, or not at all\n", code);
         failures++;
     }
+    for (int kind = SPEEDATE_KIND_VALUES; kind <= SPEEDATE_KIND_DURATION; kind++)
+        if (speedate_code_expected(code, kind, text, sizeof text, &length) != wanted) {
+            fprintf(stderr, "calls of the kind %d expect something by mistake, or nothing, with the code %d\n", kind, code);
+            failures++;
+        }
 }
 
 /* Whether a field is the name of a code, with which the answer begins. */

@@ -55,6 +55,7 @@ static void results() {
     CHECK(bad.error().code() == SPEEDATE_OUT_OF_RANGE_DAY && bad.error() != Error(SPEEDATE_TOO_SHORT));
     CHECK(bad.error().name() == "out_of_range_day" && Error(1000).name() == "unknown code");
     CHECK(bad.error().documentation() == "day value is outside expected range");
+    CHECK(bad.error().expected(SPEEDATE_KIND_DATE) == "a day that the month has");
     CHECK(bad.value_or(*good) == *good && good.value_or(date("2020-03-01")) == *good);
     bool throws = false;
     try {

@@ -255,7 +255,7 @@ const STEPS = [
   "Date-time: Saturday, 29 February 2020, 12:13:14.5, 1:30 east of UTC: 10:43:14.5 UTC.",
   2,
   "?text=12%3A13",
-  "Not a date: day value is outside expected range, from character 9 on.",
+  "Not a date: expected a day that the month has, from character 9 on.",
   "Type a text, or choose an example.",
   "",
   "Not a date: invalid_char_date_sep, Date-time: invalid_char_date_sep, Duration: invalid_char_hour, Time: invalid_char_time_sep",

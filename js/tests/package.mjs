@@ -148,9 +148,9 @@ for (const [kind, [text, options]] of Object.entries(SCHEMAS)) {
   const { "~standard": standard, ...others } = speedate.schema(kind);
   assert.deepEqual([others, Object.keys(standard), standard.version, standard.vendor], [{}, ["version", "vendor", "validate"], 1, "speedate"]);
   for (const [it, chosen] of [[text], [text, options], ["86400", options], ["x"], [""]]) {
-    const { ok, value, fault, code, message, place } = parse(it, chosen);
+    const { ok, value, fault, code, message, place, expected } = parse(it, chosen);
     const { validate } = speedate.schema(kind, chosen)["~standard"];
-    assert.deepEqual(validate(it), ok ? { value } : { issues: [{ message, fault, code, place }] }, `${kind} ${it}`);
+    assert.deepEqual(validate(it), ok ? { value } : { issues: [{ message, fault, code, place, expected }] }, `${kind} ${it}`);
   }
   for (const it of [undefined, null, 5, new Date(), Buffer.from(text), new String(text)]) assert.deepEqual(standard.validate(it), { issues: [{ message: "expected a string" }] });
   const given = { ...options };
@@ -169,7 +169,34 @@ const thrown = (call) => {
   }
 };
 const error = thrown(() => parseDate("x"));
-assert.deepEqual({ ...error }, { name: "SpeedateError", fault: "too_short", code: 1, text: "x", place: 1 });
+assert.deepEqual({ ...error }, { name: "SpeedateError", fault: "too_short", code: 1, expected: "a date: YYYY-MM-DD", text: "x", place: 1 });
+// What is expected goes by the call, and by what the options have it read.
+for (const [call, text, options, expected] of [
+  ["Date", "2020-13-01", undefined, "month, 01 to 12"],
+  ["Date", "2020-2-9", { timestamps: "s" }, "a date, YYYY-MM-DD, or a whole number"],
+  ["DateFront", "2020-2-9", undefined, "a date: YYYY-MM-DD"],
+  ["Time", "1:30", undefined, "a time: HH:MM or HH:MM:SS"],
+  ["Time", "12:00 PM", undefined, "after the clock at most an offset: Z or +01:00"],
+  ["Time", "12:13", { strict: true }, "a colon, as in HH:MM:SS"],
+  ["TimeFront", "1:30", undefined, "a time: HH:MM or HH:MM:SS"],
+  ["DateTime", "2020-02-29", undefined, "T, t, _ or a space, then a time"],
+  ["DateTime", "2020-02-29 12:13:14Z", { strict: true }, "T or t, then a time"],
+  ["DateTime", "1x", { timestamps: "s" }, "a date-time, as YYYY-MM-DDTHH:MM:SS, or a number"],
+  ["DateTime", "2020-02-29T12:13", { missingOffset: "error" }, "an offset: Z or +01:00"],
+  ["DateTimeFront", "2020-02-29", undefined, "T, t, _ or a space, then a time"],
+  ["Duration", "1 day, 24:00", undefined, "hours: up to 23 after days, or 10 digits up to 2,400,000,000"],
+]) {
+  assert.equal(speedate[`safeParse${call}`](text, options).expected, expected, text);
+  assert.equal(thrown(() => speedate[`parse${call}`](text, options)).expected, expected, text);
+}
+assert.equal(thrown(() => toDate({ ...dateTime, offsetSeconds: null })).expected, "a value that has an offset");
+assert.equal(thrown(() => addDays({ year: 9999, month: 12, day: 31 }, 1)).expected, "a date in the years 0000 to 9999");
+assert.equal(thrown(() => speedate.dateTimeColumn("2020-02-29T12:13")).expected, "an offset: Z or +01:00");
+{
+  const refusals = [];
+  speedate.dateTimeColumn("2020-02-29 12:13Z\nx", { strict: true, refusals });
+  assert.deepEqual(refusals.map((it) => it.expected), ["T or t, then a time", "a date-time with an offset, as YYYY-MM-DDTHH:MM:SSZ"]);
+}
 for (const it of [inspect(error), inspect(thrown(() => parseTime("12:13\u221201:60")))]) assert.match(it, /^SpeedateError: [^]*text: '[^']+',\n *place: \d+\n}$/, "what a log shows");
 assert.equal(String(error), "SpeedateError: input is too short");
 assert.match(error.stack, /\bparseDate\b/);
@@ -221,7 +248,7 @@ assert.deepEqual(parseDate("2020-02-29"), date);
 // ---- Values, long texts, and many ----
 
 assert.deepEqual(duration, { sign: -1, days: -1, seconds: 0, milliseconds: -1, microseconds: -2 });
-assert.deepEqual({ ...safeParseDate("x") }, { ok: false, fault: "too_short", code: 1, message: "input is too short" });
+assert.deepEqual({ ...safeParseDate("x") }, { ok: false, fault: "too_short", code: 1, message: "input is too short", expected: "a date: YYYY-MM-DD" });
 assert.deepEqual(fromDate(toDate(dateTime)), dateTime);
 const seen = [];
 format(new Proxy(dateTime, { get: (it, name) => (seen.push(name), it[name]) }));
@@ -266,7 +293,7 @@ for (const [name, text, units, bytes, options] of PLACES) {
 }
 const options = { overflow: "truncate" };
 const [answer, raised] = [speedate.safeParseTime("12:13:14.1234567x", options), thrown(() => parseTime("12:13:14.1234567x", options))];
-const fields = { fault: "invalid_char_tz_sign", code: 14 };
+const fields = { fault: "invalid_char_tz_sign", code: 14, expected: "after the clock at most an offset: Z or +01:00" };
 for (const copy of [JSON.parse(JSON.stringify(answer)), structuredClone(answer), { ...answer }]) assert.deepEqual(copy, { ok: false, ...fields, message: raised.message });
 assert.deepEqual({ ...raised }, { name: "SpeedateError", ...fields, text: "12:13:14.1234567x", place: 16 });
 assert.throws(() => (answer.place = 1), TypeError);

@@ -84,8 +84,8 @@ function outcome(call, ...args) {
     return { ok: true, value: typeof it === "number" ? String(it) : it };
   } catch (error) {
     if (!(error instanceof SpeedateError)) throw error;
-    const { fault, code, message, place } = error;
-    return { ok: false, fault, code, message, place };
+    const { fault, code, message, expected, place } = error;
+    return { ok: false, fault, code, message, expected, place };
   }
 }
 

@@ -472,18 +472,20 @@ enum {
 static const struct {
     Parse *parse;
     FindPlace *find_place;
+    int kind; /* of calls, on which it depends what is expected */
 } parsers[ALL_PLACES] = {
-    [DATE] = {parse_date, place_of_date},
-    [DATE_OR_TIMESTAMP] = {parse_date_or_timestamp, place_of_date_or_timestamp},
-    [DATE_FRONT] = {parse_date_front, place_of_date_front},
-    [TIME] = {parse_time, place_of_time},
-    [TIME_STRICT] = {parse_time_strict, place_of_time_strict},
-    [TIME_FRONT] = {parse_time_front, place_of_time_front},
-    [DATE_TIME] = {parse_date_time, place_of_date_time},
-    [DATE_TIME_OR_TIMESTAMP] = {parse_date_time_or_timestamp, place_of_date_time_or_timestamp},
-    [DATE_TIME_STRICT] = {parse_date_time_strict, place_of_date_time_strict},
-    [DATE_TIME_FRONT] = {parse_date_time_front, place_of_date_time_front},
-    [DURATION] = {parse_duration, place_of_duration},
+    [NO_PLACE] = {NULL, NULL, SPEEDATE_KIND_VALUES},
+    [DATE] = {parse_date, place_of_date, SPEEDATE_KIND_DATE},
+    [DATE_OR_TIMESTAMP] = {parse_date_or_timestamp, place_of_date_or_timestamp, SPEEDATE_KIND_DATE_OR_TIMESTAMP},
+    [DATE_FRONT] = {parse_date_front, place_of_date_front, SPEEDATE_KIND_DATE},
+    [TIME] = {parse_time, place_of_time, SPEEDATE_KIND_TIME},
+    [TIME_STRICT] = {parse_time_strict, place_of_time_strict, SPEEDATE_KIND_TIME_STRICT},
+    [TIME_FRONT] = {parse_time_front, place_of_time_front, SPEEDATE_KIND_TIME},
+    [DATE_TIME] = {parse_date_time, place_of_date_time, SPEEDATE_KIND_DATETIME},
+    [DATE_TIME_OR_TIMESTAMP] = {parse_date_time_or_timestamp, place_of_date_time_or_timestamp, SPEEDATE_KIND_DATETIME_OR_TIMESTAMP},
+    [DATE_TIME_STRICT] = {parse_date_time_strict, place_of_date_time_strict, SPEEDATE_KIND_DATETIME_STRICT},
+    [DATE_TIME_FRONT] = {parse_date_time_front, place_of_date_time_front, SPEEDATE_KIND_DATETIME},
+    [DURATION] = {parse_duration, place_of_duration, SPEEDATE_KIND_DURATION},
 };
 
 typedef struct {
@@ -736,6 +738,21 @@ static PyObject *call_place(PyObject *module, PyObject *arguments) {
     if (code == SPEEDATE_OK || code > SPEEDATE_LAST_FAULT)
         return PyErr_SetString(PyExc_ValueError, "the text is not refused"), NULL;
     return code < 0 ? NULL : PyLong_FromSsize_t(place);
+}
+
+/* What was expected where a call gave a code, from the number of the call. */
+static PyObject *call_expected(PyObject *module, PyObject *arguments) {
+    char text[SPEEDATE_CODE_TEXT_SIZE];
+    size_t length;
+    int code, number;
+    if (!PyArg_ParseTuple(arguments, "ii:_expected", &code, &number))
+        return NULL;
+    int call = number & 15;
+    if (call >= ALL_PLACES)
+        return PyErr_Format(PyExc_ValueError, "no call has the number %d", number);
+    int failed = speedate_code_expected(code, parsers[call].kind, text, sizeof text, &length);
+    return failed == SPEEDATE_OK ? PyUnicode_FromStringAndSize(text, (Py_ssize_t)length)
+                                 : raise_fault(PyModule_GetState(module), failed);
 }
 
 /* ---- Timestamps ---- */
@@ -1772,6 +1789,8 @@ static PyMethodDef methods[] = {
     {"_words", call_words, METH_O, "_words(code)\n--\n\nThe name and the documentation of a fault."},
     {"_place", call_place, METH_VARARGS,
      "_place(source, call)\n--\n\nThe place of an error, from what its Fault keeps."},
+    {"_expected", call_expected, METH_VARARGS,
+     "_expected(code, call)\n--\n\nWhat was expected, from what a Fault keeps, or of no call, from 0."},
     {NULL, NULL, 0, NULL},
 };
 

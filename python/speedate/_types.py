@@ -60,6 +60,8 @@ class Refusal(ValueError):
 class Fault(Refusal):
     """Why the library refuses a text, or a number: the `name` of the fault, its `code` in C, and its `documentation`.
 
+    Its `expected` is a phrase for people: what the call expected at the place.
+
     Its `text`, `place` and `index` are those of a `Refusal`. Its `str` tells the index too, and its `hint`. This is `None`,
     or says what alone refuses the text: a byte order mark, or a line ending.
 
@@ -68,6 +70,11 @@ class Fault(Refusal):
     ... except Fault as fault:
     ...     fault.name, fault.code, fault.documentation, fault.place
     ('out_of_range_second', 25, 'second value is outside expected range of 0-59', 6)
+    >>> try:
+    ...     date("2020-02-29T12:13")
+    ... except Fault as fault:
+    ...     fault.expected
+    'nothing more'
     >>> Fault(23), Fault(23, 1000)
     (<Fault out_of_range_hour>, <Fault out_of_range_hour in text 1000>)
     >>> date_column(["1970-01-01\\n"])
@@ -90,6 +97,17 @@ class Fault(Refusal):
             self.index = _integer("index", index, 0, sys.maxsize)
         self.name, self.documentation = _words(self.code)
         ValueError.__init__(self, *(it for it in (self.code, self.index) if it is not None))
+
+    @property
+    def expected(self):
+        from ._speedate import _expected
+
+        # A copy has it, and no call.
+        return vars(self).get("_expected") or _expected(self.code, getattr(self, "_call", 0))
+
+    def __reduce__(self):
+        kind, arguments, state = super().__reduce__()
+        return kind, arguments, {**state, "_expected": self.expected}
 
     def __str__(self):
         told = self.name if self.index is None else f"{self.name} in text {self.index}"

@@ -15,6 +15,8 @@ class Fault(Refusal):
     documentation: str
     index: Optional[int]
     hint: Optional[str]
+    @property
+    def expected(self) -> str: ...
     def __init__(self, code: int, index: Optional[int] = None) -> None: ...
 
 class Unrepresentable(Refusal):

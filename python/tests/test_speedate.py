@@ -214,6 +214,14 @@ Unrepresentable.__mro__[1:3], Fault.__mro__[1:3] -> ((<class 'speedate.Refusal'>
 listed(["x", "1970-01-01T00:00", None, "1970-01-01T00:00Z", b"2020-02-30T00:00Z"]) -> ([0, 1, 4], [1, 19, 22], [1, 16, 8])
 listed(b"x\n1970-01-01T00:00\n1970-01-01T00:00Z\n\n2020-02-30T00:00Z") -> ([0, 1, 3, 4], [1, 19, 1, 22], [1, 16, 0, 8])
 listed(b"PT1S\nP106751992D\nP1D1Q\n", duration_column), listed(["1970-01-01"], date_column) -> (([1, 2], [97, 33], [-1, 4]), ([], [], []))
+expected(date, "2020-13-01"), expected(date, "2020-2-9"), expected(date, "2020-2-9", timestamps=True) -> ('month, 01 to 12', 'a date: YYYY-MM-DD', 'a date, YYYY-MM-DD, or a whole number')
+expected(time, "1:30"), expected(time, b"12:00 PM"), expected(time_front, "1:30") -> ('a time: HH:MM or HH:MM:SS', 'after the clock at most an offset: Z or +01:00', 'a time: HH:MM or HH:MM:SS')
+expected(time_strict, "12:13"), expected(date_time_strict, "2020-02-29 12:13:14Z"), expected(date_time, "2020-02-29x12:13") -> ('a colon, as in HH:MM:SS', 'T or t, then a time', 'T, t, _ or a space, then a time')
+expected(duration, "1 day, 24:00"), expected(date_front, "x"), expected(date_time_front, "x") -> ('hours: up to 23 after days, or 10 digits up to 2,400,000,000', 'a date: YYYY-MM-DD', 'a date-time: YYYY-MM-DDTHH:MM or YYYY-MM-DDTHH:MM:SS')
+expected(date_time, "x"), expected(date_time, "x", timestamps=True), expected(date_time_strict, "x") -> ('a date-time: YYYY-MM-DDTHH:MM or YYYY-MM-DDTHH:MM:SS', 'a date-time, as YYYY-MM-DDTHH:MM:SS, or a number', 'a date-time with an offset, as YYYY-MM-DDTHH:MM:SSZ')
+expected(date_from_timestamp, 1), expected(time_from_timestamp, 86_400) -> ('a whole number of days', 'a time within the day: 00:00:00 to 23:59:59.999999')
+expected(date_time_column, ["1970-01-01T00:00"]), expected(date_column, ["x"], timestamps=True), expected(duration_column, ["P106751992D"]) -> ('an offset: Z or +01:00', 'a date, YYYY-MM-DD, or a whole number', 'a duration of less than 2^63 microseconds')
+Fault(19).expected, Fault(22, 5).expected, Fault(103).expected -> ('a value that has an offset', 'a day that the month has', 'a buffer with room for the text and a zero byte')
 speedate.datetime -> AttributeError: module 'speedate' has no attribute 'datetime'
 text(datetime.timedelta(days=400)) -> 'P1Y35D'
 date_time_column(["13000000000", "20200229121314"], timestamps=True, naive="utc") -> array('q', [13000000000000000, 20200229121314000])
@@ -307,6 +315,15 @@ def place(call, *given, **named):
     except speedate.Fault as fault:
         assert copy.copy(fault).place == copy.deepcopy(fault).place == pickle.loads(pickle.dumps(copy.copy(fault))).place == fault.place
         return fault.place
+
+
+def expected(call, *given, **named):
+    """What a call expected where it refuses, which the copies of its fault have too."""
+    try:
+        call(*given, **named)
+    except speedate.Fault as fault:
+        assert {copy.copy(fault).expected, copy.deepcopy(copy.copy(fault)).expected, pickle.loads(pickle.dumps(fault)).expected} == {fault.expected}
+        return fault.expected
 
 
 class numbers:

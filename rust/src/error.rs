@@ -1,6 +1,8 @@
 use core::error::Error;
 use core::fmt;
 
+use crate::ffi::Buffer;
+
 /// Defines [`ParseError`]: of each variant the number in C, the name and the documentation text, each once.
 macro_rules! parse_errors {
     ($($variant:ident = $number:literal, $name:literal, $text:literal;)*) => {
@@ -36,6 +38,20 @@ macro_rules! parse_errors {
                 match self {
                     $(Self::$variant => $number,)*
                 }
+            }
+
+            /// What a call of this kind expected where the input, or the value, is refused: a phrase for people, of at
+            /// most 63 bytes. In an input that is its error's place.
+            ///
+            /// ```
+            /// use speedate::{CallKind, Date, ParseError};
+            ///
+            /// let error = Date::parse_str("2020-13-01").unwrap_err();
+            /// assert_eq!(error.expected(CallKind::DateOrTimestamp).to_string(), "month, 01 to 12");
+            /// ```
+            #[must_use]
+            pub fn expected(&self, kind: CallKind) -> impl fmt::Display + fmt::Debug {
+                Expected { number: self.number(), kind }
             }
 
             pub(crate) fn name(&self) -> &'static str {
@@ -104,6 +120,42 @@ parse_errors! {
     TimeTooLarge = 40, "time_too_large", "numeric times may not exceed 86,399 seconds";
 }
 
+/// The kind of a call, on which it depends what the call expects. That of a column is the kind of its lines.
+#[derive(Clone, Copy, Debug, PartialEq, Eq)]
+pub enum CallKind {
+    /// It takes values or numbers, and no text.
+    Values,
+    /// It parses dates, at the front of an input too.
+    Date,
+    /// It parses dates and timestamps.
+    DateOrTimestamp,
+    /// It parses times, at the front of an input too.
+    Time,
+    /// It parses the times of RFC 3339 alone.
+    TimeStrict,
+    /// It parses date-times, at the front of an input too.
+    DateTime,
+    /// It parses date-times and timestamps.
+    DateTimeOrTimestamp,
+    /// It parses the date-times of RFC 3339 alone.
+    DateTimeStrict,
+    /// It parses durations.
+    Duration,
+}
+
+/// What is printed once it is asked for: the texts stand in the library.
+#[derive(Debug)]
+struct Expected {
+    number: u8,
+    kind: CallKind,
+}
+
+impl fmt::Display for Expected {
+    fn fmt(&self, f: &mut fmt::Formatter<'_>) -> fmt::Result {
+        f.pad(Buffer::new().speedate_code_expected(self.number, self.kind as u8).map_err(|_| fmt::Error)?)
+    }
+}
+
 /// Writes the name of the error: `too_short`.
 impl fmt::Display for ParseError {
     fn fmt(&self, f: &mut fmt::Formatter<'_>) -> fmt::Result {
@@ -147,7 +199,6 @@ impl Error for ConfigError {}
 #[cfg(test)]
 mod tests {
     use super::*;
-    use crate::ffi::Buffer;
 
     #[test]
     fn names_and_texts_are_those_of_c() {

@@ -342,18 +342,19 @@ impl Buffer {
     }
 }
 
-/// Functions that print a value.
+/// Functions that print a value, or a text of numbers.
 macro_rules! printers {
-    ($(fn $name:ident($value:ident: $kind:ty);)*) => {
+    ($(fn $name:ident($($value:ident: $kind:ty),*);)*) => {
         impl Buffer {$(
             #[inline]
-            pub(crate) fn $name(&mut self, $value: impl Into<$kind>) -> Result<&str, Code> {
+            pub(crate) fn $name(&mut self, $($value: impl Into<$kind>),*) -> Result<&str, Code> {
                 unsafe extern "C" {
-                    fn $name($value: $kind, buffer: *mut u8, size: usize, length: *mut usize) -> c_int;
+                    fn $name($($value: $kind,)* buffer: *mut u8, size: usize, length: *mut usize) -> c_int;
                 }
                 let text: *mut u8 = self.0.as_mut_ptr().cast();
                 // SAFETY: the types are the header's; address and size are the buffer's, and `length` is a variable's.
-                let length: usize = written(|length| unsafe { $name($value.into(), text, self.0.len(), length) })?;
+                let length: usize =
+                    written(|length| unsafe { $name($($value.into(),)* text, self.0.len(), length) })?;
                 // SAFETY: the call has written so many bytes into the buffer, and all are ASCII.
                 Ok(unsafe { from_utf8_unchecked(from_raw_parts(text, length)) })
             }
@@ -441,6 +442,7 @@ printers! {
     fn speedate_time_to_text(time: CTime);
     fn speedate_datetime_to_text(value: CDateTime);
     fn speedate_duration_to_text(duration: CDuration);
+    fn speedate_code_expected(code: c_int, kind: c_int);
 }
 
 #[cfg(test)]

@@ -24,7 +24,7 @@
 //!   [`DateReader`], a [`DateTimeReader`] or a [`DurationReader`]; [`line_end`] finds the end of a line.
 //! - [`DateConfig`], [`TimeConfig`], [`DateTimeConfig`] and their builders: how texts are parsed.
 //! - [`ParseError`], [`ConfigError`]: the errors. A text that is refused has exactly one, and each has
-//!   a name, such as `out_of_range_day`.
+//!   a name, such as `out_of_range_day`, and by the [`CallKind`] a phrase on what was expected.
 //!
 //! # Parsers and configurations
 //!
@@ -66,7 +66,7 @@ pub use speedate_base::config::{
     DateConfig, DateConfigBuilder, DateTimeConfig, DateTimeConfigBuilder, IsoOrder,
     MicrosecondsPrecisionOverflowBehavior, TimeConfig, TimeConfigBuilder, TimestampUnit,
 };
-pub use speedate_base::faults::{ConfigError, ParseError};
+pub use speedate_base::faults::{CallKind, ConfigError, ParseError};
 pub use speedate_base::numbers::{
     Decimal, IntFloat, float_parse_bytes, float_parse_str, int_parse_bytes, int_parse_str,
 };

@@ -3,8 +3,10 @@
 ghost use Rattle.std.specs.Prelude.{◌≡◌};
 
 mod config_error;
+mod expected;
 
 pub use config_error::ConfigError;
+pub use expected::CallKind;
 use std::fmt;
 
 /// Why a text or a number was refused. Every refusal has exactly one of these, and `docs/GRAMMAR.md`

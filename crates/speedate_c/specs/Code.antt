@@ -1,11 +1,12 @@
 -- The codes that calls answer: 0, the numbers of the faults and of three further answers, and those
 -- of what a caller got wrong.
-use Rattle.std.specs.Prelude.{ℕ, ◌-◌, ℤ, pos, negsuc, unsigned_abs, int_le, List, map, codes, slice_get, Option, Some, None, Result, Ok, Err, if◌then◌else◌}
+use Rattle.std.specs.Prelude.{ℕ, ◌-◌, ℤ, pos, negsuc, unsigned_abs, int_le, List, [], ◌∷◌, map, codes, slice_get, Option, Some, None, Result, Ok, Err, if◌then◌else◌}
 use Rattle.std.specs.Option.{option_map, option_or}
 use Rattle.std.specs.Ordering.{int_eq}
 use Rattle.std.specs.declared.cmp.Ordering.{Ordering, Ordering as ordering}
-use Rattle.speedate.specs.Base.{ParseError}
+use Rattle.speedate.specs.Base.{CallKind, ParseError}
 use Rattle.speedate.specs.declared.LineError.{LineError}
+use Rattle.speedate.specs.Expected.{expected_text}
 use Rattle.speedate.specs.Fault.{
   FaultRow,
   fault_rows,
@@ -84,6 +85,48 @@ abbrev pub code_row : ℤ → Option (List ℕ × List ℕ)
 code_row code =
     option_or (option_map (λ fault. (fault_name fault, fault_documentation fault)) (fault_of code))
     (refusal_row code)
+
+-- the kinds of calls in the order of their numbers
+abbrev pub call_kinds : List CallKind
+call_kinds =
+    CallKind.Values
+    ∷ CallKind.Date
+    ∷ CallKind.DateOrTimestamp
+    ∷ CallKind.Time
+    ∷ CallKind.TimeStrict
+    ∷ CallKind.DateTime
+    ∷ CallKind.DateTimeOrTimestamp
+    ∷ CallKind.DateTimeStrict
+    ∷ CallKind.Duration
+    ∷ []
+
+-- the kind of calls that has a number
+abbrev pub call_kind_of : ℤ → Option CallKind
+call_kind_of number =
+    if int_le (pos 0) number then slice_get call_kinds (unsigned_abs number) else None
+
+-- what was expected, of a code that is no fault
+abbrev pub refusal_expected : ℤ → Option (List ℕ)
+refusal_expected code =
+    if int_eq code number_too_large
+    then Some (codes "a duration of less than 2^63 microseconds")
+    else (if int_eq code invalid_integer
+    then Some (codes "a whole number that fits 64 bits")
+    else (if int_eq code no_such_date
+    then Some (codes "a date in the years 0000 to 9999")
+    else (if int_eq code value_out_of_range
+    then Some (codes "values within their ranges, and flags of 0 or 1")
+    else (if int_eq code config_out_of_range
+    then Some (codes "a configuration within its ranges")
+    else (if int_eq code buffer_too_small
+    then Some (codes "a buffer with room for the text and a zero byte")
+    else None)))))
+
+-- what a call of a kind expected where it gave a code
+abbrev pub code_expected : ℤ → CallKind → Option (List ℕ)
+code_expected code kind =
+    option_or (option_map (λ fault. expected_text fault kind) (fault_of code))
+    (refusal_expected code)
 
 -- the code of an answer
 abbrev pub answer_code : {A : Type 0} → Result A ParseError → ℤ

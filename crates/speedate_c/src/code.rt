@@ -3,15 +3,18 @@
 ghost use Rattle.std.specs.Option.{option_map};
 ghost use Rattle.std.specs.Prelude.{◌≡◌, ◌≤◌, IfSome, Some, length, slice_get};
 ghost use Rattle.speedate_c.specs.Code.{
+  call_kind_of,
+  code_expected,
   code_row,
   fault_code,
   fault_of,
   line_error_code,
   order_number,
+  refusal_expected,
   refusal_row,
 };
 
-use speedate::{LineError, ParseError};
+use speedate::{CallKind, LineError, ParseError};
 use std::cmp::Ordering;
 
 /// What was asked for is written.
@@ -124,6 +127,63 @@ fn refusal_row(code: i32) -> Option<(&'static str, &'static str)>
             "a number of the configuration is out of range",
         ),
         BUFFER_TOO_SMALL => ("buffer_too_small", "the buffer is too small for the text"),
+        _ => return None,
+    })
+}
+
+/// The kinds of calls in the order of their numbers.
+const CALL_KINDS: [CallKind; 9] = [
+    CallKind::Values,
+    CallKind::Date,
+    CallKind::DateOrTimestamp,
+    CallKind::Time,
+    CallKind::TimeStrict,
+    CallKind::DateTime,
+    CallKind::DateTimeOrTimestamp,
+    CallKind::DateTimeStrict,
+    CallKind::Duration,
+];
+
+/// The kind of calls that has a number.
+pub(crate) fn call_kind_of(number: i32) -> Option<CallKind>
+    ensures kind { result ≡ call_kind_of number }
+{
+    if number < 0 {
+        return None;
+    }
+    call_kind_at(&CALL_KINDS, number.unsigned_abs() as usize)
+}
+
+/// The kind at a place of a list.
+fn call_kind_at(kinds: &[CallKind], place: usize) -> Option<CallKind>
+    ensures kind { result ≡ slice_get kinds.now place }
+{
+    kinds.get(place).copied()
+}
+
+/// What a call of a kind expected where it gave a code.
+pub(crate) fn code_expected(code: i32, kind: CallKind) -> Option<&'static str>
+    ensures text { option_map (λ text. text.now) result ≡ code_expected code kind }
+    ensures short { IfSome result (λ text. length text.now ≤ 63) }
+{
+    match fault_of(code) {
+        Some(fault) => Some(fault.expected(kind)),
+        None => refusal_expected(code),
+    }
+}
+
+/// What was expected, of a code that is no error.
+fn refusal_expected(code: i32) -> Option<&'static str>
+    ensures text { option_map (λ text. text.now) result ≡ refusal_expected code }
+    ensures short { IfSome result (λ text. length text.now ≤ 63) }
+{
+    Some(match code {
+        NUMBER_TOO_LARGE => "a duration of less than 2^63 microseconds",
+        INVALID_INTEGER => "a whole number that fits 64 bits",
+        NO_SUCH_DATE => "a date in the years 0000 to 9999",
+        VALUE_OUT_OF_RANGE => "values within their ranges, and flags of 0 or 1",
+        CONFIG_OUT_OF_RANGE => "a configuration within its ranges",
+        BUFFER_TOO_SMALL => "a buffer with room for the text and a zero byte",
         _ => return None,
     })
 }

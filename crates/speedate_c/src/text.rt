@@ -3,9 +3,18 @@
 ghost use Rattle.std.specs.Option.{unwrap_or};
 ghost use Rattle.std.specs.Prelude.{◌≡◌, ◌≢◌, ◌+◌, ◌<◌, ◌≤◌, ◌∷◌, ◌++◌, drop, length};
 ghost use Rattle.speedate_c.specs.Written.{written_text, with_option};
-ghost use Rattle.speedate_c.specs.Code.{buffer_too_small, code_row, success, value_out_of_range};
+ghost use Rattle.speedate_c.specs.Code.{
+  buffer_too_small,
+  call_kind_of,
+  code_expected,
+  code_row,
+  success,
+  value_out_of_range,
+};
 
-use crate::code::{BUFFER_TOO_SMALL, SUCCESS, VALUE_OUT_OF_RANGE, code_row};
+use crate::code::{
+    BUFFER_TOO_SMALL, SUCCESS, VALUE_OUT_OF_RANGE, call_kind_of, code_expected, code_row,
+};
 
 /// Writes a text and a zero byte after it into a buffer, and its length beside it, and gives the
 /// code.
@@ -80,4 +89,31 @@ pub extern "C" fn speedate_code_documentation(
         return VALUE_OUT_OF_RANGE;
     };
     write_text(documentation, buffer, text_length)
+}
+
+/// Prints what a call expected where it refused, for people: `month, 01 to 12` for 21. The kind of the
+/// call is a number, 0 to 8.
+///
+/// The refusals are those of [`speedate_code_name`], and `VALUE_OUT_OF_RANGE` for another kind.
+#[unsafe(no_mangle)]
+pub extern "C" fn speedate_code_expected(
+    code: i32,
+    kind: i32,
+    buffer: &mut [u8],
+    text_length: &mut usize,
+) -> i32
+    ensures answer { (result, buffer.new, text_length.new)
+        ≡ with_option (call_kind_of kind) (value_out_of_range, buffer.old, text_length.old)
+        (λ kind. with_option (code_expected code kind)
+        (value_out_of_range, buffer.old, text_length.old)
+        (λ text. written_text text buffer.old text_length.old)) }
+    ensures room { 64 ≤ length buffer.old → result ≢ buffer_too_small }
+{
+    let Some(kind) = call_kind_of(kind) else {
+        return VALUE_OUT_OF_RANGE;
+    };
+    let Some(text) = code_expected(code, kind) else {
+        return VALUE_OUT_OF_RANGE;
+    };
+    write_text(text, buffer, text_length)
 }

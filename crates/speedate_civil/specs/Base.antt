@@ -2,6 +2,7 @@
 -- above it take them from here.
 pub use Rattle.speedate_base.specs.declared.faults.ParseError.{ParseError}
 pub use Rattle.speedate_base.specs.declared.faults.config_error.ConfigError.{ConfigError}
+pub use Rattle.speedate_base.specs.declared.faults.expected.CallKind.{CallKind}
 pub use Rattle.speedate_base.specs.declared.config.MicrosecondsPrecisionOverflowBehavior.{
   MicrosecondsPrecisionOverflowBehavior as Behavior,
 }

@@ -1,7 +1,8 @@
-//! The errors by name, and their documentation texts.
+//! The errors by name, their documentation texts, and what was expected.
 
 use crate::rows::same;
 use crate::shown::expect_written;
+use speedate::CallKind;
 use speedate::ConfigError::{
     UnknownMicrosecondsPrecisionOverflowBehaviorString, UnknownTimestampUnitString,
 };
@@ -98,4 +99,161 @@ fn of_choices(rt: HostRuntime) {
     same(&rt, fault.get_documentation(), None, fault);
     let name = "unknown_microseconds_precision_overflow_behavior_string";
     expect_written(&rt, &fault, name);
+}
+
+/// What calls on date-times expect, where each error of the rows above is given.
+const EXPECTED: &str = "\
+a date-time: YYYY-MM-DDTHH:MM or YYYY-MM-DDTHH:MM:SS\n\
+nothing more\n\
+T, t, _ or a space, then a time\n\
+a hyphen, as in YYYY-MM-DD\n\
+a whole number of days\n\
+four digits of the year\n\
+two digits of the month\n\
+two digits of the day\n\
+a colon, as in HH:MM\n\
+two digits of the hour\n\
+two digits of the minute\n\
+two digits of the second\n\
+digits of the second's fraction\n\
+after the clock at most an offset: Z or +01:00\n\
+two digits of the offset's hour\n\
+two digits of the offset's minute\n\
+the offset's minute, 00 to 59\n\
+an offset of less than 24 hours\n\
+an offset: Z or +01:00\n\
+a clock that shows 1970 or later\n\
+month, 01 to 12\n\
+a day that the month has\n\
+hour, 00 to 23\n\
+minute, 00 to 59\n\
+second, 00 to 59\n\
+at most six digits of a second's fraction\n\
+a digit of the second's fraction\n\
+at most three digits of a millisecond's fraction\n\
+digits of a number, as in P1D or 1 day\n\
+no second T\n\
+no further component after a fraction\n\
+H, M or S\n\
+Y, M, W or D; H, M or S after a T\n\
+d, day or days; a clock alone is 01:30 or longer\n\
+numbers and sums of at most 4,294,967,295\n\
+hours: up to 23 after days, or 10 digits up to 2,400,000,000\n\
+at most 999,999,999 days\n\
+a date in the years 0000 to 9999\n\
+a date in the years 0000 to 9999\n\
+a time within the day: 00:00:00 to 23:59:59.999999\n\
+each unit once, in the order Y, M, W, D, T, H, M, S\n\
+no digit of a microsecond's fraction";
+
+/// What calls of another kind expect.
+const EXPECTED_BY: [(ParseError, CallKind, &str); 25] = [
+    (TooShort, CallKind::Values, "a longer text"),
+    (TooShort, CallKind::Date, "a date: YYYY-MM-DD"),
+    (
+        TooShort,
+        CallKind::DateOrTimestamp,
+        "a date, YYYY-MM-DD, or a whole number",
+    ),
+    (TooShort, CallKind::Time, "a time: HH:MM or HH:MM:SS"),
+    (
+        TooShort,
+        CallKind::TimeStrict,
+        "a time with an offset: HH:MM:SSZ or HH:MM:SS+01:00",
+    ),
+    (
+        TooShort,
+        CallKind::DateTimeOrTimestamp,
+        "a date-time, as YYYY-MM-DDTHH:MM:SS, or a number",
+    ),
+    (
+        TooShort,
+        CallKind::DateTimeStrict,
+        "a date-time with an offset, as YYYY-MM-DDTHH:MM:SSZ",
+    ),
+    (
+        TooShort,
+        CallKind::Duration,
+        "more of a duration, as in P1DT2H, 01:30:00 or 2 days, 10:20",
+    ),
+    (
+        InvalidCharDateTimeSep,
+        CallKind::DateTimeStrict,
+        "T or t, then a time",
+    ),
+    (
+        InvalidCharTimeSep,
+        CallKind::TimeStrict,
+        "a colon, as in HH:MM:SS",
+    ),
+    (
+        InvalidCharTimeSep,
+        CallKind::DateTimeStrict,
+        "a colon, as in HH:MM:SS",
+    ),
+    (InvalidCharTimeSep, CallKind::Time, "a colon, as in HH:MM"),
+    (
+        InvalidCharHour,
+        CallKind::Duration,
+        "digits of the hours, then a colon",
+    ),
+    (InvalidCharHour, CallKind::Time, "two digits of the hour"),
+    (
+        InvalidCharTzSign,
+        CallKind::TimeStrict,
+        "after the clock an offset in ASCII, Z or -01:00; no comma",
+    ),
+    (
+        InvalidCharTzSign,
+        CallKind::DateTimeOrTimestamp,
+        "after the clock at most an offset: Z or +01:00",
+    ),
+    (
+        InvalidCharTzMinute,
+        CallKind::DateTimeStrict,
+        "the offset's minute after a colon, as in +01:00",
+    ),
+    (TzRequired, CallKind::Values, "a value that has an offset"),
+    (TzRequired, CallKind::TimeStrict, "an offset: Z or +01:00"),
+    (
+        SecondFractionTooLong,
+        CallKind::Duration,
+        "at most 12 bytes after the first colon",
+    ),
+    (
+        SecondFractionTooLong,
+        CallKind::DateTimeOrTimestamp,
+        "at most six digits of a second's fraction",
+    ),
+    (
+        DurationValueTooLarge,
+        CallKind::Values,
+        "the numbers of a duration within their ranges",
+    ),
+    (
+        DurationHourValueTooLarge,
+        CallKind::Duration,
+        "hours: up to 23 after days, or 10 digits up to 2,400,000,000",
+    ),
+    (OutOfRangeMonth, CallKind::Date, "month, 01 to 12"),
+    (
+        TimeTooLarge,
+        CallKind::Values,
+        "a time within the day: 00:00:00 to 23:59:59.999999",
+    ),
+];
+
+#[test]
+fn what_date_times_expect(rt: HostRuntime) {
+    same(&rt, EXPECTED.lines().count(), 42, "how many phrases");
+    for (fault, phrase) in FAULTS.iter().flatten().zip(EXPECTED.lines()) {
+        same(&rt, fault.expected(CallKind::DateTime), phrase, phrase);
+    }
+}
+
+#[test]
+fn what_other_calls_expect(rt: HostRuntime) {
+    for (fault, kind, phrase) in EXPECTED_BY {
+        same(&rt, fault.expected(kind), phrase, phrase);
+    }
 }

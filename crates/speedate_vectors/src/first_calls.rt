@@ -3,7 +3,7 @@
 
 use arrayvec::ArrayString;
 use speedate::{
-    Date, DateConfig, DateTime, DateTimeConfig, Duration, IntFloat, IsoOrder,
+    CallKind, Date, DateConfig, DateTime, DateTimeConfig, Duration, IntFloat, IsoOrder,
     MicrosecondsPrecisionOverflowBehavior, Moment, ParseError, Time, TimeConfig, TimestampUnit,
     float_parse_str, int_parse_str,
 };
@@ -216,6 +216,8 @@ fn parse_error(rt: HostRuntime) {
     let fault = ParseError::TooShort;
     assert_same(&rt, fault.name(), "too_short");
     assert_same(&rt, fault.get_documentation(), Some("input is too short"));
+    let phrase = fault.expected(CallKind::Date);
+    assert_same(&rt, phrase, "a date: YYYY-MM-DD");
 }
 
 #[test]

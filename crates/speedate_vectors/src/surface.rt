@@ -1,9 +1,9 @@
 //! The traits of each type that `speedate` gives out.
 
 use speedate::{
-    ConfigError, Date, DateConfig, DateConfigBuilder, DateReader, DateTime, DateTimeConfig,
-    DateTimeConfigBuilder, DateTimeParser, DateTimeReader, Decimal, Duration, DurationReader,
-    IntFloat, IsoOrder, LineConfig, LineError, LineFront, LineReader,
+    CallKind, ConfigError, Date, DateConfig, DateConfigBuilder, DateReader, DateTime,
+    DateTimeConfig, DateTimeConfigBuilder, DateTimeParser, DateTimeReader, Decimal, Duration,
+    DurationReader, IntFloat, IsoOrder, LineConfig, LineError, LineFront, LineReader,
     MicrosecondsPrecisionOverflowBehavior, Moment, ParseError, Progress, Time, TimeConfig,
     TimeConfigBuilder, TimestampUnit,
 };
@@ -30,7 +30,15 @@ fn is_error<T: Error + Copy + Eq>() {}
 #[test]
 fn each_type_has_its_traits() {
     is_copied::<(Decimal<'_>, IntFloat<'_>)>();
-    is_copied::<(LineConfig, LineFront<i64>, Progress, DateTimeParser)>();
+    is_copied::<
+        (
+            LineConfig,
+            LineFront<i64>,
+            Progress,
+            DateTimeParser,
+            CallKind,
+        ),
+    >();
     is_reader::<DateReader>();
     is_reader::<DateTimeReader>();
     is_reader::<DurationReader>();
