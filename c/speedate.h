@@ -565,6 +565,9 @@ SPEEDATE_NODISCARD int speedate_duration_signed_total_ms(SpeedateDuration durati
 /* The microseconds of a duration beyond its whole seconds, with its sign. */
 SPEEDATE_NODISCARD int speedate_duration_signed_microseconds(SpeedateDuration duration, int32_t *out);
 
+/* The duration of a number of microseconds with a sign: -PT1.5S for -1500000. Each number of 64 bits is one. */
+SPEEDATE_NODISCARD int speedate_duration_from_signed_microseconds(int64_t microseconds, SpeedateDuration *out);
+
 /* The duration with the other sign. */
 SPEEDATE_NODISCARD int speedate_duration_negate(SpeedateDuration duration, SpeedateDuration *out);
 

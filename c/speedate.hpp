@@ -585,6 +585,11 @@ class Duration : public detail::Ordered<Duration> {
     static Result<Duration> of(SpeedateDuration numbers) {
         return from_c([&](auto *out) { return speedate_duration_normalize(numbers, out); });
     }
+    /* The duration of a number of microseconds with a sign. */
+    static Duration of(std::chrono::microseconds length) noexcept {
+        return Duration(detail::sure<SpeedateDuration>(
+            [&](auto *out) { return speedate_duration_from_signed_microseconds(length.count(), out); }));
+    }
     /* The duration of numbers that are in range, as speedate_duration_check says. */
     static Result<Duration> checked(SpeedateDuration duration) {
         const int code = speedate_duration_check(duration);

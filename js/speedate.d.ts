@@ -187,6 +187,8 @@ export function between(earlier: SpeedateDate, later: SpeedateDate): SpeedateDur
 export function between(earlier: SpeedateDateTime, later: SpeedateDateTime): SpeedateDuration;
 /** The duration with the other sign. */
 export function negate(duration: SpeedateDuration): SpeedateDuration;
+/** The duration of a number of microseconds, with its sign: `-PT1.5S` of -1500000. The number has to fit 64 bits. */
+export function durationFromMicroseconds(microseconds: number | bigint): SpeedateDuration;
 /** The whole seconds of a duration, with its sign: -90 of `-PT1M30.5S`. */
 export function totalSeconds(duration: SpeedateDuration): number;
 /** The value at the same instant, as a clock at another offset shows it. `out_of_range_tz` from 24 hours on; `tz_required` without

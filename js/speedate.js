@@ -985,6 +985,13 @@ export function negate(duration) {
   return DURATION.read(kept);
 }
 
+export function durationFromMicroseconds(microseconds) {
+  const number = integer64(microseconds, "microseconds");
+  start();
+  accept(calls.speedate_duration_from_signed_microseconds(number, address.out));
+  return DURATION.read(kept);
+}
+
 export function totalSeconds(duration) {
   const it = given(duration, "duration", JUST.duration);
   acceptOf(calls.speedate_duration_signed_total_seconds(putFirst(it), address.out), it);

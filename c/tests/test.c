@@ -479,6 +479,7 @@ static int run_value(void) {
     VALUE(int64_t, say_number, duration_signed_total_seconds, SpeedateDuration, duration)
     VALUE(int64_t, say_number, duration_signed_total_ms, SpeedateDuration, duration)
     VALUE(int32_t, say_number, duration_signed_microseconds, SpeedateDuration, duration)
+    VALUE(SpeedateDuration, say_duration, duration_from_signed_microseconds, int64_t, (int64_t)number)
     VALUE(SpeedateDuration, say_duration, duration_negate, SpeedateDuration, duration)
     TWO_VALUES(SpeedateDuration, say_duration, duration_between, SpeedateDateTime, datetime, SpeedateDateTime, datetime)
     TWO_VALUES(SpeedateDateTime, say_datetime, duration_after, SpeedateDuration, duration, SpeedateDateTime, datetime)

@@ -168,6 +168,7 @@ static void durations() {
     CHECK(duration.negative() && duration.day() == 1 && duration.second() == 2 && duration.microsecond() == 3);
     CHECK(said(Duration::of(false, 1, 86500, 1000123)) == "P2DT1M41.000123S" &&
           said(Duration::of(false, 1000000000)) == "duration_days_too_large");
+    CHECK(Duration::of(std::chrono::microseconds(-1500000)).to_text() == "-PT1.5S");
     CHECK(Duration::checked(duration.c()).value() == duration);
     CHECK(said(Duration::checked(SpeedateDuration{0, 0, 86400, 0})) == "duration_value_too_large");
     CHECK(said(Duration::parse("P1D1Y")) == "P1Y1D" && at(Duration::error_place("P1D1Q")) == 4);

@@ -41,6 +41,7 @@ const CALLS = {
   epochMilliseconds: [ofDateTime], toDate: [ofDateTime], fromDate: [[new Date(0), [undefined, ...noObject, {}, date]]],
   format: [[time, noValue]], compare: [ofDate, ofDate], between: [ofDate, ofDate], daysSince: [ofDate, ofDate],
   addDays: [ofDate, [1, noNumber]], dayOfYear: [ofDate], negate: [ofDuration], totalSeconds: [ofDuration],
+  durationFromMicroseconds: [[0, noNumber.filter((it) => it !== 5n)]],
   after: ofMove, before: ofMove, inTimezone: [[time, [...noValue, date, duration]], [0, noNumber]],
   dateColumn: ofColumn, dateTimeColumn: ofColumn, dateColumnReader: ofColumn.slice(1), dateTimeColumnReader: ofColumn.slice(1),
   schema: [["date", [undefined, ...noObject, "datetime", "toString", ["date"]]], [undefined, noOptions]],
@@ -250,6 +251,8 @@ assert.deepEqual(parseDate("2020-02-29"), date);
 assert.deepEqual(duration, { sign: -1, days: -1, seconds: 0, milliseconds: -1, microseconds: -2 });
 assert.deepEqual({ ...safeParseDate("x") }, { ok: false, fault: "too_short", code: 1, message: "input is too short", expected: "a date: YYYY-MM-DD" });
 assert.deepEqual(fromDate(toDate(dateTime)), dateTime);
+assert.equal(format(speedate.durationFromMicroseconds(-1500000)), "-PT1.5S");
+for (const it of [2n ** 63n, -(2n ** 63n) - 1n, 0.5, 2 ** 63]) assert.throws(() => speedate.durationFromMicroseconds(it), RangeError);
 const seen = [];
 format(new Proxy(dateTime, { get: (it, name) => (seen.push(name), it[name]) }));
 assert.deepEqual(seen, Object.keys(dateTime), "each field is looked at once");

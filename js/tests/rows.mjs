@@ -49,6 +49,7 @@ const CALLS = {
   compare: (of, one, other) => compare(of(one), of(other)),
   add_days: (of, it, days) => speedate.addDays(of(it), Number(days)),
   ordinal_day: (of, it) => speedate.dayOfYear(of(it)),
+  from_signed_microseconds: (of, it) => speedate.durationFromMicroseconds(BigInt(it)),
   negate: (of, it) => speedate.negate(of(it)), signed_total_seconds: (of, it) => speedate.totalSeconds(of(it)),
   days_since: (of, it, from) => speedate.daysSince(of(it), of(from)),
   in_timezone: (of, it, offset) => inTimezone(of(it), Number(offset)),

@@ -87,6 +87,7 @@ const uses: Record<keyof typeof speedate, unknown> = {
   before: [((it: SpeedateDate) => it.day)(speedate.before(date, speedate.parseDuration("P1D"))), same<SpeedateDateTime, ReturnType<typeof speedate.before>>(true, speedate.before(moment, second))],
   between: [same<SpeedateDuration, ReturnType<typeof speedate.between>>(true, speedate.between(date, date)), speedate.between(moment, moment).sign],
   negate: same<SpeedateDuration, ReturnType<typeof speedate.negate>>(true, speedate.negate(second)),
+  durationFromMicroseconds: same<SpeedateDuration, ReturnType<typeof speedate.durationFromMicroseconds>>(true, speedate.durationFromMicroseconds(1n)),
   totalSeconds: same<number, ReturnType<typeof speedate.totalSeconds>>(true, speedate.totalSeconds(second)),
   inTimezone: [((it: SpeedateTime) => it.hour)(speedate.inTimezone(time, 0)), same<SpeedateDateTime, ReturnType<typeof speedate.inTimezone>>(true, speedate.inTimezone(moment, 3600))],
   schema: [

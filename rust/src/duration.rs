@@ -89,6 +89,20 @@ impl Duration {
         Ok(ffi::speedate_duration_normalize(&Self { positive, day, second, microsecond })?)
     }
 
+    /// The duration of a number of microseconds with a sign: each number is one.
+    ///
+    /// ```
+    /// assert_eq!(speedate::Duration::from_signed_microseconds(-1_500_000).to_string(), "-PT1.5S");
+    /// ```
+    ///
+    /// # Panics
+    ///
+    /// Never: no number of 64 bits has more than 999,999,999 days.
+    #[must_use]
+    pub fn from_signed_microseconds(microseconds: i64) -> Self {
+        ffi::speedate_duration_from_signed_microseconds(microseconds).expect("a number of 64 bits is a duration")
+    }
+
     /// The byte offset of the error of [`parse_bytes_with_config`](Self::parse_bytes_with_config); `None` if the input
     /// is accepted.
     ///

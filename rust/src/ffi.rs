@@ -395,6 +395,7 @@ calls! {
     fn speedate_duration_signed_total_seconds(duration: CDuration) -> i64;
     fn speedate_duration_signed_total_ms(duration: CDuration) -> i64;
     fn speedate_duration_signed_microseconds(duration: CDuration) -> i32;
+    fn speedate_duration_from_signed_microseconds(microseconds: i64) -> CDuration;
     fn speedate_duration_between(earlier: CDateTime, later: CDateTime) -> CDuration;
     fn speedate_duration_after(duration: CDuration, start: CDateTime) -> CDateTime;
     fn speedate_duration_before(duration: CDuration, start: CDateTime) -> CDateTime;

@@ -111,6 +111,9 @@ impl Row<'_> {
             "duration_signed_total_seconds" => self.has_total(self.get::<Duration>(1)?.signed_total_seconds()),
             "duration_signed_total_ms" => self.has_total(self.get::<Duration>(1)?.signed_total_ms()),
             "duration_signed_microseconds" => self.has_total(self.get::<Duration>(1)?.signed_microseconds()),
+            "duration_from_signed_microseconds" => {
+                self.has(2, Ok::<_, ParseError>(Duration::from_signed_microseconds(self.get(1)?)))
+            }
             "duration_between" => self.get(4) == Some(Duration::between(&self.get(1)?, &self.get(2)?)),
             "duration_after" => self.has(3, self.get::<Duration>(1)?.after(&self.get(2)?)),
             "duration_before" => self.has(3, self.get::<Duration>(1)?.before(&self.get(2)?)),

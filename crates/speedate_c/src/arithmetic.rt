@@ -2,6 +2,7 @@
 
 ghost use Rattle.std.specs.Prelude.{◌≡◌, neg_ℤ};
 ghost use Rattle.speedate.specs.Duration.{
+  amount_answer,
   date_later,
   date_time_later,
   duration_between,
@@ -144,4 +145,18 @@ pub extern "C" fn speedate_duration_negate(
         (λ duration. written_value (shown_duration (negated duration))) }
 {
     write_of!(duration => *out = SpeedateDuration::from_value(&duration.negated()))
+}
+
+/// The duration of a number of microseconds with a sign, as [`Duration::from_signed_microseconds`]
+/// gives it: -PT1.5S for -1,500,000.
+#[unsafe(no_mangle)]
+pub extern "C" fn speedate_duration_from_signed_microseconds(
+    microseconds: i64,
+    out: &mut SpeedateDuration,
+) -> i32
+    ensures answer { (result, out.new)
+        ≡ written_answer shown_duration out.old (amount_answer microseconds) }
+{
+    let answer = Duration::from_signed_microseconds(i128::from(microseconds));
+    write_duration(answer, out)
 }
