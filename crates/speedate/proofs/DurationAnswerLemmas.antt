@@ -63,16 +63,6 @@ pub iso_from-item : (sums : IsoSums) (item : Item) (rest : List ℕ)
 iso_from-item sums item rest is =
     search (rules, length-append, item_text-some, iso_from-step, drop-append_seam)
 
--- and so has a first `T`
-pub iso_from-time : (sums : IsoSums) (text : List ℕ) → slice_index text 0 ≡ capital_t
-    → sums.is_time ≡ false
-    → iso_from (with_item TimeDesignator sums) (drop 1 text) ≡ iso_from sums text
-iso_from-time sums [] first none = absurd (cc)
-iso_from-time sums (byte ∷ rest) first none =
-    sym (ap (λ (byte : ℕ). iso_from sums (byte ∷ rest)) first
-    ∙ iso_from-item sums TimeDesignator rest refl
-    ∙ first_fault_or-all (item_table sums TimeDesignator) _ (ap not none, tt))
-
 -- the answer by the form of the text
 pub duration_answer-form : (order : IsoOrder) (behavior : Behavior) (text : List ℕ)
     → duration_answer order behavior text

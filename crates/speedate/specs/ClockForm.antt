@@ -92,7 +92,3 @@ clock_form_or refuse behavior text =
     let count = digits_value (hours text) in
     first_refusal_or refuse (hours_table text) (first_refusal_or refuse (hours_range count)
     (after_hours_or (shifted (colon_place text + 1) refuse) behavior count (from_minute text)))
-
--- the same, with the text's fault
-abbrev pub clock_form : Behavior → List ℕ → Result UnsignedDuration ParseError
-clock_form behavior text = clock_form_or fault_alone behavior text

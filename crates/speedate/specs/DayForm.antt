@@ -93,7 +93,3 @@ unfoldable pub day_form_or : {E : Type 0} → (ParseError → ℕ → E) → Beh
 day_form_or refuse behavior text = do
   days ← days_front_or refuse text
   after_days_or (shifted days.1 refuse) behavior days.0 (drop days.1 text)
-
--- the same, with the text's fault
-abbrev pub day_form : Behavior → List ℕ → Result UnsignedDuration ParseError
-day_form behavior text = day_form_or fault_alone behavior text

@@ -171,14 +171,6 @@ pub second-read : (text front : List ℕ) → front ≡ eight_at text 0
 second-read text front from = ap (λ (block : List ℕ). second_of (drop 3 block)) from
     ∙ second-same text
 
--- what ends within the rest of a text ends within the text
-pub within-rest : (bytes : List ℕ) (place size : ℕ) → place ≤ length bytes
-    → size ≤ length (take (length bytes - place) (drop place bytes)) → place + size ≤ length bytes
-within-rest bytes place size there within =
-    let rest : size ≤ length (drop place bytes) =
-    subst (λ (text : List ℕ). size ≤ length text) (take_rest bytes place) within in
-    omega (arith, length-drop place bytes, rest, there)
-
 -- A clock that begins with its minute.
 
 -- what is known of a text whose front looks like a minute
