@@ -6,9 +6,9 @@ use Rattle.std.proofs.lemmas.List.{length-append}
 use Rattle.speedate_base.specs.Ascii.{capital_p, capital_t}
 use Rattle.speedate_base.specs.Numbers.{IsSign, has_minus, sign_size}
 use Rattle.speedate_base.specs.Requirement.{first_fault_or, result_and_then}
-use Rattle.speedate_base.proofs.RequirementLemmas.{first_fault_or-all, first_fault_or-and_then}
 use Rattle.speedate.specs.Duration.{iso_after, iso_after_or, iso_from, iso_form, form_answer, unsigned_answer_or, duration_answer}
 use Rattle.speedate.specs.DurationNumbers.{signed_form}
+use Rattle.speedate_base.proofs.RefusalLemmas.{refusal-all, refusal-and_then}
 use Rattle.speedate.specs.IsoForm.{
   Item,
   TimeDesignator,

@@ -49,8 +49,7 @@ use Rattle.speedate.specs.DurationNumbers.{
   signed_seconds,
   signed_microsecond,
 }
-use Rattle.speedate_base.specs.Requirement.{◌else_fault◌, first_fault_or, result_map}
-use Rattle.speedate_base.proofs.RequirementLemmas.{first_fault_or-all}
+use Rattle.speedate_base.specs.Requirement.{fault_alone, ◌else_fault◌, first_fault_or, result_map}
 use Rattle.speedate_civil.specs.declared.date.Date.{Date}
 use Rattle.speedate_civil.specs.Calendar.{
   Ymd,
@@ -61,6 +60,7 @@ use Rattle.speedate_civil.specs.Calendar.{
 }
 use Rattle.speedate_civil.specs.Date.{ymd}
 use Rattle.speedate_civil.proofs.DateOrderLemmas.{counted-order, date_numbered-is}
+use Rattle.speedate_base.proofs.RefusalLemmas.{refusal-all}
 use Rattle.speedate_civil.proofs.ValueLemmas.{
   is_day,
   is_date_and_time,
@@ -249,7 +249,7 @@ date-back numbers start end whole moved =
     let date = ymd start in
     let outside =
     if not numbers.positive then ParseError.DateTooLarge else ParseError.DateTooSmall in
-    first_fault_or-all ((is_whole_days numbers else_fault ParseError.DateNotExact) ∷ []) _
+    refusal-all fault_alone ((is_whole_days numbers else_fault ParseError.DateNotExact) ∷ []) _
     (whole, tt)
     ∙ ap (λ (n : ℤ). ok_or (date_counted n) outside)
     (days-back numbers.positive numbers.day (day_number date) (day_number end) moved)

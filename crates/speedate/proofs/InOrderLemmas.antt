@@ -8,15 +8,16 @@ use Rattle.std.proofs.lemmas.List.{append-nil, take-append-drop}
 use Rattle.speedate_base.specs.Ascii.{capital_p}
 use Rattle.speedate_base.specs.Numbers.{has_minus, sign_size}
 use Rattle.speedate_base.proofs.NumberLemmas.{sign-of_text}
-use Rattle.speedate_base.specs.Requirement.{first_fault_or, AllHold, result_and_then}
-use Rattle.speedate_base.proofs.RequirementLemmas.{first_fault_or-all}
+use Rattle.speedate_base.specs.Requirement.{fault_alone, first_fault_or, AllHold, result_and_then}
 use Rattle.speedate.specs.DurationNumbers.{DurationNumbers, signed_form}
 use Rattle.speedate.specs.Duration.{
   form_answer,
-  iso_after, iso_after_or,
+  iso_after,
+  iso_after_or,
   iso_from,
   iso_form,
-  unsigned_answer, unsigned_answer_or,
+  unsigned_answer,
+  unsigned_answer_or,
   duration_answer,
 }
 use Rattle.speedate.proofs.DurationAnswerLemmas.{duration_answer-form, iso_from-item, duration_answer-iso}
@@ -43,6 +44,7 @@ use Rattle.speedate.specs.IsoForm.{
   Ends,
 }
 use Rattle.speedate.proofs.IsoFormLemmas.{Answer, answer-only, iso_after-is}
+use Rattle.speedate_base.proofs.RefusalLemmas.{refusal-all}
 use Rattle.speedate.proofs.IsoItemLemmas.{item_at-text}
 
 -- sums after which any unit of the side may come, and those after which only some may
@@ -152,7 +154,7 @@ unfolding iso_after_or
 items-strict next sums [] good = refl
 items-strict next sums (TimeDesignator ∷ items) good =
     iso_from-item (as_strict next sums) TimeDesignator (flat_map item_text items) refl
-    ∙ first_fault_or-all (item_table sums TimeDesignator) _ good.1
+    ∙ refusal-all fault_alone (item_table sums TimeDesignator) _ good.1
     ∙ items-strict (units true) (with_item TimeDesignator sums) items good.2
 items-strict next sums (Component component ∷ items) good =
     let item = Component component in

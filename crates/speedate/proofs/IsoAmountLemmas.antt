@@ -5,9 +5,8 @@ use Rattle.std.proofs.lemmas.Bool.{false≢true}
 use Rattle.speedate_base.specs.Ascii.{capital_p}
 use Rattle.speedate_base.specs.Digits.{digits_value}
 use Rattle.speedate_base.specs.Numbers.{has_minus, IsSign}
-use Rattle.speedate_base.specs.Requirement.{result_and_then}
+use Rattle.speedate_base.specs.Requirement.{fault_alone, result_and_then}
 use Rattle.speedate_base.specs.Timestamp.{seconds_per_day}
-use Rattle.speedate_base.proofs.RequirementLemmas.{first_fault_or-value}
 use Rattle.speedate.specs.Duration.{duration_answer, duration_numbers, ◌gives◌, Duration}
 use Rattle.speedate.proofs.FractionLemmas.{fraction_amount, fraction_amount-is}
 use Rattle.speedate.specs.DurationNumbers.{
@@ -35,6 +34,7 @@ use Rattle.speedate.specs.IsoForm.{
 }
 use Rattle.speedate.specs.IsoAmount.{unit_microseconds, IsComponentAmount, IsSumOf, IsAmountOf}
 use Rattle.speedate.specs.IsoOrder.{IsMadeOf}
+use Rattle.speedate_base.proofs.RefusalLemmas.{refusal-value}
 use Rattle.speedate.proofs.InOrderLemmas.{answer-made, duration-both}
 
 -- an answer in any order is the lax one
@@ -138,7 +138,7 @@ answer-amount asked behavior text items numbers same is =
       second = sums.second;
       microsecond = sums.microsecond;
     } in
-    let form = first_fault_or-value (normal_table given)
+    let form = refusal-value fault_alone (normal_table given)
     (of_amount (not is.negative) (amount_microseconds given)) numbers ended in
     let sum : total sums ≡ adds.0 = omega (arith, adds.2) in
     let amount =

@@ -7,17 +7,14 @@ use Rattle.std.proofs.lemmas.List.{append_cancel_left}
 use Rattle.std.proofs.Math.Seq.{drop-nil}
 use Rattle.speedate_base.specs.Ascii.{capital_p}
 use Rattle.speedate_base.specs.Numbers.{has_minus, sign_size}
-use Rattle.speedate_base.specs.Requirement.{first_fault_or, AllHold, result_and_then}
-use Rattle.speedate_base.proofs.RequirementLemmas.{
-  first_fault_or-all,
-  first_fault_or-next,
-  first_fault_or-value,
-}
+use Rattle.speedate_base.specs.Requirement.{fault_alone, first_fault_or, AllHold, result_and_then}
 use Rattle.speedate.specs.Duration.{
-  iso_after, iso_after_or,
+  iso_after,
+  iso_after_or,
   iso_form,
   form_answer,
-  unsigned_answer, unsigned_answer_or,
+  unsigned_answer,
+  unsigned_answer_or,
   duration_answer,
   IsGrammarAnswer,
 }
@@ -38,6 +35,7 @@ use Rattle.speedate.specs.IsoForm.{
   IsEndedFront,
   IsAnswerFrom,
 }
+use Rattle.speedate_base.proofs.RefusalLemmas.{first_refusal_or-next, refusal-all, refusal-value}
 use Rattle.speedate.proofs.IsoItemLemmas.{item_at-text, item-front}
 
 -- the amount that a text says without its sign, or its fault
@@ -129,11 +127,11 @@ from-step : (sums : IsoSums) (byte : ℕ) (rest : List ℕ) (met : Answer) (next
     (first_fault_or (item_table sums (item_at (byte ∷ rest))) next)
 from-step sums byte rest (Ok amount) next met from =
     let item = item_at (byte ∷ rest) in
-    let all = (first_fault_or-value (item_table sums item) (sums_amount sums) amount met).0 in
+    let all = (refusal-value fault_alone (item_table sums item) (sums_amount sums) amount met).0 in
     let front = item-front sums byte rest all in
     subst (λ (text : List ℕ). IsAnswerFrom sums text (first_fault_or (item_table sums item) next))
     (sym front.1)
-    (subst (IsAnswerFrom sums _) (sym (first_fault_or-all (item_table sums item) next all))
+    (subst (IsAnswerFrom sums _) (sym (refusal-all fault_alone (item_table sums item) next all))
     (answer-with sums item _ next front.0 all from))
 from-step sums byte rest (Err fault) next met from = (
   [],
@@ -144,7 +142,7 @@ from-step sums byte rest (Err fault) next met from = (
     ends = (
       fault,
       met,
-      sym (first_fault_or-next (item_table sums (item_at (byte ∷ rest)))
+      sym (first_refusal_or-next fault_alone (item_table sums (item_at (byte ∷ rest)))
           (sums_amount sums) (Err fault) next (sym met)),
     );
   },

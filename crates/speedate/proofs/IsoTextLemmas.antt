@@ -19,13 +19,13 @@ use Rattle.speedate_base.specs.Ascii.{
   capital_y,
 }
 use Rattle.speedate_base.specs.Digits.{six_digit_text, digits_value}
-use Rattle.speedate_base.specs.Requirement.{AllHold, result_and_then}
-use Rattle.speedate_base.proofs.RequirementLemmas.{first_fault_or-all}
+use Rattle.speedate_base.specs.Requirement.{fault_alone, AllHold, result_and_then}
 use Rattle.speedate_base.proofs.TextLemmas.{text-distinct}
 use Rattle.speedate.specs.Duration.{
   iso_from,
   iso_form,
-  unsigned_answer, unsigned_answer_or,
+  unsigned_answer,
+  unsigned_answer_or,
   duration_answer,
   counted_text,
   without_last_zeros,
@@ -49,6 +49,7 @@ use Rattle.speedate.specs.DurationNumbers.{
   IsDuration,
   signed_form,
 }
+use Rattle.speedate_base.proofs.RefusalLemmas.{refusal-all}
 use Rattle.speedate.specs.IsoForm.{
   IsoUnit,
   unit,
@@ -133,7 +134,7 @@ component-leads sums unit number fraction rest found comes whole is few few_days
     ) in
     iso_from-item sums (Component component) rest
     (item_at-component sums.is_time component rest is_item digits (ap is_some found))
-    ∙ first_fault_or-all (item_table sums (Component component)) _ all
+    ∙ refusal-all fault_alone (item_table sums (Component component)) _ all
     ∙ ap (λ (sums : IsoSums). iso_from sums rest) sum
 
 -- a number and its unit, or nothing for none, lead to the sums with that number of the unit

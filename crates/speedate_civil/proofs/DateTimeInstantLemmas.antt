@@ -34,9 +34,10 @@ use Rattle.speedate_civil.specs.DateTime.{
   meant_microsecond,
 }
 use Rattle.speedate_base.proofs.NearestLemmas.{nearest-is, scale-some}
-use Rattle.speedate_base.proofs.RequirementLemmas.{first_fault_or-value}
 use Rattle.speedate_base.proofs.TimestampLemmas.{instant_microsecond, instant_at-microsecond}
 use Rattle.speedate_civil.proofs.DayNumberLemmas.{day_number-date_of_number}
+use Rattle.speedate_base.proofs.RefusalLemmas.{refusal-value}
+use Rattle.speedate_base.specs.Requirement.{fault_alone}
 use Rattle.speedate_civil.proofs.ReadLemmas.{read-map, read-rows, read-then, read-value}
 
 later-is : (microseconds : ℕ) (instant : Instant)
@@ -88,9 +89,9 @@ date_time_timestamp-instant unit offset microseconds timestamp =
     ≡ meant_microsecond unit microseconds timestamp in
     read-then Is _ (instant_answer unit timestamp)
     (λ instant read. read-then Is _ (later_answer microseconds instant) (λ later after.
-    let at = first_fault_or-value (unit_table unit timestamp)
+    let at = refusal-value fault_alone (unit_table unit timestamp)
     (instant_at (timestamp_microsecond unit timestamp)) instant read in
-    let sum = first_fault_or-value (sum_table microseconds instant)
+    let sum = refusal-value fault_alone (sum_table microseconds instant)
     (later_instant microseconds instant) later after in
     instant_date_time-holds (λ (n : ℤ). n ≡ meant_microsecond unit microseconds timestamp)
     offset later

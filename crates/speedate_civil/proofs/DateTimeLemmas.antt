@@ -4,7 +4,7 @@ use Rattle.std.proofs.Common.{◌≡◌, ℕ, ◌+◌, true, List, [], ◌∷◌
 use Rattle.speedate_civil.specs.Base.{Behavior}
 use Rattle.speedate_base.specs.Ascii.{capital_t}
 use Rattle.speedate_base.specs.Offset.{IsWholeMinutes}
-use Rattle.speedate_base.specs.Requirement.{whole_or_fault, result_and_then}
+use Rattle.speedate_base.specs.Requirement.{fault_alone, whole_or_fault, result_and_then}
 use Rattle.speedate_civil.specs.DateTime.{
   DateAndTime,
   IsDateAndTime,
@@ -13,9 +13,9 @@ use Rattle.speedate_civil.specs.DateTime.{
   date_time_text,
 }
 use Rattle.speedate_civil.specs.Time.{end_fault, time_text, is_after_time}
-use Rattle.speedate_base.proofs.RequirementLemmas.{whole_or_fault-whole}
 use Rattle.speedate_civil.proofs.DateLemmas.{date_text-front}
 use Rattle.speedate_civil.proofs.FrontLemmas.{date_time_front-is}
+use Rattle.speedate_base.proofs.RefusalLemmas.{refusal-whole}
 use Rattle.speedate_civil.proofs.TimeLemmas.{time_text-front, nothing-after}
 
 -- the text by which a date-time is printed, at the front of another that is no part of it, is read
@@ -43,4 +43,4 @@ date_time_text-reads behavior value valid whole =
     ∙ date_time_text-front behavior value [] valid whole (nothing-after value.time) in
     let fault = λ (read : DateAndTime). end_fault read.time.offset in
     ap (result_and_then (whole_or_fault fault text)) front
-    ∙ whole_or_fault-whole fault text value (length text) refl
+    ∙ refusal-whole fault_alone fault text value (length text) refl

@@ -16,11 +16,11 @@ use Rattle.speedate_civil.specs.DateTime.{
   date_time_timestamp_answer,
   number_instant,
 }
-use Rattle.speedate_base.proofs.RequirementLemmas.{first_fault_or-all}
 use Rattle.speedate_base.proofs.TimestampLemmas.{instant_of_seconds}
 use Rattle.speedate_civil.specs.Base.{Behavior, ParseError, TimestampUnit}
 use Rattle.speedate_civil.proofs.DateOrderLemmas.{date_of_number-day_number}
 use Rattle.speedate_civil.proofs.DateTimestampLemmas.{day-of, second-of}
+use Rattle.speedate_base.proofs.RefusalLemmas.{refusal-all}
 use Rattle.speedate_civil.proofs.DayNumberLemmas.{day_number-small}
 
 -- less than a second more than an instant of whole seconds
@@ -41,7 +41,7 @@ pub instant_date_time-local : (value : DateAndTime) → IsDateAndTime value
     → instant_date_time value.time.offset
     (record { second = local_second value; microsecond = value.time.microsecond }) ≡ Ok value
 instant_date_time-local value valid =
-    grind (arith, ints, nat_tests, first_fault_or-all, day_number-small, date_time-at)
+    grind (arith, ints, nat_tests, refusal-all, day_number-small, date_time-at)
 
 -- its second and its microsecond, as a timestamp, lead back to it, where the offset is attached
 -- that it has

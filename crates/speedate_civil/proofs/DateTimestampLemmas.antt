@@ -4,7 +4,7 @@ use Rattle.speedate_civil.specs.Base.{TimestampUnit}
 use Rattle.std.specs.Int.{int_div_euclid, int_rem_euclid}
 use Rattle.std.proofs.lemmas.Bool.Decides.{nat_tests}
 use Rattle.std.proofs.lemmas.Int.{ints}
-use Rattle.speedate_base.specs.Requirement.{AllHold, result_and_then}
+use Rattle.speedate_base.specs.Requirement.{fault_alone, AllHold, result_and_then}
 use Rattle.speedate_base.specs.Timestamp.{
   Instant,
   first_second,
@@ -21,7 +21,7 @@ use Rattle.speedate_civil.specs.Date.{
   instant_date,
   second_at,
 }
-use Rattle.speedate_base.proofs.RequirementLemmas.{first_fault_or-all}
+use Rattle.speedate_base.proofs.RefusalLemmas.{refusal-all}
 use Rattle.speedate_base.proofs.TimestampLemmas.{instant_of_seconds}
 
 -- the day and the second of a day that a second is
@@ -67,7 +67,7 @@ date_timestamp-leads_back number date at exact numbered is =
     ap (λ (read : Instant). result_and_then (instant_date exact) (range_answer read))
     (instant_of_seconds at)
     ∙ ap (result_and_then (instant_date exact))
-    (first_fault_or-all (range_table instant) (Ok instant) (midnight-within number at there.0 is))
+    (refusal-all fault_alone (range_table instant) (Ok instant) (midnight-within number at there.0 is))
     ∙ midnight-date exact at number date midnight day there.1
 
 -- the seconds from 0000-01-01T00:00:00 to a second, in 64 bits

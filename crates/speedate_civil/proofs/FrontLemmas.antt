@@ -10,6 +10,7 @@ use Rattle.std.proofs.lemmas.List.{drop-take}
 use Rattle.speedate_base.specs.Ascii.{colon, hyphen}
 use Rattle.speedate_base.specs.Digits.{run_length, run_digits, two_digit_value, is_decimal_mark}
 use Rattle.speedate_base.specs.Requirement.{
+  fault_alone,
   AllHold,
   whole_or_fault,
   first_fault_or,
@@ -53,8 +54,8 @@ use Rattle.speedate_civil.specs.DateTime.{
   separator_table,
 }
 use Rattle.speedate_civil.specs.Date.{date_front, date_answer, date_numbers, date_table}
-use Rattle.speedate_base.proofs.RequirementLemmas.{first_fault_or-all, first_fault_or-ok}
 use Rattle.speedate_civil.proofs.OffsetLemmas.{offset-cases}
+use Rattle.speedate_base.proofs.RefusalLemmas.{refusal-all, refusal-ok}
 use Rattle.speedate_civil.proofs.ReadLemmas.{read-map, read-rows, read-then, read-value}
 
 -- bytes of a text, from a place on, and 0 for those after its end
@@ -150,8 +151,8 @@ signed-taken west sign rest is =
     is count within
     ∙ ap (signed_front west sign) dropped
     ∙ digits-taken west sign (count - sign) numbers _ refl (omega (arith, within))
-    ∙ first_fault_or-all (offset_digits numbers) _ digits
-    ∙ first_fault_or-all (offset_ranges numbers) _ ranges))
+    ∙ refusal-all fault_alone (offset_digits numbers) _ digits
+    ∙ refusal-all fault_alone (offset_ranges numbers) _ ranges))
 
 -- what begins no offset begins none in a front of it
 no_minus-taken : (rest : List ℕ) (count : ℕ) → has_minus_sign rest ≡ false
@@ -284,7 +285,7 @@ date_front-alone text =
     taken-alone (λ (date : Ymd). ParseError.ExtraCharacters) text (date_front (take 10 text))
     front inside
     (date-taken text 10 (omega arith) inside
-    ∙ first_fault_or-all (date_table text) (Ok front) rows))
+    ∙ refusal-all fault_alone (date_table text) (Ok front) rows))
 
 -- a date, a separator and a time are a date-time
 pub date_time_front-is : (behavior : Behavior) (text : List ℕ) (date : Ymd × ℕ)
@@ -303,7 +304,7 @@ date_time_front-taken behavior text =
     read-then _ _ (date_front text)
     (λ date dated. read-then _ _ (first_fault_or (separator_table text)
     (time_front behavior (drop 11 text))) (λ time read count within inside.
-    let after = first_fault_or-ok (separator_table text) _ time read in
+    let after = refusal-ok fault_alone (separator_table text) _ time read in
     let left : 11 + (count - 11) ≡ count = omega (arith, within) in
     date_time_front-is behavior (take count text) date time
     (date-taken text count (omega (arith, within)) inside ∙ dated)

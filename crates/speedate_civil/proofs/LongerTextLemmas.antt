@@ -10,6 +10,7 @@ use Rattle.speedate_base.specs.Config.{refuses_digits}
 use Rattle.speedate_base.specs.Digits.{run_length, two_digits_at, two_digit_value}
 use Rattle.speedate_base.specs.Numbers.{NoNumber, number_answer, whole_number}
 use Rattle.speedate_base.specs.Requirement.{
+  fault_alone,
   NumberRow,
   Requirement,
   TextRow,
@@ -21,7 +22,7 @@ use Rattle.speedate_base.specs.Requirement.{
   ◌implies◌,
   ◌>>=◌,
 }
-use Rattle.speedate_base.proofs.RequirementLemmas.{and_then-ok, whole_or_fault-longer}
+use Rattle.speedate_base.proofs.RequirementLemmas.{and_then-ok}
 use Rattle.speedate_civil.specs.Calendar.{Ymd}
 use Rattle.speedate_civil.specs.Date.{
   date_answer,
@@ -64,6 +65,7 @@ use Rattle.speedate_civil.proofs.NumberTextLemmas.{
   whole_number-none,
 }
 use Rattle.speedate_civil.proofs.OffsetLemmas.{offset-cases}
+use Rattle.speedate_base.proofs.RefusalLemmas.{refusal-longer}
 use Rattle.speedate_civil.proofs.ReadLemmas.{read-rows, read-value}
 
 -- An answer whose fault its first bytes show is the same as that of a longer text.
@@ -379,7 +381,7 @@ longer : {A : Type 0} (fault : A → ParseError) (text : List ℕ) (count : ℕ)
     → result_and_then (whole_or_fault fault (take count text)) answer ≡ Err (fault front.0)
 longer fault text count front answer read more inside =
     ap (result_and_then (whole_or_fault fault (take count text))) read
-    ∙ whole_or_fault-longer fault (take count text) front.0 front.1 (λ same.
+    ∙ refusal-longer fault_alone fault (take count text) front.0 front.1 (λ same.
     absurd (omega (arith, more, same, length-take-le count text inside)))
 
 -- a date at the front of a text is one of any front that is as long

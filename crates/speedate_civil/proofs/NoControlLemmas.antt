@@ -8,8 +8,7 @@ use Rattle.std.proofs.lemmas.List.Sums.{prefix_len_passes}
 use Rattle.std.specs.Char.{is_ascii_digit}
 use Rattle.speedate_base.specs.Ascii.{HasNoControl, colon, hyphen, space}
 use Rattle.speedate_base.specs.Digits.{run_length, four_digits_at, two_digits_at, is_decimal_mark}
-use Rattle.speedate_base.specs.Requirement.{AllHold, ◌implies◌, first_fault_or}
-use Rattle.speedate_base.proofs.RequirementLemmas.{first_fault_or-ok}
+use Rattle.speedate_base.specs.Requirement.{fault_alone, AllHold, ◌implies◌, first_fault_or}
 use Rattle.speedate_civil.specs.Calendar.{Ymd}
 use Rattle.speedate_civil.specs.Date.{date_front, date_numbers, date_table}
 use Rattle.speedate_civil.specs.DateTime.{date_time_front, is_separator, separator_table}
@@ -31,6 +30,7 @@ use Rattle.speedate_civil.specs.Time.{
 }
 use Rattle.speedate_civil.proofs.FrontLemmas.{clock-read, clock-size, minute_size}
 use Rattle.speedate_civil.proofs.OffsetLemmas.{offset-cases}
+use Rattle.speedate_base.proofs.RefusalLemmas.{refusal-ok}
 use Rattle.speedate_civil.proofs.ReadLemmas.{read-rows, read-then, read-value}
 
 -- bytes one after the other
@@ -201,7 +201,7 @@ date_time_front-no_control behavior text =
     read-then _ _ (date_front text)
     (λ date dated. read-then _ _ (first_fault_or (separator_table text) (time_front behavior rest))
     (λ time read.
-    let after = first_fault_or-ok (separator_table text) (time_front behavior rest) time read in
-    let rows = (first_fault_or-ok (date_table text) (Ok (date_numbers text, 10)) date dated).0 in
+    let after = refusal-ok fault_alone (separator_table text) (time_front behavior rest) time read in
+    let rows = (refusal-ok fault_alone (date_table text) (Ok (date_numbers text, 10)) date dated).0 in
     joined 11 time.1 text (more 10 text (date_rows text rows) (separator _ after.0.0))
     (read-value _ (time_front behavior rest) time after.1 (time_front-no_control behavior rest))))

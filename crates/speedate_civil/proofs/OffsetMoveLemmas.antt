@@ -3,11 +3,11 @@ use Rattle.std.proofs.Common.{◌≡◌, ◌∙◌, ap, sym, ℕ, ◌*◌, ◌<�
 use Rattle.speedate_civil.specs.Base.{ParseError}
 use Rattle.std.proofs.lemmas.Bool.Decides.{nat_tests}
 use Rattle.std.proofs.lemmas.Int.{ints}
-use Rattle.speedate_base.specs.Requirement.{AllHold, first_fault_or}
-use Rattle.speedate_base.proofs.RequirementLemmas.{first_fault_or-value}
+use Rattle.speedate_base.specs.Requirement.{fault_alone, AllHold, first_fault_or}
 use Rattle.speedate_base.specs.Timestamp.{seconds_per_day}
 use Rattle.speedate_civil.specs.Instant.{move_table}
 use Rattle.speedate_civil.specs.Time.{TimeOfDay, time_at, time_in_timezone, utc_second_of_day}
+use Rattle.speedate_base.proofs.RefusalLemmas.{refusal-value}
 use Rattle.speedate_civil.specs.DateTime.{DateAndTime, local_second, utc_second}
 
 -- where a clock moves by the difference of the offsets, its second is the instant's and the offset
@@ -16,7 +16,7 @@ pub clock-moved : (old : Option ℤ) (offset shift local second : ℤ)
     → second ≡ local +ℤ shift
     → AllHold (move_table offset old) × (second ≡ (local -ℤ unwrap_or old (pos 0)) +ℤ offset)
 clock-moved old offset shift local second moved sum =
-    let met = first_fault_or-value (move_table offset old) (offset -ℤ unwrap_or old (pos 0)) shift
+    let met = refusal-value fault_alone (move_table offset old) (offset -ℤ unwrap_or old (pos 0)) shift
     (sym moved) in
     (met.0, omega (arith, ints, met.1, sum))
 

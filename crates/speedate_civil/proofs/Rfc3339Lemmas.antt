@@ -80,6 +80,7 @@ use Rattle.speedate_base.specs.Digits.{
 use Rattle.speedate_base.specs.Numbers.{with_sign}
 use Rattle.speedate_base.specs.Config.{refuses_digits}
 use Rattle.speedate_base.specs.Requirement.{
+  fault_alone,
   Requirement,
   ◌implies◌,
   AllHold,
@@ -135,13 +136,7 @@ use Rattle.speedate_civil.specs.Standard.{
 }
 use Rattle.speedate_base.proofs.DigitRunLemmas.{run_length-append}
 use Rattle.speedate_base.proofs.NumberLemmas.{run-digits}
-use Rattle.speedate_base.proofs.RequirementLemmas.{
-  whole_or_fault-iff,
-  whole_or_fault-whole,
-  first_fault_or-all,
-  first_fault_or-ok,
-  first_fault_or-value,
-}
+use Rattle.speedate_base.proofs.RequirementLemmas.{whole_or_fault-iff}
 use Rattle.speedate_civil.proofs.ClockLemmas.{run_length-none, clock-secfrac, clock-whole}
 use Rattle.speedate_civil.proofs.DateLemmas.{date_text-front}
 use Rattle.speedate_civil.proofs.FrontLemmas.{
@@ -155,6 +150,7 @@ use Rattle.speedate_civil.proofs.FrontLemmas.{
 }
 use Rattle.speedate_civil.proofs.OffsetLemmas.{offset-cases}
 use Rattle.speedate_civil.proofs.ReadLemmas.{read-rows, read-then, read-value}
+use Rattle.speedate_base.proofs.RefusalLemmas.{refusal-all, refusal-ok, refusal-value, refusal-whole}
 use Rattle.speedate_civil.proofs.TimeLemmas.{front-printed}
 
 -- bytes of a text, from a place on, one by one
@@ -376,7 +372,7 @@ taken-of behavior text offset clock after read rest long second plain place =
       front.0,
       (
         ap (result_and_then (whole_or_fault fault text)) is
-            ∙ whole_or_fault-whole fault text front.0 front.1 (omega (arith, long, after.whole)),
+            ∙ refusal-whole fault_alone fault text front.0 front.1 (omega (arith, long, after.whole)),
         (second, (search rules, rows)),
       ),
     )
@@ -455,7 +451,7 @@ date-time-of behavior text rows =
     read-then _ _ (date_front text)
     (λ date dated. read-then _ _ (first_fault_or (separator_table text) (time_front behavior rest))
     (λ time timed whole.
-    let read = (first_fault_or-ok (separator_table text) (time_front behavior rest) time timed).1 in
+    let read = (refusal-ok fault_alone (separator_table text) (time_front behavior rest) time timed).1 in
     record {
       date = take 10 text;
       separator = slice_index text 10;
@@ -483,7 +479,7 @@ date-time-parts behavior date separator time valid parted value read =
     let is = date_time_front-is behavior text (date, 10) (value, length time)
     (date_text-front date (separator ∷ time) valid) (search rules, tt) front in
     ap (result_and_then (whole_or_fault fault_of text)) is
-    ∙ whole_or_fault-whole fault_of text whole (11 + length time) (omega arith)
+    ∙ refusal-whole fault_alone fault_of text whole (11 + length time) (omega arith)
 
 -- a text that the strict reader takes as a date-time
 abbrev DateTimeTaken : Behavior → List ℕ → Type 0
@@ -523,7 +519,7 @@ strict : {Place A B : Type 0} (view : A → B) (result : Result A ParseError)
     → ((value : B) → answer ≡ Ok value → AllHold rows → IsOne)
     → (IsOne → (value : B) × ((answer ≡ Ok value) × AllHold rows)) → IsOk result ↔ IsOne
 strict view result rows answer IsOne is to from =
-    grind (arith, first_fault_or-all, first_fault_or-value)
+    grind (arith, refusal-all, refusal-value)
 
 -- so a text is taken if and only if it is one of the rules
 pub time-standard : (behavior : Behavior) (text : List ℕ) (result : Result Time ParseError)

@@ -5,13 +5,7 @@ use Rattle.std.proofs.lemmas.Bool.Decides.{nat_tests}
 use Rattle.std.proofs.lemmas.List.{drop-drop, get_or-drop, get_or_past, length-drop}
 use Rattle.speedate_base.specs.Ascii.{colon, comma, hyphen}
 use Rattle.speedate_base.specs.Requirement.{fault_alone, first_fault_or, first_place, moved, refusal_map}
-use Rattle.speedate_base.proofs.RequirementLemmas.{
-  AreWithin,
-  are_within-moved,
-  first_fault_or-ok,
-  first_place-within,
-  whole_or_fault-iff,
-}
+use Rattle.speedate_base.proofs.RequirementLemmas.{AreWithin, are_within-moved, first_place-within, whole_or_fault-iff}
 use Rattle.speedate_civil.specs.Base.{Behavior, ParseError}
 use Rattle.speedate_civil.specs.Date.{date_front}
 use Rattle.speedate_civil.specs.DateTime.{
@@ -39,6 +33,7 @@ use Rattle.speedate_civil.specs.Time.{
 use Rattle.speedate_civil.proofs.ErrorPlaceLemmas.{date_time_answer-view, time_answer-view}
 use Rattle.speedate_civil.proofs.FrontLemmas.{clock-read, clock-size}
 use Rattle.speedate_civil.proofs.OffsetLemmas.{offset-cases}
+use Rattle.speedate_base.proofs.RefusalLemmas.{refusal-ok}
 use Rattle.speedate_civil.proofs.ReadLemmas.{read-rows, read-then, read-value}
 
 -- a comma stands within its text
@@ -149,7 +144,7 @@ date_time-rows-within behavior text =
     read-then _ _ (date_front text)
     (λ date dated. read-then _ _ (first_fault_or (separator_table text) (time_front behavior rest))
     (λ time timed whole.
-    let read = (first_fault_or-ok (separator_table text) (time_front behavior rest) time timed).1 in
+    let read = (refusal-ok fault_alone (separator_table text) (time_front behavior rest) time timed).1 in
     let size : 11 + length rest ≡ length text = omega (arith, whole, length-drop 11 text) in (
       λ fails. omega (arith, size),
       λ letter. subst (λ (size : ℕ). AreWithin size (moved 11 (standard_time rest))) size

@@ -6,7 +6,7 @@ use Rattle.std.specs.Char.{is_ascii_digit}
 use Rattle.speedate_base.specs.Ascii.{colon, full_stop}
 use Rattle.speedate_base.specs.Digits.{two_digit_text, six_digit_text, is_decimal_mark}
 use Rattle.speedate_base.specs.Offset.{IsWholeMinutes}
-use Rattle.speedate_base.specs.Requirement.{shifted, whole_or_fault, result_and_then}
+use Rattle.speedate_base.specs.Requirement.{fault_alone, shifted, whole_or_fault, result_and_then}
 use Rattle.speedate_civil.specs.Time.{
   Clock,
   at_hour,
@@ -26,8 +26,7 @@ use Rattle.speedate_civil.specs.Time.{
   time_text,
   is_after_time,
 }
-use Rattle.speedate_base.proofs.RefusalLemmas.{shifted-shifted}
-use Rattle.speedate_base.proofs.RequirementLemmas.{whole_or_fault-whole}
+use Rattle.speedate_base.proofs.RefusalLemmas.{refusal-whole, shifted-shifted}
 use Rattle.speedate_civil.proofs.ClockLemmas.{clock-whole, clock-fraction}
 use Rattle.speedate_civil.proofs.OffsetLemmas.{offset_text-first, offset_text-front}
 
@@ -103,4 +102,4 @@ time_text-reads behavior time valid whole =
     let front = sym (ap (time_front behavior) (append-nil text))
     ∙ time_text-front behavior time [] valid whole (nothing-after time) in
     ap (result_and_then (whole_or_fault fault text)) front
-    ∙ whole_or_fault-whole fault text time (length text) refl
+    ∙ refusal-whole fault_alone fault text time (length text) refl

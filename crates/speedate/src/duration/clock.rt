@@ -72,10 +72,7 @@ impl UnsignedDuration {
         ensures placed { IfErr result (E.lies_within (start + length rest.now)) }
     {
         if !takes_digits(behavior, rest.len(), REST_LENGTH_MAX) {
-            return Err(E::at(
-                ParseError::SecondFractionTooLong,
-                start + REST_LENGTH_MAX,
-            ));
+            return Err(E::at(ParseError::SecondFractionTooLong, start + REST_LENGTH_MAX));
         }
         if rest.len() < 2 {
             return Err(E::at(ParseError::TooShort, start + rest.len()));

@@ -73,11 +73,7 @@ impl UnsignedDuration {
 /// How many days the digits at the front are, and how many bytes they take with the word and the gap that
 /// follow them. They begin at `start` of the whole text.
 #[inline(always)]
-fn days_at_front<E: Refusal>(
-    bytes: &[u8],
-    days: DigitRun,
-    start: usize,
-) -> Result<(u32, usize), E>
+fn days_at_front<E: Refusal>(bytes: &[u8], days: DigitRun, start: usize) -> Result<(u32, usize), E>
     requires length { days.length ≡ run_length bytes.now 0 }
     requires value { days.value ≡ min (run_value bytes.now 0) (2 ^ 64 - 1) }
     requires start { start + length bytes.now + 16 ≤ usize.MAX }

@@ -28,9 +28,8 @@ ghost use Rattle.speedate.specs.IsoForm.{
 
 mod error_place;
 
-pub(super) use error_place::{Bound, first_item};
-
 use super::unsigned::UnsignedDuration;
+pub(super) use error_place::{Bound, first_item};
 use speedate_base::config::IsoOrder;
 use speedate_base::faults::ParseError;
 use speedate_base::numbers::{Fraction, byte_at, digit_run, few_digits, is_decimal_mark};

@@ -5,8 +5,12 @@ use Rattle.speedate.proofs.duration.clock.hours_refusal.Goals as goal
 
 pub overflow_add-start : goal.overflow_add-start
 overflow_add-start g c =
-    omega (arith, prefix_len-le-length is_ascii_digit c.args.bytes.now, c.requires.end,
-    c.requires.start)
+    omega (
+      arith,
+      prefix_len-le-length is_ascii_digit c.args.bytes.now,
+      c.requires.end,
+      c.requires.start,
+    )
 
 pub returns-in-None-clause-placed : goal.returns-in-None-clause-placed
 returns-in-None-clause-placed g c =

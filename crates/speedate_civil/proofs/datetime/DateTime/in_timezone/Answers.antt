@@ -3,7 +3,7 @@ use Rattle.std.proofs.lemmas.Bool.Decides.{nat_tests}
 use Rattle.std.proofs.lemmas.Int.{to_z-of_z}
 use Rattle.std.proofs.lemmas.Result.{err_from_is_err_and}
 use Rattle.speedate_civil.specs.Base.{ParseError}
-use Rattle.speedate_base.specs.Requirement.{AllHold}
+use Rattle.speedate_base.specs.Requirement.{fault_alone, AllHold}
 use Rattle.speedate_base.specs.Timestamp.{Instant}
 use Rattle.speedate_civil.specs.DateTime.{
   DateAndTime,
@@ -13,8 +13,8 @@ use Rattle.speedate_civil.specs.DateTime.{
   DateTime,
 }
 use Rattle.speedate_civil.specs.Instant.{move_table}
-use Rattle.speedate_base.proofs.RequirementLemmas.{first_fault_or-all, first_fault_or-next}
 use Rattle.speedate_civil.proofs.OffsetMoveLemmas.{second-moved, instant-kept}
+use Rattle.speedate_base.proofs.RefusalLemmas.{first_refusal_or-next, refusal-all}
 use Rattle.speedate_civil.proofs.datetime.DateTime.in_timezone.Goals as goal
 
 -- the offset can be had, and the second is the one that its clock shows
@@ -37,7 +37,7 @@ returns-in_err-shift-clause-answer c =
     let given : SFits w32 offset = search rules in
     let refused = simp to_z-of_z at c.in_err-shift.ensures.answer in
     let p = err_from_is_err_and c.from_residual.result c.from_residual.ensures.1 in
-    rw (p.1, p.2) (first_fault_or-next (move_table offset old) (offset -ℤ unwrap_or old (pos 0))
+    rw (p.1, p.2) (first_refusal_or-next fault_alone (move_table offset old) (offset -ℤ unwrap_or old (pos 0))
     (Err c.in_err-shift.field-0.0) _ refused)
 
 pub move_second-requires-clause-least : goal.move_second-requires-clause-least
@@ -51,7 +51,7 @@ move_second-requires-clause-largest c =
     rw (to_z-of_z w64 c.timestamp.result fits) c.timestamp.ensures.largest
 
 pub returns-clause-answer : goal.returns-clause-answer
-returns-clause-answer c = search (rules, to_z-of_z, first_fault_or-all, found)
+returns-clause-answer c = search (rules, to_z-of_z, refusal-all, found)
 
 -- what is shown at an offset has it, and the microsecond of the instant
 offset-of : (result : Result DateTime ParseError) (offset : Option ℤ) (instant : Instant)

@@ -1,10 +1,10 @@
 use Rattle.std.proofs.Common.{ap, Ok, Err}
 use Rattle.std.proofs.lemmas.Result.{err_from_is_err_and}
-use Rattle.speedate_base.specs.Requirement.{first_fault_or, result_and_then}
+use Rattle.speedate_base.specs.Requirement.{fault_alone, first_fault_or, result_and_then}
 use Rattle.speedate_civil.specs.DateTime.{DateAndTime, date_and_time}
 use Rattle.speedate_civil.specs.Standard.{standard_date_time}
-use Rattle.speedate_base.proofs.RequirementLemmas.{first_fault_or-read}
 use Rattle.speedate_civil.proofs.Rfc3339Lemmas.{date-time-standard}
+use Rattle.speedate_base.proofs.RefusalLemmas.{refusal-read}
 use Rattle.speedate_civil.proofs.datetime.DateTime.parse_bytes_strict.Goals as goal
 
 pub returns-in_err-require_standard-clause-answer
@@ -12,13 +12,13 @@ pub returns-in_err-require_standard-clause-answer
 returns-in_err-require_standard-clause-answer c =
     let p = err_from_is_err_and c.from_residual-in_err-require_standard.result
     c.from_residual-in_err-require_standard.ensures.1 in
-    rw (p.1, p.2) (first_fault_or-read (standard_date_time c.args.bytes.now)
+    rw (p.1, p.2) (refusal-read fault_alone (standard_date_time c.args.bytes.now)
     (date_and_time c.in_ok-value.value)
     _ _ c.in_ok-value.ensures.answer c.in_err-require_standard.ensures.answer)
 
 pub returns-clause-answer : goal.returns-clause-answer
 returns-clause-answer c =
-    first_fault_or-read (standard_date_time c.args.bytes.now) (date_and_time c.in_ok-value.value)
+    refusal-read fault_alone (standard_date_time c.args.bytes.now) (date_and_time c.in_ok-value.value)
     _ _ c.in_ok-value.ensures.answer c.in_ok-require_standard.ensures.answer
 
 pub returns-in_err-value-clause-standard : goal.returns-in_err-value-clause-standard

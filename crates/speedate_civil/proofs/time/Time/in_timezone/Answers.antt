@@ -2,7 +2,6 @@ use Rattle.std.proofs.Common.{◌∙◌, ap, sym, ℕ, pos, ◌+ℤ◌, ◌-ℤ�
 use Rattle.std.proofs.lemmas.Int.{ints, to_z-of_z}
 use Rattle.std.proofs.lemmas.Result.{err_from_is_err_and}
 use Rattle.std.proofs.lemmas.Grind.{common_steps}
-use Rattle.speedate_base.proofs.RequirementLemmas.{first_fault_or-next}
 use Rattle.speedate_civil.specs.Instant.{move_table}
 use Rattle.speedate_civil.specs.Time.{time_of_day}
 use Rattle.speedate_civil.proofs.OffsetMoveLemmas.{
@@ -14,6 +13,8 @@ use Rattle.speedate_civil.proofs.OffsetMoveLemmas.{
   second_of_day-kept,
 }
 use Rattle.speedate_civil.proofs.time.Time.in_timezone.Goals as goal
+use Rattle.speedate_base.proofs.RefusalLemmas.{first_refusal_or-next}
+use Rattle.speedate_base.specs.Requirement.{fault_alone}
 use Rattle.speedate_civil.proofs.time.Time.in_timezone.Goals.{
   then-second-lt0-via-then-second-lt0,
   then-second-lt0-via-else-second-lt0+then-second,
@@ -26,7 +27,7 @@ returns-in_err-shift-clause-answer c =
     let given : SFits w32 offset = search rules in
     let refused = simp to_z-of_z at c.in_err-shift.ensures.answer in
     let p = err_from_is_err_and c.from_residual.result c.from_residual.ensures.1 in
-    rw (p.1, p.2) (first_fault_or-next (move_table offset old) (offset -ℤ unwrap_or old (pos 0))
+    rw (p.1, p.2) (first_refusal_or-next fault_alone (move_table offset old) (offset -ℤ unwrap_or old (pos 0))
     (Err c.in_err-shift.field-0.0) _ refused)
 
 pub returns-then-second-lt0-clause-answer : goal.returns-then-second-lt0-clause-answer
