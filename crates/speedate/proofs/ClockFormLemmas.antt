@@ -1,10 +1,10 @@
 -- Where the hours of a clock end, and where no letter of a day stands: among digits, and in a
 -- clock.
-use Rattle.std.proofs.Common.{rules, arith, ◌∙◌, ap, sym, get_or, inl, inr, ap₂, ◌≡◌, ℕ, ◌-◌, ◌^◌, ◌<◌, ◌≤◌, min, Bool, true, false, List, length, take, ◌==◌, ◌&&◌, nat_lt, nat_le, refl, ◌+◌, ◌||◌, [], ◌∷◌, drop, if◌then◌else◌, Result, Ok, Err}
+use Rattle.std.proofs.Common.{rules, arith, ◌∙◌, ap, sym, get_or, ap₂, ◌≡◌, ℕ, ◌-◌, ◌^◌, ◌<◌, ◌≤◌, min, Bool, true, false, List, length, take, ◌==◌, ◌&&◌, nat_lt, nat_le, refl, ◌+◌, ◌||◌, [], ◌∷◌, drop, if◌then◌else◌, Result, Ok, Err}
 use Rattle.speedate_civil.specs.Base.{Behavior, ParseError}
 use Rattle.std.specs.Char.{is_ascii_digit}
 use Rattle.std.specs.List.{list_all, list_any, prefix_len}
-use Rattle.std.proofs.lemmas.Bool.{cases_lt, eqb-true}
+use Rattle.std.proofs.lemmas.Bool.{eqb-true}
 use Rattle.std.proofs.lemmas.Bool.Decides.{nat_tests}
 use Rattle.std.proofs.lemmas.List.{get_or_past, take-append-drop, drop_more, take_rest}
 use Rattle.std.proofs.lemmas.List.Sums.{position_or_len_is, passes_at_first, prefix_len_passes}
@@ -12,39 +12,16 @@ use Rattle.speedate_base.specs.Ascii.{colon}
 use Rattle.speedate_base.specs.Digits.{run_length, run_value, digits_value, two_digits_at}
 use Rattle.speedate_base.proofs.DigitRunLemmas.{run_length-ended, run-whole}
 use Rattle.speedate_base.proofs.NumberLemmas.{run-digits}
-use Rattle.speedate.specs.ClockForm.{
-  hours,
-  colon_place,
-  has_hours,
-  after_hours_or,
-  from_minute,
-  clock_end,
-  hours_table,
-  hours_range,
-  rest_table,
-  clock_numbers,
-  clock_form_or,
-}
+use Rattle.speedate.specs.ClockForm.{hours, colon_place, has_hours, after_hours_or, from_minute}
+use Rattle.speedate.specs.ClockForm.{clock_end, hours_table, hours_range, rest_table, clock_numbers}
+use Rattle.speedate.specs.ClockForm.{clock_form_or}
 use Rattle.std.proofs.lemmas.List.Folds.{list_any-append}
-use Rattle.speedate_base.specs.Requirement.{
-  AllHold,
-  ◌implies◌,
-  first_refusal_or,
-  result_and_then,
-  shifted,
-}
+use Rattle.speedate_base.specs.Requirement.{AllHold, ◌implies◌, first_refusal_or, result_and_then}
+use Rattle.speedate_base.specs.Requirement.{shifted}
 use Rattle.speedate_base.proofs.RefusalLemmas.{refusal-all, refusal-ok, refusal-value}
 use Rattle.speedate_base.proofs.RequirementLemmas.{and_then-ok}
-use Rattle.speedate_civil.specs.Time.{
-  Clock,
-  has_decimal_mark,
-  has_second,
-  minute_clock,
-  minute_digits,
-  minute_table,
-  minute_front_or,
-  clock_answer_or,
-}
+use Rattle.speedate_civil.specs.Time.{Clock, has_decimal_mark, has_second, minute_clock}
+use Rattle.speedate_civil.specs.Time.{minute_digits, minute_table, minute_front_or, clock_answer_or}
 use Rattle.speedate.specs.DayForm.{is_day_letter}
 use Rattle.speedate.specs.Duration.{has_days}
 use Rattle.speedate.specs.DurationNumbers.{UnsignedDuration}

@@ -4,18 +4,8 @@ use Rattle.std.proofs.Math.Seq.{take-nil}
 use Rattle.std.proofs.lemmas.List.{take-append-drop, drop-drop, drop-take, length-take, length-take-le}
 use Rattle.speedate.specs.declared.column.Line.{Line}
 use Rattle.speedate.specs.Lines.{whole_lines}
-use Rattle.speedate.specs.Column.{
-  Column,
-  IsFirstLine,
-  LineConfig,
-  LineError,
-  entry,
-  onto_column,
-  column,
-  line_answer,
-  text_column,
-  overwritten,
-}
+use Rattle.speedate.specs.Column.{Column, IsFirstLine, LineConfig, LineError, entry, onto_column}
+use Rattle.speedate.specs.Column.{column, line_answer, text_column, overwritten}
 
 -- nothing put over a list
 overwritten-nil : {N : Type 0} → (old : List N) → overwritten old [] ≡ old

@@ -1,24 +1,16 @@
 -- How the answer to an ISO 8601 duration goes on from item to item.
-use Rattle.std.proofs.Common.{rules, arith, ap, sym, ◌∙◌, lt_irrefl, ◌≡◌, ℕ, zero, suc, ◌-◌, ◌<◌, Bool, false, not, List, [], ◌∷◌, ◌++◌, ◌==◌, length, drop, slice_index, if◌then◌else◌, Result, Ok, Err, refl}
+use Rattle.std.proofs.Common.{rules, arith, ap, ◌∙◌, lt_irrefl, ◌≡◌, ℕ, zero, suc, ◌-◌, ◌<◌, Bool, not, List, [], ◌∷◌, ◌++◌, ◌==◌, length, drop, slice_index, if◌then◌else◌, Ok, Err, refl}
 use Rattle.speedate_civil.specs.Base.{Behavior, IsoOrder, ParseError}
 use Rattle.std.proofs.Math.Seq.{drop-append_seam}
 use Rattle.std.proofs.lemmas.List.{length-append}
-use Rattle.speedate_base.specs.Ascii.{capital_p, capital_t}
+use Rattle.speedate_base.specs.Ascii.{capital_p}
 use Rattle.speedate_base.specs.Numbers.{IsSign, has_minus, sign_size}
 use Rattle.speedate_base.specs.Requirement.{first_fault_or, result_and_then}
-use Rattle.speedate.specs.Duration.{iso_after, iso_after_or, iso_from, iso_form, form_answer, unsigned_answer_or, duration_answer}
+use Rattle.speedate.specs.Duration.{iso_after, iso_after_or, iso_from, iso_form, form_answer}
+use Rattle.speedate.specs.Duration.{unsigned_answer_or, duration_answer}
 use Rattle.speedate.specs.DurationNumbers.{signed_form}
-use Rattle.speedate_base.proofs.RefusalLemmas.{refusal-all, refusal-and_then}
-use Rattle.speedate.specs.IsoForm.{
-  Item,
-  TimeDesignator,
-  item_text,
-  IsoSums,
-  item_at,
-  item_table,
-  with_item,
-  sums_amount,
-}
+use Rattle.speedate.specs.IsoForm.{Item, item_text, IsoSums, item_at, item_table}
+use Rattle.speedate.specs.IsoForm.{with_item, sums_amount}
 
 -- the answer after the bytes of an item
 pub iso_after-skipped : (skipped : ℕ) (sums : IsoSums) (text : List ℕ)

@@ -5,69 +5,29 @@ use Rattle.speedate_civil.specs.Base.{ParseError}
 use Rattle.std.proofs.lemmas.Int.{ints}
 use Rattle.std.proofs.lemmas.Result.{IfOk-weaker}
 use Rattle.speedate_base.specs.Numbers.{with_sign}
-use Rattle.speedate_base.specs.Timestamp.{
-  seconds_per_day,
-  Instant,
-  first_second,
-  last_second,
-  instant_at,
-}
+use Rattle.speedate_base.specs.Timestamp.{seconds_per_day, Instant, first_second, last_second}
+use Rattle.speedate_base.specs.Timestamp.{instant_at}
 use Rattle.speedate_base.proofs.TimestampLemmas.{instant_at-microsecond, instant_at-is}
 use Rattle.speedate_civil.specs.declared.datetime.DateTime.{DateTime}
-use Rattle.speedate_civil.specs.DateTime.{
-  DateAndTime,
-  IsDateAndTime,
-  local_second,
-  local_microsecond,
-  utc_microsecond,
-  date_and_time,
-  IsShownAt,
-  instant_date_time,
-}
+use Rattle.speedate_civil.specs.DateTime.{DateAndTime, IsDateAndTime, local_second}
+use Rattle.speedate_civil.specs.DateTime.{local_microsecond, utc_microsecond, date_and_time}
+use Rattle.speedate_civil.specs.DateTime.{IsShownAt, instant_date_time}
 use Rattle.speedate_civil.proofs.DateTimeInstantLemmas.{instant_date_time-shown}
 use Rattle.speedate_civil.proofs.DateTimeTimestampLemmas.{instant_date_time-local}
-use Rattle.speedate.specs.Duration.{
-  duration_numbers,
-  Duration,
-  signed_amount,
-  duration_of_amount,
-  amount_answer,
-  with_positive_zero,
-  duration_between,
-  date_time_later,
-  negated,
-  date_later,
-  is_whole_days,
-}
-use Rattle.speedate.specs.DurationNumbers.{
-  DurationNumbers,
-  IsDuration,
-  amount_microseconds,
-  of_amount,
-  normal_form,
-  signed_day,
-  signed_seconds,
-  signed_microsecond,
-}
+use Rattle.speedate.specs.Duration.{duration_numbers, Duration, signed_amount, duration_of_amount}
+use Rattle.speedate.specs.Duration.{amount_answer, with_positive_zero, duration_between}
+use Rattle.speedate.specs.Duration.{date_time_later, negated, date_later, is_whole_days}
+use Rattle.speedate.specs.DurationNumbers.{DurationNumbers, IsDuration, amount_microseconds}
+use Rattle.speedate.specs.DurationNumbers.{of_amount, normal_form, signed_day, signed_seconds}
+use Rattle.speedate.specs.DurationNumbers.{signed_microsecond}
 use Rattle.speedate_base.specs.Requirement.{fault_alone, ◌else_fault◌, first_fault_or, result_map}
 use Rattle.speedate_civil.specs.declared.date.Date.{Date}
-use Rattle.speedate_civil.specs.Calendar.{
-  Ymd,
-  day_number,
-  date_counted,
-  date_order,
-  days_between,
-}
+use Rattle.speedate_civil.specs.Calendar.{Ymd, day_number, date_counted, date_order, days_between}
 use Rattle.speedate_civil.specs.Date.{ymd}
 use Rattle.speedate_civil.proofs.DateOrderLemmas.{counted-order, date_numbered-is}
 use Rattle.speedate_base.proofs.RefusalLemmas.{refusal-all}
-use Rattle.speedate_civil.proofs.ValueLemmas.{
-  is_day,
-  is_date_and_time,
-  offset-small,
-  local_second-late,
-  local_second-early,
-}
+use Rattle.speedate_civil.proofs.ValueLemmas.{is_day, is_date_and_time, offset-small}
+use Rattle.speedate_civil.proofs.ValueLemmas.{local_second-late, local_second-early}
 
 -- numbers in their ranges are those of their amount
 pub of_amount-only : (numbers : DurationNumbers) → IsDuration numbers

@@ -1,91 +1,32 @@
--- Durations with another refusal: those with a place have the faults of the grammar. And how the items
--- of an ISO 8601 duration follow one another, with any refusal.
-use Rattle.std.proofs.Common.{◌≡◌, ◌≤◌, ◌<◌, ◌+◌, ◌-◌, ◌∙◌, ◌==◌, ℕ, zero, suc, Bool, true, false, not, List, [], ◌∷◌, length, drop, slice_index, if◌then◌else◌, Option, Some, None, Result, Ok, Err, IsOk, refl, sym, ap, subst, rules, arith, lt_irrefl}
-use Rattle.std.specs.Option.{option_map}
+-- Durations with another refusal: those with a place have the faults of the grammar. And how the
+-- items of an ISO 8601 duration follow one another, with any refusal.
+use Rattle.std.proofs.Common.{◌≡◌, ◌≤◌, ◌<◌, ◌+◌, ◌-◌, ◌∙◌, ◌==◌, ℕ, zero, suc, Bool, true, false, not, List, [], ◌∷◌, length, drop, slice_index, if◌then◌else◌, Result, Ok, Err, IsOk, refl, sym, ap, subst, arith, lt_irrefl}
 use Rattle.std.proofs.lemmas.Bool.Decides.{nat_tests}
 use Rattle.std.proofs.lemmas.List.{length-drop}
 use Rattle.speedate_civil.specs.Base.{Behavior, IsoOrder, ParseError}
 use Rattle.speedate_base.specs.Ascii.{capital_p, capital_t}
 use Rattle.speedate_base.specs.Digits.{digits_value, run_value}
 use Rattle.speedate_base.specs.Numbers.{has_minus, sign_size}
-use Rattle.speedate_base.specs.Refused.{placed, refused_place}
+use Rattle.speedate_base.specs.Refused.{placed}
 use Rattle.speedate_base.specs.declared.refusal.Refused.{Refused}
-use Rattle.speedate_base.specs.Requirement.{
-  TextRow,
-  fault_alone,
-  first_place,
-  first_refusal_or,
-  refusal_map,
-  result_and_then,
-  shifted,
-}
-use Rattle.speedate_base.proofs.RefusalLemmas.{
-  chain-view,
-  first_refusal_or-next,
-  first_refusal_or-view,
-  refusal-all,
-  refusal-value,
-  shifted-none,
-  shifted-shifted,
-  then-view,
-  through,
-}
-use Rattle.speedate_civil.specs.Time.{Clock, minute_clock, minute_digits, minute_front_or, minute_table}
-use Rattle.speedate.specs.ClockForm.{
-  clock_end,
-  clock_form_or,
-  clock_numbers,
-  colon_place,
-  from_minute,
-  hours,
-  hours_range,
-  hours_table,
-  rest_table,
-}
-use Rattle.speedate.specs.DayForm.{
-  after_days_or,
-  day_form_or,
-  days_size,
-  days_table,
-  hours_of_day,
-}
-use Rattle.speedate.specs.Duration.{
-  duration_answer_or,
-  form_answer_or,
-  has_days,
-  iso_after_or,
-  iso_form,
-  iso_form_or,
-  iso_from,
-  iso_from_or,
-  signed_form_or,
-  unsigned_answer_or,
-}
-use Rattle.speedate.specs.DurationNumbers.{
-  DurationNumbers,
-  UnsignedDuration,
-  amount_microseconds,
-  normal_table,
-  of_amount,
-}
-use Rattle.speedate.specs.DurationPlace.{
-  amount_numbers,
-  amount_place,
-  at_bytes,
-  first_item_after,
-  normal_places,
-}
-use Rattle.speedate.specs.IsoForm.{
-  IsoSums,
-  Item,
-  TimeDesignator,
-  item_at,
-  item_table,
-  item_text,
-  no_sums,
-  sums_amount,
-  with_item,
-}
+use Rattle.speedate_base.specs.Requirement.{refusal_map, shifted}
+use Rattle.speedate_base.proofs.RefusalLemmas.{chain-view, first_refusal_or-next}
+use Rattle.speedate_base.proofs.RefusalLemmas.{first_refusal_or-view, refusal-all, refusal-value}
+use Rattle.speedate_base.proofs.RefusalLemmas.{shifted-none, shifted-shifted, then-view, through}
+use Rattle.speedate_civil.specs.Time.{Clock, minute_clock, minute_digits, minute_front_or}
+use Rattle.speedate_civil.specs.Time.{minute_table}
+use Rattle.speedate.specs.ClockForm.{clock_end, clock_form_or, clock_numbers, colon_place}
+use Rattle.speedate.specs.ClockForm.{from_minute, hours, hours_range, hours_table, rest_table}
+use Rattle.speedate.specs.DayForm.{after_days_or, day_form_or, days_size, days_table, hours_of_day}
+use Rattle.speedate.specs.Duration.{duration_answer_or, form_answer_or, has_days, iso_after_or}
+use Rattle.speedate.specs.Duration.{iso_form, iso_form_or, iso_from_or}
+use Rattle.speedate.specs.Duration.{unsigned_answer_or}
+use Rattle.speedate.specs.DurationNumbers.{DurationNumbers, UnsignedDuration, amount_microseconds}
+use Rattle.speedate.specs.DurationNumbers.{normal_table, of_amount}
+use Rattle.speedate.specs.DurationPlace.{amount_numbers, amount_place, at_bytes, first_item_after}
+use Rattle.speedate.specs.DurationPlace.{normal_places}
+use Rattle.speedate.specs.IsoForm.{IsoSums, Item, TimeDesignator, item_at, item_table, item_text}
+use Rattle.speedate.specs.IsoForm.{no_sums, sums_amount, with_item}
 use Rattle.speedate.specs.IsoParts.{IsIsoRead, item_front_or}
 use Rattle.speedate.proofs.DurationAnswerLemmas.{item_text-some}
 
@@ -109,7 +50,8 @@ iso_after-view view refuse skipped sums [] =
 iso_after-view view refuse zero sums (byte ∷ rest) =
     let item = item_at (byte ∷ rest) in
     chain-view view refuse (item_table sums item) _ _
-    (iso_after-view view (shifted 1 refuse) (length (item_text item) - 1) (with_item item sums) rest)
+    (iso_after-view view (shifted 1 refuse) (length (item_text item) - 1) (with_item item sums)
+    rest)
 iso_after-view view refuse (suc skipped) sums (byte ∷ rest) =
     iso_after-view view (shifted 1 refuse) skipped sums rest
 
@@ -427,7 +369,8 @@ first_item-done test sums (byte ∷ rest) none = absurd (omega (arith, none))
 
 is_read : (answer : Result UnsignedDuration ParseError) (amount : UnsignedDuration)
     → Ok amount ≡ answer → IsOk answer
-is_read answer amount same = subst (λ (answer : Result UnsignedDuration ParseError). IsOk answer) same refl
+is_read answer amount same = subst (λ (answer : Result UnsignedDuration ParseError). IsOk answer)
+    same refl
 
 -- a duration that is read has read items
 pub iso-read : (start : ℕ) (order : IsoOrder) (behavior : Behavior) (text : List ℕ)

@@ -10,21 +10,9 @@ use Rattle.speedate.specs.Duration.{iso_from, duration_answer}
 use Rattle.speedate.proofs.DurationAnswerLemmas.{iso_from-item, duration_answer-iso}
 use Rattle.speedate.specs.DurationNumbers.{DurationNumbers, UnsignedDuration, signed_form}
 use Rattle.speedate.specs.IsoOrder.{IsWhole, AreWhole, IsPlain, AreExchanged}
-use Rattle.speedate.specs.IsoForm.{
-  IsoUnit,
-  units,
-  ComponentText,
-  Item,
-  Component,
-  item_text,
-  item_at,
-  item_table,
-  IsoSums,
-  no_sums,
-  with_component,
-  with_item,
-  with_items,
-}
+use Rattle.speedate.specs.IsoForm.{IsoUnit, units, ComponentText, Item, Component, item_text}
+use Rattle.speedate.specs.IsoForm.{item_at, item_table, IsoSums, no_sums, with_component, with_item}
+use Rattle.speedate.specs.IsoForm.{with_items}
 use Rattle.speedate.proofs.IsoItemLemmas.{item_at-component}
 
 -- what is one item by its bytes is read as it, whatever follows

@@ -6,42 +6,22 @@ use Rattle.speedate_base.specs.Numbers.{number_answer, whole_number}
 use Rattle.speedate_base.specs.Requirement.{first_fault_or, or_number, result_and_then}
 use Rattle.speedate_civil.specs.Calendar.{Ymd, days_between}
 use Rattle.speedate_civil.specs.Date.{date_answer, date_front, date_timestamp_answer}
-use Rattle.speedate_civil.specs.DateTime.{
-  DateAndTime,
-  date_time_answer,
-  date_time_front,
-  date_time_number_answer,
-  utc_microsecond,
-}
+use Rattle.speedate_civil.specs.DateTime.{DateAndTime, date_time_answer, date_time_front}
+use Rattle.speedate_civil.specs.DateTime.{date_time_number_answer, utc_microsecond}
 use Rattle.speedate_civil.specs.ParserParts.{refusal_size}
 use Rattle.speedate_civil.specs.Standard.{standard_date_time, strict_date_time_answer}
 use Rattle.speedate_civil.specs.Time.{end_fault}
-use Rattle.speedate_civil.proofs.LongerTextLemmas.{
-  date_answer-longer,
-  date_or_timestamp-longer,
-  date_time_answer-longer,
-  date_time_answer-refused,
-  date_time_by_config-longer,
-  date_time_by_config-refused,
-}
+use Rattle.speedate_civil.proofs.LongerTextLemmas.{date_answer-longer, date_or_timestamp-longer}
+use Rattle.speedate_civil.proofs.LongerTextLemmas.{date_time_answer-longer}
+use Rattle.speedate_civil.proofs.LongerTextLemmas.{date_time_answer-refused}
+use Rattle.speedate_civil.proofs.LongerTextLemmas.{date_time_by_config-longer}
+use Rattle.speedate_civil.proofs.LongerTextLemmas.{date_time_by_config-refused}
 use Rattle.speedate.specs.declared.column.date.DateReader.{DateReader}
 use Rattle.speedate.specs.declared.column.date_time.DateTimeParser.{DateTimeParser}
 use Rattle.speedate.specs.declared.column.date_time.DateTimeReader.{DateTimeReader}
-use Rattle.speedate.specs.Column.{
-  HasNoEnd,
-  IsFront,
-  LineError,
-  as_number,
-  date_number,
-  date_of_line,
-  date_time_number,
-  date_time_of_line,
-  epoch,
-  refused_front,
-  text_behavior,
-  text_table,
-  with_offset,
-}
+use Rattle.speedate.specs.Column.{HasNoEnd, IsFront, LineError, as_number, date_number}
+use Rattle.speedate.specs.Column.{date_of_line, date_time_number, date_time_of_line, epoch}
+use Rattle.speedate.specs.Column.{refused_front, text_behavior, text_table, with_offset}
 use Rattle.speedate.proofs.LineLemmas.{IsOneLine-printed, no_return-printed}
 
 -- nothing is read of no bytes

@@ -10,39 +10,15 @@ use Rattle.speedate_base.specs.Numbers.{has_minus, sign_size}
 use Rattle.speedate_base.proofs.NumberLemmas.{sign-of_text}
 use Rattle.speedate_base.specs.Requirement.{fault_alone, first_fault_or, AllHold, result_and_then}
 use Rattle.speedate.specs.DurationNumbers.{DurationNumbers, signed_form}
-use Rattle.speedate.specs.Duration.{
-  form_answer,
-  iso_after,
-  iso_after_or,
-  iso_from,
-  iso_form,
-  unsigned_answer,
-  unsigned_answer_or,
-  duration_answer,
-}
-use Rattle.speedate.proofs.DurationAnswerLemmas.{duration_answer-form, iso_from-item, duration_answer-iso}
+use Rattle.speedate.specs.Duration.{form_answer, iso_after, iso_after_or, iso_from, iso_form}
+use Rattle.speedate.specs.Duration.{unsigned_answer_or, duration_answer}
+use Rattle.speedate.proofs.DurationAnswerLemmas.{duration_answer-form, iso_from-item}
+use Rattle.speedate.proofs.DurationAnswerLemmas.{duration_answer-iso}
 use Rattle.speedate.specs.IsoOrder.{IsLaxOrRefused, IsAnswerInOrder, are_in_order, IsMadeOf, is_iso}
-use Rattle.speedate.specs.IsoForm.{
-  IsoUnit,
-  units,
-  unit_in,
-  ComponentText,
-  Item,
-  TimeDesignator,
-  Component,
-  item_text,
-  item_at,
-  item_table,
-  units_after,
-  IsoSums,
-  no_sums,
-  with_component,
-  with_item,
-  with_items,
-  AreGood,
-  sums_amount,
-  Ends,
-}
+use Rattle.speedate.specs.IsoForm.{IsoUnit, units, unit_in, ComponentText, Item, TimeDesignator}
+use Rattle.speedate.specs.IsoForm.{Component, item_text, item_at, item_table, units_after, IsoSums}
+use Rattle.speedate.specs.IsoForm.{no_sums, with_component, with_item, with_items, AreGood}
+use Rattle.speedate.specs.IsoForm.{sums_amount, Ends}
 use Rattle.speedate.proofs.IsoFormLemmas.{Answer, answer-only, iso_after-is}
 use Rattle.speedate_base.proofs.RefusalLemmas.{refusal-all}
 use Rattle.speedate.proofs.IsoItemLemmas.{item_at-text}

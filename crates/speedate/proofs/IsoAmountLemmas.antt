@@ -9,29 +9,11 @@ use Rattle.speedate_base.specs.Requirement.{fault_alone, result_and_then}
 use Rattle.speedate_base.specs.Timestamp.{seconds_per_day}
 use Rattle.speedate.specs.Duration.{duration_answer, duration_numbers, ◌gives◌, Duration}
 use Rattle.speedate.proofs.FractionLemmas.{fraction_amount, fraction_amount-is}
-use Rattle.speedate.specs.DurationNumbers.{
-  DurationNumbers,
-  amount_microseconds,
-  of_amount,
-  normal_table,
-  signed_form,
-}
-use Rattle.speedate.specs.IsoForm.{
-  IsoUnit,
-  units,
-  unit_in,
-  ComponentText,
-  Item,
-  TimeDesignator,
-  Component,
-  IsoSums,
-  no_sums,
-  with_component,
-  with_item,
-  with_items,
-  AreGood,
-  sums_amount,
-}
+use Rattle.speedate.specs.DurationNumbers.{DurationNumbers, amount_microseconds, of_amount}
+use Rattle.speedate.specs.DurationNumbers.{normal_table, signed_form}
+use Rattle.speedate.specs.IsoForm.{IsoUnit, units, unit_in, ComponentText, Item, TimeDesignator}
+use Rattle.speedate.specs.IsoForm.{Component, IsoSums, no_sums, with_component, with_item}
+use Rattle.speedate.specs.IsoForm.{with_items, AreGood, sums_amount}
 use Rattle.speedate.specs.IsoAmount.{unit_microseconds, IsComponentAmount, IsSumOf, IsAmountOf}
 use Rattle.speedate.specs.IsoOrder.{IsMadeOf}
 use Rattle.speedate_base.proofs.RefusalLemmas.{refusal-value}

@@ -8,33 +8,12 @@ use Rattle.std.proofs.Math.Seq.{drop-nil}
 use Rattle.speedate_base.specs.Ascii.{capital_p}
 use Rattle.speedate_base.specs.Numbers.{has_minus, sign_size}
 use Rattle.speedate_base.specs.Requirement.{fault_alone, first_fault_or, AllHold, result_and_then}
-use Rattle.speedate.specs.Duration.{
-  iso_after,
-  iso_after_or,
-  iso_form,
-  form_answer,
-  unsigned_answer,
-  unsigned_answer_or,
-  duration_answer,
-  IsGrammarAnswer,
-}
+use Rattle.speedate.specs.Duration.{iso_after, iso_after_or, iso_form, form_answer, unsigned_answer}
+use Rattle.speedate.specs.Duration.{unsigned_answer_or, duration_answer, IsGrammarAnswer}
 use Rattle.speedate.specs.DurationNumbers.{DurationNumbers, UnsignedDuration, signed_form}
-use Rattle.speedate.specs.IsoForm.{
-  Item,
-  item_text,
-  IsItem,
-  item_at,
-  IsoSums,
-  no_sums,
-  with_item,
-  with_items,
-  item_table,
-  AreGood,
-  sums_amount,
-  Ends,
-  IsEndedFront,
-  IsAnswerFrom,
-}
+use Rattle.speedate.specs.IsoForm.{Item, item_text, IsItem, item_at, IsoSums, no_sums, with_item}
+use Rattle.speedate.specs.IsoForm.{with_items, item_table, AreGood, sums_amount, Ends, IsEndedFront}
+use Rattle.speedate.specs.IsoForm.{IsAnswerFrom}
 use Rattle.speedate_base.proofs.RefusalLemmas.{first_refusal_or-next, refusal-all, refusal-value}
 use Rattle.speedate.proofs.IsoItemLemmas.{item_at-text, item-front}
 

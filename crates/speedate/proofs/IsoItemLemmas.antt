@@ -13,23 +13,9 @@ use Rattle.speedate_base.specs.Digits.{run_length, is_decimal_mark}
 use Rattle.speedate_base.proofs.DigitRunLemmas.{run_length-append}
 use Rattle.speedate_base.proofs.NumberLemmas.{run-digits}
 use Rattle.speedate_base.specs.Requirement.{AllHold}
-use Rattle.speedate.specs.IsoForm.{
-  IsoUnit,
-  units,
-  unit_in,
-  ComponentText,
-  Item,
-  TimeDesignator,
-  Component,
-  item_text,
-  IsFraction,
-  IsItem,
-  fraction_size,
-  component_at,
-  item_at,
-  IsoSums,
-  item_table,
-}
+use Rattle.speedate.specs.IsoForm.{IsoUnit, units, unit_in, ComponentText, Item, TimeDesignator}
+use Rattle.speedate.specs.IsoForm.{Component, item_text, IsFraction, IsItem, fraction_size}
+use Rattle.speedate.specs.IsoForm.{component_at, item_at, IsoSums, item_table}
 use Rattle.speedate.specs.IsoParts.{unit_place}
 
 -- the designator of a unit is no digit and no decimal mark

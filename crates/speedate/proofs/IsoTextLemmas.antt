@@ -9,67 +9,27 @@ use Rattle.std.proofs.lemmas.Bool.Decides.{nat_tests}
 use Rattle.std.proofs.lemmas.Fmt.{digits_decimal, digits_value-decimal, decimal_nonempty, decimal_digit}
 use Rattle.std.proofs.lemmas.List.{append-nil}
 use Rattle.std.proofs.lemmas.Str.Parse.{IsDigitsTest, IsNumeralModel, numerals_by_weight}
-use Rattle.speedate_base.specs.Ascii.{
-  full_stop,
-  capital_d,
-  capital_h,
-  capital_m,
-  capital_s,
-  capital_t,
-  capital_y,
-}
+use Rattle.speedate_base.specs.Ascii.{full_stop, capital_d, capital_h, capital_m, capital_s}
+use Rattle.speedate_base.specs.Ascii.{capital_t, capital_y}
 use Rattle.speedate_base.specs.Digits.{six_digit_text, digits_value}
 use Rattle.speedate_base.specs.Requirement.{fault_alone, AllHold, result_and_then}
 use Rattle.speedate_base.proofs.TextLemmas.{text-distinct}
-use Rattle.speedate.specs.Duration.{
-  iso_from,
-  iso_form,
-  unsigned_answer,
-  unsigned_answer_or,
-  duration_answer,
-  counted_text,
-  without_last_zeros,
-  short_fraction_text,
-  seconds_text,
-  hours_text,
-  days_text,
-  start_text,
-  rest_text,
-  is_whole_days,
-  duration_text,
-}
+use Rattle.speedate.specs.Duration.{iso_from, iso_form}
+use Rattle.speedate.specs.Duration.{duration_answer, counted_text, without_last_zeros}
+use Rattle.speedate.specs.Duration.{short_fraction_text, seconds_text, hours_text, days_text}
+use Rattle.speedate.specs.Duration.{start_text, rest_text, is_whole_days, duration_text}
 use Rattle.speedate.proofs.DurationAnswerLemmas.{duration_answer-form, iso_from-item, iso_from-end}
 use Rattle.speedate.proofs.IsoItemLemmas.{item_at-component}
 use Rattle.speedate.specs.IsoOrder.{IsLaxOrRefused}
 use Rattle.speedate.proofs.InOrderLemmas.{duration-both}
 use Rattle.speedate.proofs.DurationLemmas.{normal_form-same}
-use Rattle.speedate.specs.DurationNumbers.{
-  DurationNumbers,
-  UnsignedDuration,
-  IsDuration,
-  signed_form,
-}
+use Rattle.speedate.specs.DurationNumbers.{DurationNumbers, UnsignedDuration, IsDuration}
+use Rattle.speedate.specs.DurationNumbers.{signed_form}
 use Rattle.speedate_base.proofs.RefusalLemmas.{refusal-all}
-use Rattle.speedate.specs.IsoForm.{
-  IsoUnit,
-  unit,
-  units,
-  unit_in,
-  units_after,
-  ComponentText,
-  TimeDesignator,
-  Component,
-  IsItem,
-  IsFraction,
-  IsoSums,
-  fraction_seconds,
-  fraction_microseconds,
-  with_number,
-  with_component,
-  with_item,
-  are_counted,
-  item_table,
-}
+use Rattle.speedate.specs.IsoForm.{IsoUnit, unit, units, unit_in, units_after, ComponentText}
+use Rattle.speedate.specs.IsoForm.{TimeDesignator, Component, IsItem, IsFraction, IsoSums}
+use Rattle.speedate.specs.IsoForm.{fraction_seconds, fraction_microseconds, with_number}
+use Rattle.speedate.specs.IsoForm.{with_component, with_item, are_counted, item_table}
 
 -- a number without leading zeros is digits that spell it
 abbrev AreDigits : List ℕ → Type 0

@@ -7,16 +7,8 @@ use Rattle.speedate_civil.specs.Base.{Behavior, ParseError}
 use Rattle.speedate_base.specs.Ascii.{colon}
 use Rattle.speedate_base.specs.Digits.{digits_value, run_length}
 use Rattle.speedate_base.specs.Config.{refuses_digits}
-use Rattle.speedate_base.specs.Requirement.{
-  TextRow,
-  ◌at_byte◌,
-  ◌else_fault◌,
-  ◌implies◌,
-  fault_alone,
-  first_refusal_or,
-  result_and_then,
-  shifted,
-}
+use Rattle.speedate_base.specs.Requirement.{TextRow, ◌at_byte◌, ◌else_fault◌, ◌implies◌}
+use Rattle.speedate_base.specs.Requirement.{first_refusal_or, result_and_then, shifted}
 use Rattle.speedate_civil.specs.Time.{Clock, minute_front_or}
 use Rattle.speedate.specs.DurationNumbers.{UnsignedDuration}
 

@@ -7,12 +7,8 @@ use Rattle.speedate_base.specs.Fault.{fault_number}
 use Rattle.speedate_base.specs.Requirement.{TextRow, ◌else_fault◌, first_fault_or, result_and_then}
 use Rattle.speedate_civil.specs.Calendar.{Ymd, days_between}
 use Rattle.speedate_civil.specs.Date.{date_answer, date_or_timestamp}
-use Rattle.speedate_civil.specs.DateTime.{
-  DateAndTime,
-  date_time_answer,
-  date_time_by_config,
-  utc_microsecond,
-}
+use Rattle.speedate_civil.specs.DateTime.{DateAndTime, date_time_answer, date_time_by_config}
+use Rattle.speedate_civil.specs.DateTime.{utc_microsecond}
 use Rattle.speedate_civil.specs.Standard.{standard_date_time, strict_date_time_answer}
 pub use Rattle.speedate.specs.declared.column.LineConfig.{LineConfig}
 pub use Rattle.speedate.specs.declared.column.LineError.{LineError}

@@ -4,62 +4,24 @@ use Rattle.std.specs.Fmt.{decimal}
 use Rattle.std.specs.List.{list_any}
 use Rattle.std.specs.Option.{ok_or}
 use Rattle.speedate_civil.specs.Base.{Behavior, IsoOrder, ParseError}
-use Rattle.speedate_base.specs.Ascii.{
-  capital_p,
-  hyphen,
-  full_stop,
-  digit_zero,
-  capital_d,
-  capital_h,
-  capital_m,
-  capital_s,
-  capital_t,
-  capital_y,
-}
+use Rattle.speedate_base.specs.Ascii.{capital_p, hyphen, full_stop, digit_zero, capital_d}
+use Rattle.speedate_base.specs.Ascii.{capital_h, capital_m, capital_s, capital_t, capital_y}
 use Rattle.speedate_base.specs.Digits.{six_digit_text}
 use Rattle.speedate_base.specs.Numbers.{has_minus, sign_size, with_sign}
-use Rattle.speedate_base.specs.Requirement.{
-  fault_alone,
-  first_fault_or,
-  first_refusal_or,
-  result_and_then,
-  ◌else_fault◌,
-  result_map,
-  shifted,
-}
+use Rattle.speedate_base.specs.Requirement.{fault_alone, first_fault_or, first_refusal_or}
+use Rattle.speedate_base.specs.Requirement.{result_and_then, ◌else_fault◌, result_map, shifted}
 use Rattle.speedate_base.specs.Timestamp.{instant_at}
 use Rattle.speedate_civil.specs.Calendar.{Ymd, date_added, days_between}
-use Rattle.speedate_civil.specs.DateTime.{
-  DateAndTime,
-  local_microsecond,
-  utc_microsecond,
-  instant_date_time,
-}
+use Rattle.speedate_civil.specs.DateTime.{DateAndTime, local_microsecond, utc_microsecond}
+use Rattle.speedate_civil.specs.DateTime.{instant_date_time}
 pub use Rattle.speedate.specs.declared.duration.Duration.{Duration}
 use Rattle.speedate.specs.ClockForm.{clock_form_or}
 use Rattle.speedate.specs.DayForm.{is_day_letter, day_form_or}
-use Rattle.speedate.specs.DurationNumbers.{
-  DurationNumbers,
-  UnsignedDuration,
-  signed_form,
-  signed_day,
-  amount_microseconds,
-  normal_table,
-  of_amount,
-}
+use Rattle.speedate.specs.DurationNumbers.{DurationNumbers, UnsignedDuration, signed_form}
+use Rattle.speedate.specs.DurationNumbers.{signed_day, amount_microseconds, normal_table, of_amount}
 use Rattle.speedate.specs.DurationPlace.{amount_numbers, amount_place, at_bytes, normal_places}
-use Rattle.speedate.specs.IsoForm.{
-  Item,
-  IsoSums,
-  no_sums,
-  item_text,
-  item_at,
-  item_table,
-  with_item,
-  sums_amount,
-  IsEndedFront,
-  IsAnswerFrom,
-}
+use Rattle.speedate.specs.IsoForm.{Item, IsoSums, no_sums, item_text, item_at, item_table}
+use Rattle.speedate.specs.IsoForm.{with_item, sums_amount, IsEndedFront, IsAnswerFrom}
 
 -- the numbers of a duration
 abbrev pub duration_numbers : Duration → DurationNumbers
@@ -75,8 +37,8 @@ infix 15 ◌gives◌
 abbrev pub ◌gives◌ : Result Duration ParseError → Result DurationNumbers ParseError → Type 0
 result gives answer = result_map duration_numbers result ≡ answer
 
--- the normal form of a duration that is given by its sign and its numbers without it, or the refusal
--- at the place of its row
+-- the normal form of a duration that is given by its sign and its numbers without it, or the
+-- refusal at the place of its row
 abbrev pub signed_form_or : {E : Type 0} → (ParseError → ℕ → E) → List ℕ → Bool
     → UnsignedDuration → Result DurationNumbers E
 signed_form_or refuse places positive amount =

@@ -3,12 +3,8 @@ use Rattle.std.specs.Prelude.{ℕ, zero, suc, ◌+◌, ◌-◌, Bool, true, List
 use Rattle.speedate_civil.specs.Base.{IsoOrder}
 use Rattle.speedate_base.specs.Ascii.{capital_p}
 use Rattle.speedate_base.specs.Requirement.{NumberRow, TextRow, ◌at_byte◌}
-use Rattle.speedate.specs.DurationNumbers.{
-  DurationNumbers,
-  UnsignedDuration,
-  has_days_up_to,
-  has_seconds_up_to,
-}
+use Rattle.speedate.specs.DurationNumbers.{DurationNumbers, UnsignedDuration, has_days_up_to}
+use Rattle.speedate.specs.DurationNumbers.{has_seconds_up_to}
 use Rattle.speedate.specs.IsoForm.{IsoSums, item_at, item_text, no_sums, sums_amount, with_item}
 
 -- rows of numbers, each with a place of its own

@@ -5,16 +5,8 @@ use Rattle.speedate_base.specs.Digits.{digits_value}
 use Rattle.speedate_base.specs.Nearest.{IsNearest}
 use Rattle.speedate_base.specs.Numbers.{has_minus}
 use Rattle.speedate.specs.DurationNumbers.{DurationNumbers, amount_microseconds}
-use Rattle.speedate.specs.IsoForm.{
-  IsoUnit,
-  units,
-  unit_in,
-  unit_seconds,
-  Item,
-  TimeDesignator,
-  Component,
-  ComponentText,
-}
+use Rattle.speedate.specs.IsoForm.{IsoUnit, units, unit_in, unit_seconds, Item, TimeDesignator}
+use Rattle.speedate.specs.IsoForm.{Component, ComponentText}
 
 -- the microseconds of one of a unit
 abbrev pub unit_microseconds : IsoUnit → ℕ

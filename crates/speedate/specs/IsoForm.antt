@@ -10,25 +10,13 @@ use Rattle.std.specs.Char.{is_ascii_digit}
 use Rattle.std.specs.List.{list_all, flat_map}
 use Rattle.std.specs.Option.{is_some}
 use Rattle.speedate_civil.specs.Base.{IsoOrder, ParseError}
-use Rattle.speedate_base.specs.Ascii.{
-  capital_d,
-  capital_h,
-  capital_m,
-  capital_s,
-  capital_t,
-  capital_w,
-  capital_y,
-}
+use Rattle.speedate_base.specs.Ascii.{capital_d, capital_h, capital_m, capital_s, capital_t}
+use Rattle.speedate_base.specs.Ascii.{capital_w, capital_y}
 use Rattle.speedate_base.specs.Digits.{run_length, digits_value, is_decimal_mark}
 use Rattle.speedate_base.specs.Nearest.{nearest}
 use Rattle.speedate_base.specs.Timestamp.{seconds_per_day}
-use Rattle.speedate_base.specs.Requirement.{
-  TextRow,
-  ◌at_byte◌,
-  ◌else_fault◌,
-  first_fault_or,
-  AllHold,
-}
+use Rattle.speedate_base.specs.Requirement.{TextRow, ◌at_byte◌, ◌else_fault◌, first_fault_or}
+use Rattle.speedate_base.specs.Requirement.{AllHold}
 use Rattle.speedate.specs.DurationNumbers.{UnsignedDuration}
 
 -- a unit of a duration by its designator, and what one of it is: whole days, or seconds

@@ -9,23 +9,9 @@ use Rattle.speedate_base.specs.Ascii.{capital_p}
 use Rattle.speedate_base.specs.Numbers.{sign_size, IsSign}
 use Rattle.speedate.specs.Duration.{duration_answer}
 use Rattle.speedate.specs.DurationNumbers.{DurationNumbers}
-use Rattle.speedate.specs.IsoForm.{
-  IsoUnit,
-  units,
-  unit_in,
-  units_after,
-  Item,
-  TimeDesignator,
-  Component,
-  item_text,
-  no_sums,
-  with_items,
-  AreGood,
-  ComponentText,
-  IsItem,
-  IsoSums,
-  with_item,
-}
+use Rattle.speedate.specs.IsoForm.{IsoUnit, units, unit_in, units_after, Item, TimeDesignator}
+use Rattle.speedate.specs.IsoForm.{Component, item_text, no_sums, with_items, AreGood}
+use Rattle.speedate.specs.IsoForm.{ComponentText, IsItem, IsoSums, with_item}
 
 -- the unit of each component is among those that may still come, and a `T` begins anew
 abbrev pub are_in_order : List IsoUnit → List Item → Bool

@@ -8,16 +8,8 @@ use Rattle.speedate.specs.DurationNumbers.{DurationNumbers, has_days_up_to, has_
 use Rattle.speedate_civil.specs.Base.{IsoOrder, ParseError}
 use Rattle.speedate_base.specs.Ascii.{capital_p}
 use Rattle.speedate.specs.Duration.{iso_form}
-use Rattle.speedate.specs.IsoForm.{
-  IsoUnit,
-  units,
-  unit_in,
-  Item,
-  item_text,
-  IsoSums,
-  with_item,
-  item_table,
-}
+use Rattle.speedate.specs.IsoForm.{IsoUnit, units, unit_in, Item, item_text, IsoSums, with_item}
+use Rattle.speedate.specs.IsoForm.{item_table}
 
 -- a unit by its designator and its worth
 abbrev pub unit_parts : DurationUnit → IsoUnit

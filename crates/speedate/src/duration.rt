@@ -1,14 +1,9 @@
 //! Durations: days, seconds and microseconds, with a sign.
 
 ghost use Rattle.std.specs.Prelude.{◌≡◌, ◌<◌, ◌≤◌, IfOk, unsigned_abs};
-ghost use Rattle.speedate.specs.DurationNumbers.{
-  amount_seconds,
-  amount_microseconds,
-  normal_form,
-  signed_seconds,
-  signed_microsecond,
-  signed_milliseconds,
-};
+ghost use Rattle.speedate.specs.DurationNumbers.{amount_seconds, amount_microseconds, normal_form};
+ghost use Rattle.speedate.specs.DurationNumbers.{signed_seconds, signed_microsecond};
+ghost use Rattle.speedate.specs.DurationNumbers.{signed_milliseconds};
 
 mod arithmetic;
 mod clock;

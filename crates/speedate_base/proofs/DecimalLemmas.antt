@@ -7,24 +7,13 @@ use Rattle.std.proofs.lemmas.Bool.Decides.{nat_tests}
 use Rattle.std.proofs.lemmas.Int.{ints}
 use Rattle.std.proofs.Math.Nat.{pow-le-pow_right}
 use Rattle.speedate_base.specs.Requirement.{ParseError}
-use Rattle.speedate_base.specs.Timestamp.{
-  decimal_microsecond,
-  decimal_instant,
-  UnitRow,
-  inferred_seconds_max,
-  instant_at,
-  range_answer,
-}
+use Rattle.speedate_base.specs.Timestamp.{decimal_microsecond, decimal_instant, UnitRow}
+use Rattle.speedate_base.specs.Timestamp.{inferred_seconds_max, instant_at, range_answer}
 use Rattle.speedate_base.specs.Digits.{one_digit_value, digits_value}
 use Rattle.speedate_base.proofs.DigitRunLemmas.{below-power, digits_value-append, digits_value-lt}
 use Rattle.speedate_base.specs.Nearest.{nearest, quotient}
-use Rattle.speedate_base.proofs.NearestLemmas.{
-  halved,
-  nearest-halved,
-  quotient-whole,
-  halved-whole,
-  scale-some,
-}
+use Rattle.speedate_base.proofs.NearestLemmas.{halved, nearest-halved, quotient-whole, halved-whole}
+use Rattle.speedate_base.proofs.NearestLemmas.{scale-some}
 use Rattle.speedate_base.specs.Numbers.{DecimalParts, decimal_digits, decimal_scale, with_sign}
 
 -- many digits of which the first is not 0 spell a large number

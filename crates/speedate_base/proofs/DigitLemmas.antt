@@ -2,15 +2,9 @@
 use Rattle.std.proofs.Common.{◌≡◌, ℕ, ◌<◌, true, arith, rules}
 use Rattle.std.specs.Char.{is_ascii_digit}
 use Rattle.std.specs.List.{list_all}
-use Rattle.speedate_base.specs.Digits.{
-  two_digits_at,
-  two_digit_text,
-  two_digit_value,
-  four_digit_text,
-  four_digits_at,
-  six_digit_text,
-  fraction_value,
-}
+use Rattle.speedate_base.specs.Digits.{two_digits_at, two_digit_text, two_digit_value}
+use Rattle.speedate_base.specs.Digits.{four_digit_text, four_digits_at, six_digit_text}
+use Rattle.speedate_base.specs.Digits.{fraction_value}
 
 -- the digits of a number below 100
 pub two_digits-printed : (n : ℕ) → n < 100 → two_digits_at (two_digit_text n) 0 ≡ true

@@ -4,14 +4,8 @@ use Rattle.std.specs.Prelude.{nat_le}
 use Rattle.std.specs.List.{list_all}
 use Rattle.std.proofs.lemmas.Bool.{and_parts, leb-true}
 use Rattle.speedate_base.specs.Requirement.{ParseError}
-use Rattle.speedate_base.specs.Fault.{
-  FaultRow,
-  row,
-  fault_rows,
-  fault_name,
-  fault_documentation,
-  fault_place,
-}
+use Rattle.speedate_base.specs.Fault.{FaultRow, row, fault_rows, fault_name, fault_documentation}
+use Rattle.speedate_base.specs.Fault.{fault_place}
 
 -- a test that each row passes, and a row beside them, is passed at each place
 at-each : (test : FaultRow → Bool) (rows : List FaultRow) (place : ℕ) (other : FaultRow)

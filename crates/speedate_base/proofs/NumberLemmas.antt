@@ -7,25 +7,10 @@ use Rattle.std.proofs.lemmas.List.Sums.{prefix_len_passes, take_while-cons}
 use Rattle.std.proofs.lemmas.List.{get_or-drop, take-append-drop, drop-drop, drop_more, take_all, length-drop, length-take-le}
 use Rattle.speedate_base.specs.Ascii.{full_stop}
 use Rattle.speedate_base.specs.Digits.{run_length, run_digits}
-use Rattle.speedate_base.specs.Numbers.{
-  has_minus,
-  sign_size,
-  point_place,
-  is_decimal,
-  decimal_parts,
-  IsSign,
-  JoinsTo,
-  DecimalParts,
-  Fractional,
-  NoNumber,
-  whole_or,
-  whole_number,
-  number_answer,
-  decimal_value,
-  number_value,
-  JoinsToFloat,
-  IntFloat,
-}
+use Rattle.speedate_base.specs.Numbers.{has_minus, sign_size, point_place, is_decimal}
+use Rattle.speedate_base.specs.Numbers.{decimal_parts, IsSign, JoinsTo, DecimalParts, Fractional}
+use Rattle.speedate_base.specs.Numbers.{NoNumber, whole_or, whole_number, number_answer}
+use Rattle.speedate_base.specs.Numbers.{decimal_value, number_value, JoinsToFloat, IntFloat}
 
 -- a run is made of digits
 pub run-digits : (bytes : List ℕ)

@@ -2,19 +2,9 @@
 use Rattle.std.proofs.Common.{◌∙◌, length, ◌≡◌, ℕ, ◌+◌, ap, add_assoc, zero-add, sym, List, [], ◌∷◌, Result, Ok, Err, is_some, is_err, refl, rules}
 use mathlib.Core.Path.{fun_ext}
 use Rattle.std.specs.Result.{result_and}
-use Rattle.speedate_base.specs.Requirement.{
-  AllHold,
-  ParseError,
-  Requirement,
-  TextRow,
-  first_refusal_or,
-  moved,
-  refusal_map,
-  result_and_then,
-  result_map,
-  shifted,
-  whole_or_refusal,
-}
+use Rattle.speedate_base.specs.Requirement.{AllHold, ParseError, Requirement, TextRow}
+use Rattle.speedate_base.specs.Requirement.{first_refusal_or, moved, refusal_map, result_and_then}
+use Rattle.speedate_base.specs.Requirement.{result_map, shifted, whole_or_refusal}
 use Rattle.speedate_base.specs.Refused.{Refused, refused_place, without_place}
 
 -- a table's refusal in another way is made so of each row

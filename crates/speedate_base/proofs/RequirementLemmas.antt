@@ -1,24 +1,10 @@
 -- How tables chain, and which of their rows has the place.
-use Rattle.std.proofs.Common.{◌≡◌, ◌↔◌, ◌+◌, ◌≤◌, ◌∙◌, ◌==◌, IfSome, if◌then◌else◌, ap, sym, ℕ, true, false, List, [], ◌∷◌, ◌++◌, length, Option, Some, None, Result, Ok, Err, is_some, is_err, refl, rules, arith}
+use Rattle.std.proofs.Common.{◌≡◌, ◌↔◌, ◌+◌, ◌≤◌, ◌∙◌, IfSome, ap, sym, ℕ, true, false, List, [], ◌∷◌, length, Option, Some, None, Result, Ok, Err, is_some, is_err, refl, rules, arith}
 use Rattle.std.specs.Option.{option_map}
-use Rattle.std.specs.Result.{result_and}
-use Rattle.speedate_base.specs.Requirement.{
-  Requirement,
-  TextRow,
-  end_table,
-  first_fault_or,
-  fault_at_byte,
-  first_place,
-  moved,
-  AllHold,
-  IsAnswerOf,
-  or_number,
-  or_number_place,
-  whole_or_fault,
-  result_and_then,
-  result_map,
-  ParseError,
-}
+use Rattle.speedate_base.specs.Requirement.{Requirement, TextRow, first_fault_or}
+use Rattle.speedate_base.specs.Requirement.{fault_at_byte, first_place, moved, IsAnswerOf}
+use Rattle.speedate_base.specs.Requirement.{or_number, or_number_place, whole_or_fault}
+use Rattle.speedate_base.specs.Requirement.{result_and_then, result_map, ParseError}
 
 -- a value is alone in a text if and only if it takes all bytes
 pub whole_or_fault-iff : {A : Type 0} (fault : A → ParseError) (text : List ℕ)

@@ -12,17 +12,9 @@ use Rattle.speedate_base.specs.Digits.{digits_value}
 use Rattle.speedate_base.proofs.BlockLemmas.{block-more, is_number}
 use Rattle.speedate_base.proofs.DigitRunLemmas.{below-power, digits_value-append, digits_value-lt}
 use Rattle.speedate_base.specs.Nearest.{quotient, rest_bounds, told_by_sixteen}
-use Rattle.speedate_base.proofs.NearestLemmas.{
-  part_below,
-  part_down,
-  part_some,
-  part_up,
-  quotient-carried,
-  quotient-filled,
-  quotient-le,
-  quotient-none,
-  scale-some,
-}
+use Rattle.speedate_base.proofs.NearestLemmas.{part_below, part_down, part_some, part_up}
+use Rattle.speedate_base.proofs.NearestLemmas.{quotient-carried, quotient-filled, quotient-le}
+use Rattle.speedate_base.proofs.NearestLemmas.{quotient-none, scale-some}
 
 split : (digits : List ℕ) (count : ℕ) → list_all is_ascii_digit digits ≡ true
     → (list_all is_ascii_digit (take count digits) && list_all is_ascii_digit (drop count digits))

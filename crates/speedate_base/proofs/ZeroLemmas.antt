@@ -7,13 +7,8 @@ use Rattle.std.proofs.lemmas.Bool.Decides.{nat_tests}
 use Rattle.std.proofs.lemmas.List.{take-append-drop, length-drop}
 use Rattle.std.proofs.lemmas.List.Sums.{take_while-cons, prefix_len_stops, prefix_len-drop_no, prefix_len-drop_all}
 use Rattle.std.proofs.Math.Nat.{pow-le-pow_right}
-use Rattle.speedate_base.specs.Digits.{
-  one_digit_value,
-  is_digit_zero,
-  zeros_length,
-  run_length,
-  digits_value,
-}
+use Rattle.speedate_base.specs.Digits.{one_digit_value, is_digit_zero, zeros_length, run_length}
+use Rattle.speedate_base.specs.Digits.{digits_value}
 use Rattle.speedate_base.proofs.DigitRunLemmas.{run-on, run-whole, digits_value-append}
 use Rattle.speedate_base.proofs.BlockLemmas.{number_or_place}
 use Rattle.speedate_base.proofs.NearestLemmas.{scale-some}

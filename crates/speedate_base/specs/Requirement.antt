@@ -45,8 +45,8 @@ infix 15 ◌implies◌
 abbrev pub ◌implies◌ : Bool → Bool → Bool
 there implies asked = if there then asked else true
 
--- what comes next if every row of a table holds, otherwise the refusal that is made of the fault and
--- the place of the first row that does not
+-- what comes next if every row of a table holds, otherwise the refusal that is made of the fault
+-- and the place of the first row that does not
 abbrev pub first_refusal_or : {Place A E : Type 0} → (ParseError → Place → E)
     → List (Requirement Place) → Result A E → Result A E
 first_refusal_or refuse [] next = next

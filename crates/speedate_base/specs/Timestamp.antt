@@ -7,13 +7,8 @@ use Rattle.speedate_base.specs.declared.util.unix_time.UnixTime.{UnixTime}
 use Rattle.speedate_base.specs.Config.{refuses_digits, Behavior, TimestampUnit}
 use Rattle.speedate_base.specs.Nearest.{nearest}
 use Rattle.speedate_base.specs.Numbers.{DecimalParts, decimal_digits, decimal_scale, with_sign}
-use Rattle.speedate_base.specs.Requirement.{
-  NumberRow,
-  ◌else_fault◌,
-  first_fault_or,
-  ◌implies◌,
-  ParseError,
-}
+use Rattle.speedate_base.specs.Requirement.{NumberRow, ◌else_fault◌, first_fault_or, ◌implies◌}
+use Rattle.speedate_base.specs.Requirement.{ParseError}
 
 -- the seconds of a day
 abbrev pub seconds_per_day : ℕ

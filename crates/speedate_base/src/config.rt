@@ -184,13 +184,8 @@ impl Model for TimeConfigBuilder {
 }
 
 impl TimeConfigBuilder {
-    ghost use Rattle.speedate_base.specs.Config.{
-      default_choices,
-      time_choices,
-      with_behavior,
-      with_offset,
-      with_order,
-    };
+    ghost use Rattle.speedate_base.specs.Config.{default_choices, time_choices, with_behavior};
+    ghost use Rattle.speedate_base.specs.Config.{with_offset, with_order};
 
     /// A builder of the default configuration; `TimeConfig::builder()` is the same.
     pub fn new() -> Self

@@ -3,18 +3,9 @@
 ghost use Rattle.std.specs.Prelude.{◌≡◌, ◌==◌, ◌&&◌, ◌^◌, ◌<◌, ◌≤◌, length, nat_le, Some, None, if◌then◌else◌};
 ghost use Rattle.speedate_base.specs.Ascii.{full_stop};
 ghost use Rattle.speedate_base.specs.Digits.{digit, run_length, digits_value};
-ghost use Rattle.speedate_base.specs.Numbers.{
-  has_minus,
-  sign_size,
-  with_sign,
-  signed_answer,
-  whole_number,
-  point_place,
-  decimal_answer,
-  number_answer,
-  number_value,
-  JoinsToFloat,
-};
+ghost use Rattle.speedate_base.specs.Numbers.{has_minus, sign_size, with_sign, signed_answer};
+ghost use Rattle.speedate_base.specs.Numbers.{whole_number, point_place, decimal_answer};
+ghost use Rattle.speedate_base.specs.Numbers.{number_answer, number_value, JoinsToFloat};
 
 pub(crate) mod digits;
 mod fraction;

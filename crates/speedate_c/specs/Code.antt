@@ -7,13 +7,8 @@ use Rattle.std.specs.declared.cmp.Ordering.{Ordering, Ordering as ordering}
 use Rattle.speedate.specs.Base.{CallKind, ParseError}
 use Rattle.speedate.specs.declared.LineError.{LineError}
 use Rattle.speedate.specs.Expected.{expected_text}
-use Rattle.speedate.specs.Fault.{
-  FaultRow,
-  fault_rows,
-  fault_number,
-  fault_name,
-  fault_documentation,
-}
+use Rattle.speedate.specs.Fault.{FaultRow, fault_rows, fault_number, fault_name}
+use Rattle.speedate.specs.Fault.{fault_documentation}
 
 -- what was asked for is written
 abbrev pub success : ℤ

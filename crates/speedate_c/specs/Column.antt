@@ -6,12 +6,8 @@ use Rattle.speedate.specs.Base.{ParseError, TimestampUnit}
 use Rattle.speedate.specs.Calendar.{days_between}
 use Rattle.speedate.specs.Config.{Choices}
 use Rattle.speedate.specs.Date.{date_answer, date_or_timestamp}
-use Rattle.speedate.specs.DateTime.{
-  DateAndTime,
-  date_time_answer,
-  date_time_or_timestamp,
-  utc_microsecond,
-}
+use Rattle.speedate.specs.DateTime.{DateAndTime, date_time_answer, date_time_or_timestamp}
+use Rattle.speedate.specs.DateTime.{utc_microsecond}
 use Rattle.speedate.specs.Standard.{strict_date_time_answer}
 use Rattle.speedate.specs.Requirement.{result_and_then}
 use Rattle.speedate.specs.Duration.{duration_answer}

@@ -1,15 +1,9 @@
 //! The duration between two values, and the value a duration after another, as C sees them.
 
 ghost use Rattle.std.specs.Prelude.{◌≡◌, neg_ℤ};
-ghost use Rattle.speedate.specs.Duration.{
-  amount_answer,
-  date_later,
-  date_time_later,
-  duration_between,
-  duration_between_dates,
-  negated,
-  signed_amount,
-};
+ghost use Rattle.speedate.specs.Duration.{amount_answer, date_later, date_time_later};
+ghost use Rattle.speedate.specs.Duration.{duration_between, duration_between_dates, negated};
+ghost use Rattle.speedate.specs.Duration.{signed_amount};
 ghost use Rattle.speedate_c.specs.Written.{written_answer, written_value, with_value};
 ghost use Rattle.speedate_c.specs.Code.{value_out_of_range};
 ghost use Rattle.speedate_c.specs.Date.{date_of, shown_date};

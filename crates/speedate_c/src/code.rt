@@ -2,17 +2,9 @@
 
 ghost use Rattle.std.specs.Option.{option_map};
 ghost use Rattle.std.specs.Prelude.{◌≡◌, ◌≤◌, IfSome, Some, length, slice_get};
-ghost use Rattle.speedate_c.specs.Code.{
-  call_kind_of,
-  code_expected,
-  code_row,
-  fault_code,
-  fault_of,
-  line_error_code,
-  order_number,
-  refusal_expected,
-  refusal_row,
-};
+ghost use Rattle.speedate_c.specs.Code.{call_kind_of, code_expected, code_row, fault_code};
+ghost use Rattle.speedate_c.specs.Code.{fault_of, line_error_code, order_number, refusal_expected};
+ghost use Rattle.speedate_c.specs.Code.{refusal_row};
 
 use speedate::{CallKind, LineError, ParseError};
 use std::cmp::Ordering;

@@ -5,22 +5,11 @@ ghost use Rattle.std.specs.Prelude.{◌≡◌, MatchOption, slice_get};
 ghost use Rattle.speedate.specs.Config.{choices};
 ghost use Rattle.speedate.specs.Column.{date_number, date_time_number, duration_number};
 ghost use Rattle.speedate_c.specs.Code.{config_out_of_range, success};
-ghost use Rattle.speedate_c.specs.Column.{
-  IsColumn,
-  IsColumnWithErrors,
-  chosen_for_date_times,
-  chosen_for_dates,
-  chosen_for_durations,
-  column_choices_of,
-  date_number_by,
-  date_time_number_by,
-  duration_number_by,
-  ended_code,
-  forms,
-  least_of_32_bits,
-  least_of_64_bits,
-  on_refusal,
-};
+ghost use Rattle.speedate_c.specs.Column.{IsColumn, IsColumnWithErrors, chosen_for_date_times};
+ghost use Rattle.speedate_c.specs.Column.{chosen_for_dates, chosen_for_durations};
+ghost use Rattle.speedate_c.specs.Column.{column_choices_of, date_number_by, date_time_number_by};
+ghost use Rattle.speedate_c.specs.Column.{duration_number_by, ended_code, forms, least_of_32_bits};
+ghost use Rattle.speedate_c.specs.Column.{least_of_64_bits, on_refusal};
 
 use crate::code::{SUCCESS, line_error_code};
 use crate::config::{SpeedateConfig, flag};

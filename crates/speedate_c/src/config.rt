@@ -4,14 +4,8 @@ ghost use Rattle.std.specs.Option.{ForSome, option_map};
 ghost use Rattle.std.specs.Prelude.{◌≡◌, ◌==◌, IfSome, None, Some, if◌then◌else◌, is_some, slice_get, true};
 ghost use Rattle.speedate.specs.Config.{choices};
 ghost use Rattle.speedate.specs.Offset.{IsOffset};
-ghost use Rattle.speedate_c.specs.Config.{
-  behaviors,
-  choices_of,
-  flags,
-  offset_by_flag,
-  orders,
-  units,
-};
+ghost use Rattle.speedate_c.specs.Config.{behaviors, choices_of, flags, offset_by_flag, orders};
+ghost use Rattle.speedate_c.specs.Config.{units};
 
 use speedate::{
     DateConfig, DateTimeConfig, IsoOrder, MicrosecondsPrecisionOverflowBehavior, ParseError,

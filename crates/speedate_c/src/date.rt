@@ -2,48 +2,19 @@
 
 ghost use Rattle.std.specs.Option.{option_map};
 ghost use Rattle.std.specs.Prelude.{◌≡◌, ◌≢◌, ◌≤◌, length, slice_get};
-ghost use Rattle.speedate.specs.Date.{
-  ymd,
-  date_answer,
-  date_answer_or,
-  date_front,
-  date_front_or,
-  date_text,
-  date_or_timestamp,
-  date_timestamp_answer,
-  ◌gives◌,
-};
-ghost use Rattle.speedate.specs.Calendar.{
-  date_order,
-  date_added,
-  date_numbered,
-  day_number,
-  days_between,
-  midnight_millisecond,
-  midnight_second,
-  ordinal_day,
-};
+ghost use Rattle.speedate.specs.Date.{ymd, date_answer, date_answer_or, date_front, date_front_or};
+ghost use Rattle.speedate.specs.Date.{date_text, date_or_timestamp, date_timestamp_answer, ◌gives◌};
+ghost use Rattle.speedate.specs.Calendar.{date_order, date_added, date_numbered, day_number};
+ghost use Rattle.speedate.specs.Calendar.{days_between, midnight_millisecond, midnight_second};
+ghost use Rattle.speedate.specs.Calendar.{ordinal_day};
 ghost use Rattle.speedate.specs.ErrorPlace.{date_or_timestamp_place};
 ghost use Rattle.speedate.specs.Refused.{placed, refused_place};
 ghost use Rattle.speedate.specs.Requirement.{result_map};
-ghost use Rattle.speedate_c.specs.Written.{
-  written_answer,
-  written_front,
-  written_optional_date,
-  written_place,
-  written_text,
-  written_value,
-  with_option,
-  with_value,
-};
-ghost use Rattle.speedate_c.specs.Code.{
-  answer_code,
-  buffer_too_small,
-  config_out_of_range,
-  order_number,
-  success,
-  value_out_of_range,
-};
+ghost use Rattle.speedate_c.specs.Written.{written_answer, written_front, written_optional_date};
+ghost use Rattle.speedate_c.specs.Written.{written_place, written_text, written_value, with_option};
+ghost use Rattle.speedate_c.specs.Written.{with_value};
+ghost use Rattle.speedate_c.specs.Code.{answer_code, buffer_too_small, config_out_of_range};
+ghost use Rattle.speedate_c.specs.Code.{order_number, success, value_out_of_range};
 ghost use Rattle.speedate_c.specs.Config.{choices_of, flags};
 ghost use Rattle.speedate_c.specs.Date.{date_of, shown_date};
 

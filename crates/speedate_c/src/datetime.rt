@@ -1,45 +1,20 @@
 //! Date-times as C sees them.
 
 ghost use Rattle.std.specs.Prelude.{◌≡◌, ◌≢◌, ◌≤◌, length};
-ghost use Rattle.speedate.specs.DateTime.{
-  local_millisecond,
-  local_second,
-  utc_microsecond,
-  utc_millisecond,
-  utc_second,
-  date_and_time,
-  date_time_answer,
-  date_time_answer_or,
-  date_time_front,
-  date_time_front_or,
-  date_time_text,
-  date_time_or_timestamp,
-  date_time_timestamp_answer,
-  date_time_instant_order,
-  date_time_in_timezone,
-  ◌gives◌,
-};
+ghost use Rattle.speedate.specs.DateTime.{local_millisecond, local_second, utc_microsecond};
+ghost use Rattle.speedate.specs.DateTime.{utc_millisecond, utc_second, date_and_time};
+ghost use Rattle.speedate.specs.DateTime.{date_time_answer, date_time_answer_or, date_time_front};
+ghost use Rattle.speedate.specs.DateTime.{date_time_front_or, date_time_text};
+ghost use Rattle.speedate.specs.DateTime.{date_time_or_timestamp, date_time_timestamp_answer};
+ghost use Rattle.speedate.specs.DateTime.{date_time_instant_order, date_time_in_timezone, ◌gives◌};
 ghost use Rattle.speedate.specs.ErrorPlace.{date_time_or_timestamp_place};
 ghost use Rattle.speedate.specs.Refused.{placed, refused_place};
 ghost use Rattle.speedate.specs.Requirement.{result_map};
 ghost use Rattle.speedate.specs.Standard.{strict_date_time_answer, strict_date_time_answer_or};
-ghost use Rattle.speedate_c.specs.Written.{
-  written_answer,
-  written_front,
-  written_place,
-  written_text,
-  written_value,
-  with_option,
-  with_value,
-};
-ghost use Rattle.speedate_c.specs.Code.{
-  answer_code,
-  buffer_too_small,
-  config_out_of_range,
-  order_number,
-  success,
-  value_out_of_range,
-};
+ghost use Rattle.speedate_c.specs.Written.{written_answer, written_front, written_place};
+ghost use Rattle.speedate_c.specs.Written.{written_text, written_value, with_option, with_value};
+ghost use Rattle.speedate_c.specs.Code.{answer_code, buffer_too_small, config_out_of_range};
+ghost use Rattle.speedate_c.specs.Code.{order_number, success, value_out_of_range};
 ghost use Rattle.speedate_c.specs.Config.{choices_of};
 ghost use Rattle.speedate_c.specs.DateTime.{date_time_of, shown_date_time};
 

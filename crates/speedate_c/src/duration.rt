@@ -1,38 +1,17 @@
 //! Durations as C sees them.
 
 ghost use Rattle.std.specs.Prelude.{◌≡◌, ◌≢◌, ◌≤◌, ◌↔◌, IsOk, if◌then◌else◌, length, nat_le};
-ghost use Rattle.speedate.specs.Duration.{
-  duration_numbers,
-  duration_answer,
-  duration_answer_or,
-  duration_text,
-  ◌gives◌,
-};
-ghost use Rattle.speedate.specs.DurationNumbers.{
-  IsDuration,
-  normal_form,
-  signed_microsecond,
-  signed_milliseconds,
-  signed_seconds,
-  duration_order,
-};
+ghost use Rattle.speedate.specs.Duration.{duration_numbers, duration_answer, duration_answer_or};
+ghost use Rattle.speedate.specs.Duration.{duration_text, ◌gives◌};
+ghost use Rattle.speedate.specs.DurationNumbers.{IsDuration, normal_form, signed_microsecond};
+ghost use Rattle.speedate.specs.DurationNumbers.{signed_milliseconds, signed_seconds};
+ghost use Rattle.speedate.specs.DurationNumbers.{duration_order};
 ghost use Rattle.speedate.specs.Refused.{placed, refused_place};
 ghost use Rattle.speedate.specs.Requirement.{result_map};
-ghost use Rattle.speedate_c.specs.Written.{
-  written_answer,
-  written_place,
-  written_text,
-  written_value,
-  with_option,
-  with_value,
-};
-ghost use Rattle.speedate_c.specs.Code.{
-  answer_code,
-  buffer_too_small,
-  config_out_of_range,
-  order_number,
-  value_out_of_range,
-};
+ghost use Rattle.speedate_c.specs.Written.{written_answer, written_place, written_text};
+ghost use Rattle.speedate_c.specs.Written.{written_value, with_option, with_value};
+ghost use Rattle.speedate_c.specs.Code.{answer_code, buffer_too_small, config_out_of_range};
+ghost use Rattle.speedate_c.specs.Code.{order_number, value_out_of_range};
 ghost use Rattle.speedate_c.specs.Config.{choices_of};
 ghost use Rattle.speedate_c.specs.Duration.{duration_of, numbers_of, shown_duration};
 

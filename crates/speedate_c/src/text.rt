@@ -3,14 +3,8 @@
 ghost use Rattle.std.specs.Option.{unwrap_or};
 ghost use Rattle.std.specs.Prelude.{◌≡◌, ◌≢◌, ◌+◌, ◌<◌, ◌≤◌, ◌∷◌, ◌++◌, drop, length};
 ghost use Rattle.speedate_c.specs.Written.{written_text, with_option};
-ghost use Rattle.speedate_c.specs.Code.{
-  buffer_too_small,
-  call_kind_of,
-  code_expected,
-  code_row,
-  success,
-  value_out_of_range,
-};
+ghost use Rattle.speedate_c.specs.Code.{buffer_too_small, call_kind_of, code_expected, code_row};
+ghost use Rattle.speedate_c.specs.Code.{success, value_out_of_range};
 
 use crate::code::{
     BUFFER_TOO_SMALL, SUCCESS, VALUE_OUT_OF_RANGE, call_kind_of, code_expected, code_row,

@@ -5,38 +5,15 @@ ghost use Rattle.std.specs.Option.{ForSome};
 ghost use Rattle.speedate.specs.Offset.{IsOffset};
 ghost use Rattle.speedate.specs.Refused.{placed, refused_place};
 ghost use Rattle.speedate.specs.Requirement.{result_map};
-ghost use Rattle.speedate.specs.Time.{
-  time_of_day,
-  millisecond_of_day,
-  second_of_day,
-  timestamp_answer,
-  time_answer,
-  time_answer_or,
-  time_front,
-  time_front_or,
-  time_text,
-  ◌gives◌,
-  time_instant_order,
-  time_in_timezone,
-};
+ghost use Rattle.speedate.specs.Time.{time_of_day, millisecond_of_day, second_of_day};
+ghost use Rattle.speedate.specs.Time.{timestamp_answer, time_answer, time_answer_or, time_front};
+ghost use Rattle.speedate.specs.Time.{time_front_or, time_text, ◌gives◌, time_instant_order};
+ghost use Rattle.speedate.specs.Time.{time_in_timezone};
 ghost use Rattle.speedate.specs.Standard.{strict_time_answer, strict_time_answer_or};
-ghost use Rattle.speedate_c.specs.Written.{
-  written_answer,
-  written_front,
-  written_place,
-  written_text,
-  written_value,
-  with_option,
-  with_value,
-};
-ghost use Rattle.speedate_c.specs.Code.{
-  answer_code,
-  buffer_too_small,
-  config_out_of_range,
-  order_number,
-  success,
-  value_out_of_range,
-};
+ghost use Rattle.speedate_c.specs.Written.{written_answer, written_front, written_place};
+ghost use Rattle.speedate_c.specs.Written.{written_text, written_value, with_option, with_value};
+ghost use Rattle.speedate_c.specs.Code.{answer_code, buffer_too_small, config_out_of_range};
+ghost use Rattle.speedate_c.specs.Code.{order_number, success, value_out_of_range};
 ghost use Rattle.speedate_c.specs.Config.{choices_of};
 ghost use Rattle.speedate_c.specs.Time.{shown_time, time_of};
 

@@ -9,27 +9,11 @@ use Rattle.speedate_base.specs.Ascii.{colon, full_stop}
 use Rattle.speedate_base.specs.Digits.{run_length, six_digit_text, two_digit_text, is_decimal_mark}
 use Rattle.speedate_base.specs.Offset.{IsWholeMinutes}
 use Rattle.speedate_base.specs.Requirement.{first_fault_or}
-use Rattle.speedate_civil.specs.Time.{
-  Clock,
-  clock_front,
-  minute_text,
-  begins_offset,
-  offset_front,
-  TimeOfDay,
-  IsTime,
-  clock_text,
-  continues_fraction,
-  is_after_time,
-  time_front,
-  time_text,
-}
-use Rattle.speedate_civil.specs.DateTime.{
-  DateAndTime,
-  IsDateAndTime,
-  date_time_front,
-  date_time_text,
-  separator_table,
-}
+use Rattle.speedate_civil.specs.Time.{Clock, clock_front, minute_text, begins_offset, offset_front}
+use Rattle.speedate_civil.specs.Time.{TimeOfDay, IsTime, clock_text, continues_fraction}
+use Rattle.speedate_civil.specs.Time.{is_after_time, time_front, time_text}
+use Rattle.speedate_civil.specs.DateTime.{DateAndTime, IsDateAndTime, date_time_front}
+use Rattle.speedate_civil.specs.DateTime.{date_time_text, separator_table}
 use Rattle.speedate_civil.specs.Date.{date_front}
 use Rattle.speedate_civil.proofs.DateTimeLemmas.{date_time_text-front}
 use Rattle.speedate_civil.proofs.ReadLemmas.{read-then, read-value}

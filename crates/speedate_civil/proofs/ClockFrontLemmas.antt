@@ -1,28 +1,16 @@
 -- The clock at the front of a text, as its eight bytes give its hour and its minute.
-use Rattle.std.proofs.Common.{◌≡◌, ◌∙◌, ap, sym, subst, refl, ℕ, ◌<◌, ◌≤◌, ◌==◌, Bool, true, false, ◌&&◌, if◌then◌else◌, List, length, get_or, take, drop, slice_index, codes, Ok, Err, ◌+◌, ◌-◌, arith, rules, get_or-drop, length-drop, le-leb}
+use Rattle.std.proofs.Common.{◌≡◌, ◌∙◌, ap, sym, subst, refl, ℕ, ◌<◌, ◌≤◌, ◌==◌, Bool, true, false, ◌&&◌, if◌then◌else◌, List, length, get_or, drop, slice_index, codes, Ok, Err, ◌+◌, arith, rules, get_or-drop, le-leb}
 use Rattle.speedate_civil.specs.Base.{Behavior, ParseError}
 use Rattle.std.proofs.lemmas.Bool.{and_from, lt-leb}
 use Rattle.std.proofs.lemmas.Grind.{common_steps}
-use Rattle.std.proofs.lemmas.List.{take_rest}
 use Rattle.speedate_base.specs.Ascii.{colon}
-use Rattle.speedate_base.specs.Digits.{
-  two_digits_at,
-  two_digit_value,
-  eight_at,
-  fit_length,
-  fit_digits,
-  neighbours,
-}
+use Rattle.speedate_base.specs.Digits.{two_digits_at, two_digit_value, eight_at, fit_length}
+use Rattle.speedate_base.specs.Digits.{fit_digits, neighbours}
 use Rattle.speedate_base.specs.Requirement.{first_refusal_or, result_map, shifted}
 use Rattle.speedate_base.proofs.PatternLemmas.{fit_length-all}
 use Rattle.speedate_civil.specs.ParserParts.{second_of}
-use Rattle.speedate_civil.specs.Time.{
-  at_hour,
-  clock_front_or,
-  minute_clock,
-  minute_front_or,
-  second_table,
-}
+use Rattle.speedate_civil.specs.Time.{at_hour, clock_front_or, minute_clock, minute_front_or}
+use Rattle.speedate_civil.specs.Time.{second_table}
 
 -- a clock as it looks
 abbrev pub pattern : List ℕ
@@ -51,11 +39,13 @@ front-read text front numbers fits from counted enough spelled =
     subst (λ (all : List ℕ). Front text all) (sym is) (front_is text five)
 
 -- the rows of the hour and the minute hold, so what follows the minute decides
-pub decided : {E : Type 0} (refuse : ParseError → ℕ → E) (behavior : Behavior) (text numbers : List ℕ)
+pub decided : {E : Type 0} (refuse : ParseError → ℕ → E) (behavior : Behavior)
+    (text numbers : List ℕ)
     → Front text numbers → 5 ≤ length text
     → get_or numbers 0 0 ≤ 23 → get_or numbers 3 0 ≤ 59 → clock_front_or refuse behavior text
     ≡ result_map (at_hour (get_or numbers 0 0))
-    (first_refusal_or (shifted 3 refuse) (second_table behavior (drop 3 text)) (Ok (minute_clock (drop 3 text))))
+    (first_refusal_or (shifted 3 refuse) (second_table behavior (drop 3 text))
+    (Ok (minute_clock (drop 3 text))))
 decided refuse behavior text numbers front long early short =
     let hour = subst (λ (n : ℕ). n ≤ 23) front.hour_is early in
     let minute = subst (λ (n : ℕ). n ≤ 59) front.minute_is short in
@@ -70,9 +60,11 @@ decided refuse behavior text numbers front long early short =
     ) refl
 
 -- and those that do not hold are the fault
-pub late-hour : {E : Type 0} (refuse : ParseError → ℕ → E) (behavior : Behavior) (text numbers : List ℕ)
+pub late-hour : {E : Type 0} (refuse : ParseError → ℕ → E) (behavior : Behavior)
+    (text numbers : List ℕ)
     → Front text numbers → 5 ≤ length text
-    → 23 < get_or numbers 0 0 → clock_front_or refuse behavior text ≡ Err (refuse ParseError.OutOfRangeHour 0)
+    → 23 < get_or numbers 0 0 → clock_front_or refuse behavior text
+    ≡ Err (refuse ParseError.OutOfRangeHour 0)
 late-hour refuse behavior text numbers front long late =
     let hour = subst (λ (n : ℕ). 23 < n) front.hour_is late in
     rw (
@@ -83,7 +75,8 @@ late-hour refuse behavior text numbers front long late =
       lt-leb (two_digit_value text 0) 23 hour,
     ) refl
 
-pub late-minute : {E : Type 0} (refuse : ParseError → ℕ → E) (behavior : Behavior) (text numbers : List ℕ)
+pub late-minute : {E : Type 0} (refuse : ParseError → ℕ → E) (behavior : Behavior)
+    (text numbers : List ℕ)
     → Front text numbers → 5 ≤ length text
     → get_or numbers 0 0 ≤ 23 → 59 < get_or numbers 3 0
     → clock_front_or refuse behavior text ≡ Err (refuse ParseError.OutOfRangeMinute 3)
@@ -100,7 +93,8 @@ late-minute refuse behavior text numbers front long early late =
     ) refl
 
 -- so are those that the eight bytes do not meet, and the length
-pub no-clock : {E : Type 0} (refuse : ParseError → ℕ → E) (behavior : Behavior) (text : List ℕ) → length text < 5
+pub no-clock : {E : Type 0} (refuse : ParseError → ℕ → E) (behavior : Behavior) (text : List ℕ)
+    → length text < 5
     → clock_front_or refuse behavior text ≡ Err (refuse ParseError.TooShort (length text))
 no-clock refuse behavior text short = rw (lt-leb 5 (length text) short) refl
 
@@ -132,14 +126,16 @@ fourth-of true true true false e rest count is some few = (refl, refl, refl)
 fourth-of true true true true false rest count is some few = (refl, refl, refl)
 fourth-of true true true true true rest count is some few = absurd (omega arith)
 
-pub no-hour : {E : Type 0} (refuse : ParseError → ℕ → E) (behavior : Behavior) (text front : List ℕ) (fits : ℕ) → 5 ≤ length text
+pub no-hour : {E : Type 0} (refuse : ParseError → ℕ → E) (behavior : Behavior) (text front : List ℕ)
+    (fits : ℕ) → 5 ≤ length text
     → front ≡ eight_at text 0 → fits ≡ fit_length pattern front → fits < 2
     → clock_front_or refuse behavior text ≡ Err (refuse ParseError.InvalidCharHour 0)
 no-hour refuse behavior text front fits long from counted few =
     let is : fits ≡ fit_length pattern (eight_at text 0) = counted ∙ ap (fit_length pattern) from in
     rw (le-leb 5 (length text) long, first-two _ _ _ (subst (λ (n : ℕ). n < 2) is few)) refl
 
-pub no-separator : {E : Type 0} (refuse : ParseError → ℕ → E) (behavior : Behavior) (text front : List ℕ) (fits : ℕ) → 5 ≤ length text
+pub no-separator : {E : Type 0} (refuse : ParseError → ℕ → E) (behavior : Behavior)
+    (text front : List ℕ) (fits : ℕ) → 5 ≤ length text
     → front ≡ eight_at text 0 → fits ≡ fit_length pattern front → fits ≡ 2
     → clock_front_or refuse behavior text ≡ Err (refuse ParseError.InvalidCharTimeSep 2)
 no-separator refuse behavior text front fits long from counted two =
@@ -147,7 +143,8 @@ no-separator refuse behavior text front fits long from counted two =
     let tests = third-of _ _ _ _ (sym is ∙ two) in
     rw (le-leb 5 (length text) long, tests.0, tests.1) refl
 
-pub no-minute : {E : Type 0} (refuse : ParseError → ℕ → E) (behavior : Behavior) (text front : List ℕ) (fits : ℕ) → 5 ≤ length text
+pub no-minute : {E : Type 0} (refuse : ParseError → ℕ → E) (behavior : Behavior)
+    (text front : List ℕ) (fits : ℕ) → 5 ≤ length text
     → front ≡ eight_at text 0 → fits ≡ fit_length pattern front → 3 ≤ fits → fits < 5
     → clock_front_or refuse behavior text ≡ Err (refuse ParseError.InvalidCharMinute 3)
 no-minute refuse behavior text front fits long from counted some few =
@@ -193,7 +190,8 @@ minute-read text front numbers fits from counted enough spelled =
     subst (λ (all : List ℕ). Minute text all) (sym is) (minute_is text two)
 
 -- its range holds, so what follows it decides
-pub minute-decided : {E : Type 0} (refuse : ParseError → ℕ → E) (behavior : Behavior) (text numbers : List ℕ)
+pub minute-decided : {E : Type 0} (refuse : ParseError → ℕ → E) (behavior : Behavior)
+    (text numbers : List ℕ)
     → Minute text numbers → get_or numbers 0 0 ≤ 59
     → minute_front_or refuse behavior text ≡ first_refusal_or refuse (second_table behavior text)
     (Ok (minute_clock text))
@@ -202,14 +200,16 @@ minute-decided refuse behavior text numbers minute short =
     rw (minute.digits, le-leb (two_digit_value text 0) 59 range) refl
 
 -- and where it does not hold, it is the fault
-pub minute-late : {E : Type 0} (refuse : ParseError → ℕ → E) (behavior : Behavior) (text numbers : List ℕ)
+pub minute-late : {E : Type 0} (refuse : ParseError → ℕ → E) (behavior : Behavior)
+    (text numbers : List ℕ)
     → Minute text numbers → 59 < get_or numbers 0 0
     → minute_front_or refuse behavior text ≡ Err (refuse ParseError.OutOfRangeMinute 0)
 minute-late refuse behavior text numbers minute late =
     let range = subst (λ (n : ℕ). 59 < n) minute.is late in
     rw (minute.digits, lt-leb (two_digit_value text 0) 59 range) refl
 
-pub minute-none : {E : Type 0} (refuse : ParseError → ℕ → E) (behavior : Behavior) (text front : List ℕ)
+pub minute-none : {E : Type 0} (refuse : ParseError → ℕ → E) (behavior : Behavior)
+    (text front : List ℕ)
     (fits : ℕ) → front ≡ eight_at text 0 → fits ≡ fit_length pattern front → fits < 2
     → minute_front_or refuse behavior text ≡ Err (refuse ParseError.InvalidCharMinute 0)
 minute-none refuse behavior text front fits from counted few =

@@ -11,12 +11,8 @@ use Rattle.speedate_base.specs.Config.{refuses_digits}
 use Rattle.speedate_base.specs.Requirement.{◌implies◌}
 use Rattle.speedate_civil.specs.Time.{clock_answer, minute_text}
 use Rattle.speedate_base.proofs.DigitRunLemmas.{run_length-append}
-use Rattle.speedate_base.proofs.DigitLemmas.{
-  two_digits-printed,
-  two_digit_value-printed,
-  six_digits-printed,
-  fraction_value-printed,
-}
+use Rattle.speedate_base.proofs.DigitLemmas.{two_digits-printed, two_digit_value-printed}
+use Rattle.speedate_base.proofs.DigitLemmas.{six_digits-printed, fraction_value-printed}
 
 -- without a fraction, whatever follows that is no decimal mark
 pub clock-whole : (behavior : Behavior) (minute second : ℕ) (tail : List ℕ)

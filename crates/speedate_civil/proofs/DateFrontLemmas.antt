@@ -5,16 +5,9 @@ use Rattle.std.proofs.lemmas.Bool.{and_from}
 use Rattle.std.proofs.lemmas.Grind.{common_steps}
 use Rattle.std.specs.Int.{is_in_range, IsInRange}
 use Rattle.speedate_base.specs.Ascii.{hyphen}
-use Rattle.speedate_base.specs.Digits.{
-  four_digits_at,
-  four_digit_value,
-  two_digits_at,
-  two_digit_value,
-  eight_at,
-  fit_length,
-  fit_digits,
-  neighbours,
-}
+use Rattle.speedate_base.specs.Digits.{four_digits_at, four_digit_value, two_digits_at}
+use Rattle.speedate_base.specs.Digits.{two_digit_value, eight_at, fit_length, fit_digits}
+use Rattle.speedate_base.specs.Digits.{neighbours}
 use Rattle.speedate_base.proofs.PatternLemmas.{fit_length-all}
 use Rattle.speedate_civil.specs.Calendar.{month_length}
 use Rattle.speedate_civil.specs.Date.{date_front_or}
@@ -59,7 +52,8 @@ first-four true true true false rest few = refl
 first-four true true true true rest few = absurd (omega arith)
 
 -- so the first row that the eight bytes do not meet gives the fault
-pub no-year : {E : Type 0} (refuse : ParseError → ℕ → E) (text front : List ℕ) (place : ℕ) → 10 ≤ length text → front ≡ eight_at text 0
+pub no-year : {E : Type 0} (refuse : ParseError → ℕ → E) (text front : List ℕ) (place : ℕ)
+    → 10 ≤ length text → front ≡ eight_at text 0
     → place ≡ fit_length pattern front → place ≤ 3
     → date_front_or refuse text ≡ Err (refuse ParseError.InvalidCharYear 0)
 no-year refuse text front place long from counted few =
@@ -68,12 +62,15 @@ no-year refuse text front place long from counted few =
     (subst (λ (count : ℕ). count ≤ 3) counted few) in
     rw (le-leb 10 (length text) long, first-four _ _ _ _ _ early) refl
 
-pub no-separator : {E : Type 0} (refuse : ParseError → ℕ → E) (text front : List ℕ) (place : ℕ) → 10 ≤ length text → front ≡ eight_at text 0
+pub no-separator : {E : Type 0} (refuse : ParseError → ℕ → E) (text front : List ℕ) (place : ℕ)
+    → 10 ≤ length text → front ≡ eight_at text 0
     → place ≡ fit_length pattern front
-    → (place ≡ 4) ⊎ (place ≡ 7) → date_front_or refuse text ≡ Err (refuse ParseError.InvalidCharDateSep place)
+    → (place ≡ 4) ⊎ (place ≡ 7) → date_front_or refuse text
+    ≡ Err (refuse ParseError.InvalidCharDateSep place)
 no-separator refuse text front place long from counted there = grind (arith, common_steps)
 
-pub no-month-digits : {E : Type 0} (refuse : ParseError → ℕ → E) (text front : List ℕ) (place : ℕ) → 10 ≤ length text
+pub no-month-digits : {E : Type 0} (refuse : ParseError → ℕ → E) (text front : List ℕ) (place : ℕ)
+    → 10 ≤ length text
     → front ≡ eight_at text 0 → place ≡ fit_length pattern front
     → 5 ≤ place → place ≤ 6 → date_front_or refuse text ≡ Err (refuse ParseError.InvalidCharMonth 5)
 no-month-digits refuse text front place long from counted five few = grind (arith, common_steps)
@@ -92,7 +89,8 @@ day-none true value found is none = absurd (cc)
 day-none false value found is none = refl
 
 -- the first row that does not hold gives the fault
-pub no-day : {E : Type 0} (refuse : ParseError → ℕ → E) (text numbers : List ℕ) → Front text numbers → 10 ≤ length text
+pub no-day : {E : Type 0} (refuse : ParseError → ℕ → E) (text numbers : List ℕ) → Front text numbers
+    → 10 ≤ length text
     → two_digits_at text 8 ≡ false
     → date_front_or refuse text ≡ Err (refuse ParseError.InvalidCharDay 8)
 no-day refuse text numbers front long none =
@@ -105,7 +103,8 @@ no-day refuse text numbers front long none =
       none,
     ) refl
 
-pub no-month : {E : Type 0} (refuse : ParseError → ℕ → E) (text numbers : List ℕ) → Front text numbers → 10 ≤ length text
+pub no-month : {E : Type 0} (refuse : ParseError → ℕ → E) (text numbers : List ℕ)
+    → Front text numbers → 10 ≤ length text
     → two_digits_at text 8 ≡ true
     → is_in_range 1 12 (get_or numbers 5 0) ≡ false
     → date_front_or refuse text ≡ Err (refuse ParseError.OutOfRangeMonth 5)
@@ -130,7 +129,8 @@ pub record Read (text numbers : List ℕ) (year day : ℕ) : Type 0 where
   pub month : IsInRange 1 12 (get_or numbers 5 0)
 
 -- the month is in its range, so the day decides
-pub late-day : {E : Type 0} (refuse : ParseError → ℕ → E) (text numbers : List ℕ) (year day : ℕ) → Read text numbers year day
+pub late-day : {E : Type 0} (refuse : ParseError → ℕ → E) (text numbers : List ℕ) (year day : ℕ)
+    → Read text numbers year day
     → is_in_range 1 (month_length year (get_or numbers 5 0)) day ≡ false
     → date_front_or refuse text ≡ Err (refuse ParseError.OutOfRangeDay 8)
 late-day refuse text numbers year day read late =
@@ -148,9 +148,13 @@ late-day refuse text numbers year day read late =
       days,
     ) refl
 
-pub date-there : {E : Type 0} (refuse : ParseError → ℕ → E) (text numbers : List ℕ) (year day : ℕ) → Read text numbers year day
+pub date-there : {E : Type 0} (refuse : ParseError → ℕ → E) (text numbers : List ℕ) (year day : ℕ)
+    → Read text numbers year day
     → is_in_range 1 (month_length year (get_or numbers 5 0)) day ≡ true
-    → date_front_or refuse text ≡ Ok (record { year = year; month = get_or numbers 5 0; day = day }, 10)
+    → date_front_or refuse text ≡ Ok (
+      record { year = year; month = get_or numbers 5 0; day = day },
+      10,
+    )
 date-there refuse text numbers year day read within =
     let front = read.front in
     let months = rw front.month_is at (is_in_range-true 1 12 (get_or numbers 5 0) read.month) in

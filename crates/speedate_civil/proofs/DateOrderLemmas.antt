@@ -5,30 +5,18 @@ use Rattle.std.specs.Cmp.Lexicographic.{slice_cmp}
 use Rattle.std.specs.Ordering.{ordering_then}
 use Rattle.std.proofs.lemmas.Bool.Decides.{nat_tests}
 use Rattle.speedate_base.specs.Digits.{digit}
-use Rattle.speedate_civil.specs.Calendar.{
-  Ymd,
-  IsDay,
-  date_counted,
-  date_numbered,
-  date_order,
-  day_number,
-}
+use Rattle.speedate_civil.specs.Calendar.{Ymd, IsDay, date_counted, date_numbered, date_order}
+use Rattle.speedate_civil.specs.Calendar.{day_number}
 use Rattle.speedate_civil.specs.Date.{ymd, date_text, Date}
 unfoldable use Rattle.speedate_civil.specs.Calendar.{
   days_of_months,
   days_before_year,
   date_of_number,
 }
-use Rattle.speedate_civil.proofs.DayNumberLemmas.{
-  days_of_months-next,
-  days_of_months-rises,
-  days_before_year-next,
-  days_before_year-rises,
-  ordinal_day-small,
-  day_number-small,
-  date_of_number-IsDay,
-  day_number-date_of_number,
-}
+use Rattle.speedate_civil.proofs.DayNumberLemmas.{days_of_months-next, days_of_months-rises}
+use Rattle.speedate_civil.proofs.DayNumberLemmas.{days_before_year-next, days_before_year-rises}
+use Rattle.speedate_civil.proofs.DayNumberLemmas.{ordinal_day-small, day_number-small}
+use Rattle.speedate_civil.proofs.DayNumberLemmas.{date_of_number-IsDay, day_number-date_of_number}
 
 -- an earlier year has smaller day numbers
 earlier_year : (first second : Ymd) → IsDay first → IsDay second → first.year < second.year

@@ -3,36 +3,17 @@
 use Rattle.std.proofs.Common.{◌≡◌, ℕ, true, int_le, length, Option, ℤ, pos, ◌+ℤ◌, ◌*ℤ◌, IfOk, Ok, refl, arith, ◌∙◌, ap, sym, subst}
 use Rattle.std.proofs.lemmas.Int.{ints}
 use Rattle.speedate_civil.specs.Base.{TimestampUnit}
-use Rattle.speedate_base.specs.Timestamp.{
-  decimal_row,
-  decimal_numerator,
-  decimal_microsecond,
-  decimal_instant,
-  Instant,
-  timestamp_microsecond,
-  instant_at,
-  instant_answer,
-  unit_table,
-  first_second,
-  range_table,
-  range_answer,
-  later_instant,
-  later_answer,
-  sum_table,
-}
+use Rattle.speedate_base.specs.Timestamp.{decimal_row, decimal_numerator, decimal_microsecond}
+use Rattle.speedate_base.specs.Timestamp.{decimal_instant, Instant, timestamp_microsecond}
+use Rattle.speedate_base.specs.Timestamp.{instant_at, instant_answer, unit_table, first_second}
+use Rattle.speedate_base.specs.Timestamp.{range_table, range_answer, later_instant, later_answer}
+use Rattle.speedate_base.specs.Timestamp.{sum_table}
 use Rattle.speedate_base.specs.Numbers.{decimal_scale, DecimalParts}
 use Rattle.speedate_base.specs.Nearest.{IsNearest}
-use Rattle.speedate_civil.specs.DateTime.{
-  DateAndTime,
-  local_second,
-  local_microsecond,
-  IsShownAt,
-  date_time_at,
-  instant_date_time,
-  date_time_timestamp_answer,
-  date_time_decimal_answer,
-  meant_microsecond,
-}
+use Rattle.speedate_civil.specs.DateTime.{DateAndTime, local_second, local_microsecond, IsShownAt}
+use Rattle.speedate_civil.specs.DateTime.{date_time_at, instant_date_time}
+use Rattle.speedate_civil.specs.DateTime.{date_time_timestamp_answer, date_time_decimal_answer}
+use Rattle.speedate_civil.specs.DateTime.{meant_microsecond}
 use Rattle.speedate_base.proofs.NearestLemmas.{nearest-is, scale-some}
 use Rattle.speedate_base.proofs.TimestampLemmas.{instant_microsecond, instant_at-microsecond}
 use Rattle.speedate_civil.proofs.DayNumberLemmas.{day_number-date_of_number}

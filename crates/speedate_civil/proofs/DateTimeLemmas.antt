@@ -5,13 +5,8 @@ use Rattle.speedate_civil.specs.Base.{Behavior}
 use Rattle.speedate_base.specs.Ascii.{capital_t}
 use Rattle.speedate_base.specs.Offset.{IsWholeMinutes}
 use Rattle.speedate_base.specs.Requirement.{fault_alone, whole_or_fault, result_and_then}
-use Rattle.speedate_civil.specs.DateTime.{
-  DateAndTime,
-  IsDateAndTime,
-  date_time_front,
-  date_time_answer,
-  date_time_text,
-}
+use Rattle.speedate_civil.specs.DateTime.{DateAndTime, IsDateAndTime, date_time_front}
+use Rattle.speedate_civil.specs.DateTime.{date_time_answer, date_time_text}
 use Rattle.speedate_civil.specs.Time.{end_fault, time_text, is_after_time}
 use Rattle.speedate_civil.proofs.DateLemmas.{date_text-front}
 use Rattle.speedate_civil.proofs.FrontLemmas.{date_time_front-is}

@@ -3,43 +3,21 @@
 use Rattle.std.proofs.Common.{◌≡◌, ◌+◌, ◌∙◌, ◌-◌, ℕ, ℤ, List, length, Bool, true, if◌then◌else◌, Option, Some, Ok, Err, is_err, is_some, refl, sym, ap, rules}
 use Rattle.std.specs.Option.{option_map}
 use Rattle.speedate_civil.specs.Base.{Behavior, ParseError, TimestampUnit}
-use Rattle.speedate_base.specs.Numbers.{
-  DecimalParts,
-  Fractional,
-  NoNumber,
-  Number,
-  Whole,
-  number_answer,
-}
-use Rattle.speedate_base.specs.Timestamp.{
-  Instant,
-  UnitRow,
-  decimal_instant,
-  decimal_row,
-  digits_row,
-  digits_table,
-  range_answer,
-  range_table,
-}
+use Rattle.speedate_base.specs.Numbers.{DecimalParts, Fractional, NoNumber, Number, Whole}
+use Rattle.speedate_base.specs.Numbers.{number_answer}
+use Rattle.speedate_base.specs.Timestamp.{Instant, UnitRow, decimal_instant, decimal_row}
+use Rattle.speedate_base.specs.Timestamp.{digits_row, digits_table, range_answer, range_table}
 use Rattle.speedate_base.specs.Requirement.{all_at_byte, first_fault_or, first_place}
-use Rattle.speedate_base.proofs.RequirementLemmas.{fault_at_byte-is_some, first_fault_or-map, is_answer_of-is_some, or_number-is_some}
+use Rattle.speedate_base.proofs.RequirementLemmas.{fault_at_byte-is_some, first_fault_or-map}
+use Rattle.speedate_base.proofs.RequirementLemmas.{is_answer_of-is_some, or_number-is_some}
 use Rattle.speedate_base.specs.Refused.{placed, refused_place}
 use Rattle.speedate_base.specs.declared.refusal.Refused.{Refused}
 use Rattle.speedate_base.proofs.RefusalLemmas.{refused-is_some}
-use Rattle.speedate_civil.specs.DateTime.{
-  date_time_answer,
-  date_time_answer_or,
-  date_time_at,
-  date_time_number_answer,
-  date_time_or_timestamp,
-  date_time_timestamp_answer,
-  instant_date_time,
-}
-use Rattle.speedate_civil.specs.ErrorPlace.{
-  date_time_number_place,
-  date_time_or_timestamp_place,
-  decimal_table,
-}
+use Rattle.speedate_civil.specs.DateTime.{date_time_answer, date_time_answer_or, date_time_at}
+use Rattle.speedate_civil.specs.DateTime.{date_time_number_answer, date_time_or_timestamp}
+use Rattle.speedate_civil.specs.DateTime.{date_time_timestamp_answer, instant_date_time}
+use Rattle.speedate_civil.specs.ErrorPlace.{date_time_number_place, date_time_or_timestamp_place}
+use Rattle.speedate_civil.specs.ErrorPlace.{decimal_table}
 use Rattle.speedate_civil.proofs.ErrorPlaceLemmas.{date_time_answer-view}
 
 -- Timestamps.

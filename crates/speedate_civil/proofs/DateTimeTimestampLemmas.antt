@@ -6,16 +6,9 @@ use Rattle.std.proofs.lemmas.Int.{ints}
 use Rattle.speedate_base.specs.Numbers.{Fractional, NoNumber, Number, Whole}
 use Rattle.speedate_base.specs.Requirement.{or_number, result_and_then, result_map}
 use Rattle.speedate_base.specs.Timestamp.{Instant, later_answer}
-use Rattle.speedate_civil.specs.DateTime.{
-  DateAndTime,
-  IsDateAndTime,
-  local_second,
-  date_time_at,
-  instant_date_time,
-  date_time_number_answer,
-  date_time_timestamp_answer,
-  number_instant,
-}
+use Rattle.speedate_civil.specs.DateTime.{DateAndTime, IsDateAndTime, local_second, date_time_at}
+use Rattle.speedate_civil.specs.DateTime.{instant_date_time, date_time_number_answer}
+use Rattle.speedate_civil.specs.DateTime.{date_time_timestamp_answer, number_instant}
 use Rattle.speedate_base.proofs.TimestampLemmas.{instant_of_seconds}
 use Rattle.speedate_civil.specs.Base.{Behavior, ParseError, TimestampUnit}
 use Rattle.speedate_civil.proofs.DateOrderLemmas.{date_of_number-day_number}

@@ -5,22 +5,11 @@ use Rattle.std.specs.Int.{int_div_euclid, int_rem_euclid}
 use Rattle.std.proofs.lemmas.Bool.Decides.{nat_tests}
 use Rattle.std.proofs.lemmas.Int.{ints}
 use Rattle.speedate_base.specs.Requirement.{fault_alone, AllHold, result_and_then}
-use Rattle.speedate_base.specs.Timestamp.{
-  Instant,
-  first_second,
-  last_second,
-  seconds_per_day,
-  range_answer,
-  range_table,
-}
+use Rattle.speedate_base.specs.Timestamp.{Instant, first_second, last_second, seconds_per_day}
+use Rattle.speedate_base.specs.Timestamp.{range_answer, range_table}
 use Rattle.speedate_civil.specs.Calendar.{Ymd, epoch_day, date_of_number, date_numbered}
-use Rattle.speedate_civil.specs.Date.{
-  date_timestamp_answer,
-  day_at,
-  day_number_at,
-  instant_date,
-  second_at,
-}
+use Rattle.speedate_civil.specs.Date.{date_timestamp_answer, day_at, day_number_at, instant_date}
+use Rattle.speedate_civil.specs.Date.{second_at}
 use Rattle.speedate_base.proofs.RefusalLemmas.{refusal-all}
 use Rattle.speedate_base.proofs.TimestampLemmas.{instant_of_seconds}
 
@@ -67,7 +56,8 @@ date_timestamp-leads_back number date at exact numbered is =
     ap (λ (read : Instant). result_and_then (instant_date exact) (range_answer read))
     (instant_of_seconds at)
     ∙ ap (result_and_then (instant_date exact))
-    (refusal-all fault_alone (range_table instant) (Ok instant) (midnight-within number at there.0 is))
+    (refusal-all fault_alone (range_table instant) (Ok instant)
+    (midnight-within number at there.0 is))
     ∙ midnight-date exact at number date midnight day there.1
 
 -- the seconds from 0000-01-01T00:00:00 to a second, in 64 bits

@@ -2,17 +2,8 @@
 -- the day before.
 use Rattle.std.proofs.Common.{◌≡◌, ℕ, zero, suc, ◌+◌, ◌-◌, ◌*◌, ◌/◌, ◌≤◌, true, false, if◌then◌else◌, refl, rules, arith, subst, add-one, add-zero, add-suc}
 use Rattle.std.proofs.lemmas.Bool.Decides.{nat_tests}
-use Rattle.speedate_civil.specs.Calendar.{
-  Ymd,
-  is_leap_year,
-  february_length,
-  month_length,
-  IsDay,
-  year_length,
-  ordinal_day,
-  day_number,
-  following_day,
-}
+use Rattle.speedate_civil.specs.Calendar.{Ymd, is_leap_year, february_length, month_length, IsDay}
+use Rattle.speedate_civil.specs.Calendar.{year_length, ordinal_day, day_number, following_day}
 unfoldable use Rattle.speedate_civil.specs.Calendar.{
   days_of_months,
   days_before_year,

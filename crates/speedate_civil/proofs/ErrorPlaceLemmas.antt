@@ -1,71 +1,28 @@
 -- The answers with another refusal: those with a place have the faults of the grammar.
-use Rattle.std.proofs.Common.{◌≡◌, ◌∙◌, ◌+◌, ap, ℕ, ℤ, List, drop, Option, Result, Ok, is_err, is_some, true, refl, rules}
+use Rattle.std.proofs.Common.{◌≡◌, ◌∙◌, ◌+◌, ap, ℕ, ℤ, List, drop, Option, Ok, is_err, is_some, true, refl, rules}
 use Rattle.speedate_civil.specs.Base.{Behavior, ParseError, TimestampUnit}
-use Rattle.speedate_base.specs.Requirement.{
-  TextRow,
-  end_table,
-  fault_alone,
-  fault_at_byte,
-  first_refusal_or,
-  refusal_map,
-  result_and_then,
-  result_map,
-  shifted,
-  whole_or_refusal,
-}
+use Rattle.speedate_base.specs.Requirement.{end_table, fault_alone, fault_at_byte}
+use Rattle.speedate_base.specs.Requirement.{first_refusal_or, refusal_map}
+use Rattle.speedate_base.specs.Requirement.{result_map, shifted, whole_or_refusal}
 use Rattle.speedate_base.specs.Refused.{placed, refused_place}
 use Rattle.speedate_base.specs.declared.refusal.Refused.{Refused}
-use Rattle.speedate_base.proofs.RefusalLemmas.{
-  chain-view,
-  first_refusal_or-view,
-  map-view,
-  refusal-all,
-  refusal-value,
-  refused-is_some,
-  then-view,
-  through,
-}
+use Rattle.speedate_base.proofs.RefusalLemmas.{chain-view, first_refusal_or-view, map-view}
+use Rattle.speedate_base.proofs.RefusalLemmas.{refusal-all, refusal-value, refused-is_some}
+use Rattle.speedate_base.proofs.RefusalLemmas.{then-view, through}
 use Rattle.speedate_base.proofs.RequirementLemmas.{fault_at_byte-is_some, or_number-is_some}
 use Rattle.speedate_civil.specs.Calendar.{Ymd}
-use Rattle.speedate_civil.specs.Date.{
-  date_answer,
-  date_answer_or,
-  date_front,
-  date_front_or,
-  date_numbers,
-  date_or_timestamp,
-  date_table,
-  date_timestamp_answer,
-}
-use Rattle.speedate_civil.specs.DateTime.{
-  DateAndTime,
-  date_time_answer_or,
-  date_time_front_or,
-  separator_table,
-}
+use Rattle.speedate_civil.specs.Date.{date_answer, date_answer_or, date_front, date_front_or}
+use Rattle.speedate_civil.specs.Date.{date_numbers, date_or_timestamp, date_table}
+use Rattle.speedate_civil.specs.Date.{date_timestamp_answer}
+use Rattle.speedate_civil.specs.DateTime.{DateAndTime, date_time_answer_or, date_time_front_or}
+use Rattle.speedate_civil.specs.DateTime.{separator_table}
 use Rattle.speedate_civil.specs.ErrorPlace.{date_or_timestamp_place}
-use Rattle.speedate_civil.specs.Standard.{
-  standard_date_time,
-  standard_time,
-  strict_date_time_answer_or,
-  strict_time_answer_or,
-}
-use Rattle.speedate_civil.specs.Time.{
-  Clock,
-  TimeOfDay,
-  at_hour,
-  clock_front_or,
-  clock_with_offset,
-  end_fault,
-  hour_range,
-  hour_table,
-  minute_clock,
-  minute_digits,
-  minute_table,
-  offset_front_or,
-  time_answer_or,
-  time_front_or,
-}
+use Rattle.speedate_civil.specs.Standard.{standard_date_time, standard_time}
+use Rattle.speedate_civil.specs.Standard.{strict_date_time_answer_or, strict_time_answer_or}
+use Rattle.speedate_civil.specs.Time.{Clock, TimeOfDay, at_hour, clock_front_or, clock_with_offset}
+use Rattle.speedate_civil.specs.Time.{end_fault, hour_range, hour_table, minute_clock}
+use Rattle.speedate_civil.specs.Time.{minute_digits, minute_table, offset_front_or, time_answer_or}
+use Rattle.speedate_civil.specs.Time.{time_front_or}
 use Rattle.speedate_base.specs.Digits.{two_digit_value}
 use Rattle.speedate_base.specs.Numbers.{whole_number}
 use Rattle.std.specs.Option.{option_map}
@@ -94,7 +51,8 @@ date_front-read refuse text date same =
 pub date_answer-view : {E D : Type 0} (view : E → D) (refuse : ParseError → ℕ → E) (text : List ℕ)
     → refusal_map view (date_answer_or refuse text) ≡ date_answer_or (through view refuse) text
 date_answer-view view refuse text =
-    then-view view _ _ _ _ (whole-view view refuse (λ (read : Ymd). ParseError.ExtraCharacters) text)
+    then-view view _ _ _ _ (whole-view view refuse (λ (read : Ymd). ParseError.ExtraCharacters)
+    text)
     (date_front-view view refuse text)
 
 clock_front-view : {E D : Type 0} (view : E → D) (refuse : ParseError → ℕ → E)
@@ -109,7 +67,8 @@ clock_front-view view refuse behavior text =
     chain-view view refuse (hour_table text) _ _
     (chain-view view (shifted 3 refuse) (minute_digits rest) _ _
     (chain-view view refuse (hour_range text) _ _
-    (map-view view (at_hour hour) (first_refusal_or (shifted 3 refuse) later (Ok (minute_clock rest)))
+    (map-view view (at_hour hour) (first_refusal_or (shifted 3 refuse) later
+    (Ok (minute_clock rest)))
     ∙ ap (result_map (at_hour hour))
     (chain-view view (shifted 3 refuse) later (Ok (minute_clock rest)) (Ok (minute_clock rest))
     refl))))
@@ -135,7 +94,8 @@ pub time_answer-view : {E D : Type 0} (view : E → D) (refuse : ParseError → 
     → refusal_map view (time_answer_or refuse behavior text)
     ≡ time_answer_or (through view refuse) behavior text
 time_answer-view view refuse behavior text =
-    then-view view _ _ _ _ (whole-view view refuse (λ (read : TimeOfDay). end_fault read.offset) text)
+    then-view view _ _ _ _ (whole-view view refuse (λ (read : TimeOfDay). end_fault read.offset)
+    text)
     (time_front-view view refuse behavior text)
 
 pub strict_time_answer-view : {E D : Type 0} (view : E → D) (refuse : ParseError → ℕ → E)
@@ -178,7 +138,8 @@ pub strict_date_time_answer-view : {E D : Type 0} (view : E → D) (refuse : Par
     ≡ strict_date_time_answer_or (through view refuse) behavior text
 strict_date_time_answer-view view refuse behavior text =
     then-view view _ _ _ _
-    (λ (value : DateAndTime). first_refusal_or-view view refuse (standard_date_time text) (Ok value))
+    (λ (value : DateAndTime). first_refusal_or-view view refuse (standard_date_time text)
+    (Ok value))
     (date_time_answer-view view refuse behavior text)
 
 pub date_or_timestamp-is_some : (unit : TimestampUnit) (text : List ℕ)

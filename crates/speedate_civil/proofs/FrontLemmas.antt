@@ -9,50 +9,17 @@ use Rattle.std.specs.List.{prefix_len}
 use Rattle.std.proofs.lemmas.List.{drop-take}
 use Rattle.speedate_base.specs.Ascii.{colon, hyphen}
 use Rattle.speedate_base.specs.Digits.{run_length, run_digits, two_digit_value, is_decimal_mark}
-use Rattle.speedate_base.specs.Requirement.{
-  fault_alone,
-  AllHold,
-  whole_or_fault,
-  first_fault_or,
-  result_and_then,
-  result_map,
-  with_size,
-}
+use Rattle.speedate_base.specs.Requirement.{fault_alone, AllHold, whole_or_fault, first_fault_or}
+use Rattle.speedate_base.specs.Requirement.{result_and_then, result_map, with_size}
 use Rattle.speedate_civil.specs.Calendar.{Ymd}
-use Rattle.speedate_civil.specs.Time.{
-  Clock,
-  at_hour,
-  clock_answer,
-  clock_front,
-  hour_table,
-  hour_range,
-  minute_clock,
-  minute_digits,
-  minute_table,
-  has_second,
-  has_decimal_mark,
-  end_fault,
-  offset_digits_size,
-  offset_front,
-  offset_digits,
-  offset_ranges,
-  has_minus_sign,
-  is_plus_or_minus,
-  is_utc,
-  signed_front,
-  TimeOfDay,
-  time_front,
-  time_answer,
-  clock_with_offset,
-}
-use Rattle.speedate_civil.specs.DateTime.{
-  DateAndTime,
-  DateTime,
-  date_and_time,
-  date_time_answer,
-  date_time_front,
-  separator_table,
-}
+use Rattle.speedate_civil.specs.Time.{Clock, at_hour, clock_answer, clock_front, hour_table}
+use Rattle.speedate_civil.specs.Time.{hour_range, minute_clock, minute_digits, minute_table}
+use Rattle.speedate_civil.specs.Time.{has_second, has_decimal_mark, end_fault, offset_digits_size}
+use Rattle.speedate_civil.specs.Time.{offset_front, offset_digits, offset_ranges, has_minus_sign}
+use Rattle.speedate_civil.specs.Time.{is_plus_or_minus, is_utc, signed_front, TimeOfDay, time_front}
+use Rattle.speedate_civil.specs.Time.{time_answer, clock_with_offset}
+use Rattle.speedate_civil.specs.DateTime.{DateAndTime, DateTime, date_and_time, date_time_answer}
+use Rattle.speedate_civil.specs.DateTime.{date_time_front, separator_table}
 use Rattle.speedate_civil.specs.Date.{date_front, date_answer, date_numbers, date_table}
 use Rattle.speedate_civil.proofs.OffsetLemmas.{offset-cases}
 use Rattle.speedate_base.proofs.RefusalLemmas.{refusal-all, refusal-ok}

@@ -9,61 +9,23 @@ use Rattle.speedate_civil.specs.Base.{Behavior, DateTimeConfig, ParseError, Time
 use Rattle.speedate_base.specs.Config.{refuses_digits}
 use Rattle.speedate_base.specs.Digits.{run_length, two_digits_at, two_digit_value}
 use Rattle.speedate_base.specs.Numbers.{NoNumber, number_answer, whole_number}
-use Rattle.speedate_base.specs.Requirement.{
-  fault_alone,
-  NumberRow,
-  Requirement,
-  TextRow,
-  first_fault_or,
-  result_and_then,
-  result_map,
-  whole_or_fault,
-  ◌else_fault◌,
-  ◌implies◌,
-  ◌>>=◌,
-}
+use Rattle.speedate_base.specs.Requirement.{fault_alone, NumberRow, Requirement, TextRow}
+use Rattle.speedate_base.specs.Requirement.{first_fault_or, result_and_then, result_map}
+use Rattle.speedate_base.specs.Requirement.{whole_or_fault, ◌else_fault◌, ◌implies◌, ◌>>=◌}
 use Rattle.speedate_base.proofs.RequirementLemmas.{and_then-ok}
 use Rattle.speedate_civil.specs.Calendar.{Ymd}
-use Rattle.speedate_civil.specs.Date.{
-  date_answer,
-  date_front,
-  date_numbers,
-  date_or_timestamp,
-  date_table,
-}
-use Rattle.speedate_civil.specs.DateTime.{
-  DateAndTime,
-  date_time_answer,
-  date_time_by_config,
-  date_time_front,
-  separator_table,
-}
+use Rattle.speedate_civil.specs.Date.{date_answer, date_front, date_numbers, date_or_timestamp}
+use Rattle.speedate_civil.specs.Date.{date_table}
+use Rattle.speedate_civil.specs.DateTime.{DateAndTime, date_time_answer, date_time_by_config}
+use Rattle.speedate_civil.specs.DateTime.{date_time_front, separator_table}
 use Rattle.speedate_civil.specs.ParserParts.{may_be_number, refusal_size}
-use Rattle.speedate_civil.specs.Time.{
-  Clock,
-  TimeOfDay,
-  at_hour,
-  clock_answer,
-  clock_front,
-  end_fault,
-  has_fraction,
-  has_second,
-  hour_range,
-  hour_table,
-  minute_clock,
-  minute_digits,
-  offset_digits,
-  offset_front,
-  offset_ranges,
-  signed_front,
-  time_front,
-}
+use Rattle.speedate_civil.specs.Time.{Clock, TimeOfDay, at_hour, clock_answer, clock_front}
+use Rattle.speedate_civil.specs.Time.{end_fault, has_fraction, has_second, hour_range, hour_table}
+use Rattle.speedate_civil.specs.Time.{minute_clock, minute_digits, offset_digits, offset_front}
+use Rattle.speedate_civil.specs.Time.{offset_ranges, signed_front, time_front}
 use Rattle.speedate_civil.proofs.FrontLemmas.{date-taken, date_time_front-taken}
-use Rattle.speedate_civil.proofs.NumberTextLemmas.{
-  number_answer-date,
-  number_answer-refused,
-  whole_number-none,
-}
+use Rattle.speedate_civil.proofs.NumberTextLemmas.{number_answer-date, number_answer-refused}
+use Rattle.speedate_civil.proofs.NumberTextLemmas.{whole_number-none}
 use Rattle.speedate_civil.proofs.OffsetLemmas.{offset-cases}
 use Rattle.speedate_base.proofs.RefusalLemmas.{refusal-longer}
 use Rattle.speedate_civil.proofs.ReadLemmas.{read-rows, read-value}

@@ -5,12 +5,8 @@ use Rattle.std.specs.Int.{IsInRange}
 use Rattle.std.proofs.lemmas.Bool.Decides.{nat_tests}
 use Rattle.speedate_civil.specs.Calendar.{february_length, month_length, year_length}
 unfoldable use Rattle.speedate_civil.specs.Calendar.{days_of_months}
-use Rattle.speedate_civil.proofs.DayNumberLemmas.{
-  leap_day,
-  leap_day-small,
-  february_length-is,
-  year_length-is,
-}
+use Rattle.speedate_civil.proofs.DayNumberLemmas.{leap_day, leap_day-small, february_length-is}
+use Rattle.speedate_civil.proofs.DayNumberLemmas.{year_length-is}
 use Rattle.speedate_civil.proofs.ReadLemmas.{if_cases}
 
 -- the days before a month, where a February of 30 days is taken for the year's

@@ -12,22 +12,10 @@ use Rattle.speedate_base.specs.Requirement.{fault_alone, AllHold, ◌implies◌,
 use Rattle.speedate_civil.specs.Calendar.{Ymd}
 use Rattle.speedate_civil.specs.Date.{date_front, date_numbers, date_table}
 use Rattle.speedate_civil.specs.DateTime.{date_time_front, is_separator, separator_table}
-use Rattle.speedate_civil.specs.Time.{
-  Clock,
-  clock_front,
-  has_decimal_mark,
-  has_minus_sign,
-  has_second,
-  is_plus_or_minus,
-  is_utc,
-  minute_clock,
-  offset_digits,
-  offset_digits_size,
-  offset_front,
-  offset_ranges,
-  signed_front,
-  time_front,
-}
+use Rattle.speedate_civil.specs.Time.{Clock, clock_front, has_decimal_mark, has_minus_sign}
+use Rattle.speedate_civil.specs.Time.{has_second, is_plus_or_minus, is_utc, minute_clock}
+use Rattle.speedate_civil.specs.Time.{offset_digits, offset_digits_size, offset_front}
+use Rattle.speedate_civil.specs.Time.{offset_ranges, signed_front, time_front}
 use Rattle.speedate_civil.proofs.FrontLemmas.{clock-read, clock-size, minute_size}
 use Rattle.speedate_civil.proofs.OffsetLemmas.{offset-cases}
 use Rattle.speedate_base.proofs.RefusalLemmas.{refusal-ok}
@@ -201,7 +189,9 @@ date_time_front-no_control behavior text =
     read-then _ _ (date_front text)
     (λ date dated. read-then _ _ (first_fault_or (separator_table text) (time_front behavior rest))
     (λ time read.
-    let after = refusal-ok fault_alone (separator_table text) (time_front behavior rest) time read in
-    let rows = (refusal-ok fault_alone (date_table text) (Ok (date_numbers text, 10)) date dated).0 in
+    let after = refusal-ok fault_alone (separator_table text) (time_front behavior rest) time
+    read in
+    let rows = (refusal-ok fault_alone (date_table text) (Ok (date_numbers text, 10)) date
+    dated).0 in
     joined 11 time.1 text (more 10 text (date_rows text rows) (separator _ after.0.0))
     (read-value _ (time_front behavior rest) time after.1 (time_front-no_control behavior rest))))

@@ -5,14 +5,8 @@ use Rattle.std.proofs.lemmas.Bool.Decides.{nat_tests}
 use Rattle.std.specs.Char.{is_ascii_digit}
 use Rattle.speedate_base.specs.Ascii.{hyphen, full_stop}
 use Rattle.speedate_base.specs.Digits.{four_digits_at}
-use Rattle.speedate_base.specs.Numbers.{
-  Number,
-  NoNumber,
-  number_answer,
-  whole_number,
-  whole_or,
-  decimal_answer,
-}
+use Rattle.speedate_base.specs.Numbers.{Number, NoNumber, number_answer, whole_number, whole_or}
+use Rattle.speedate_base.specs.Numbers.{decimal_answer}
 use Rattle.speedate_civil.specs.Calendar.{Ymd}
 use Rattle.speedate_civil.specs.Date.{date_front, date_answer}
 use Rattle.speedate_civil.specs.ParserParts.{may_be_number}

@@ -7,16 +7,8 @@ use Rattle.speedate_base.specs.Ascii.{plus_sign, hyphen, capital_z}
 use Rattle.speedate_base.specs.Numbers.{with_sign}
 use Rattle.speedate_base.specs.Offset.{IsOffset, IsWholeMinutes}
 use Rattle.speedate_base.specs.Timestamp.{seconds_per_day}
-use Rattle.speedate_civil.specs.Time.{
-  begins_offset,
-  has_minus_sign,
-  is_plus_or_minus,
-  is_utc,
-  offset_front,
-  offset_text,
-  offset_size_text,
-  signed_front,
-}
+use Rattle.speedate_civil.specs.Time.{begins_offset, has_minus_sign, is_plus_or_minus, is_utc}
+use Rattle.speedate_civil.specs.Time.{offset_front, offset_text, offset_size_text, signed_front}
 
 -- what holds of the offset of a text by what it begins with, `+` or `-`, `Z` or `z`, U+2212 or none
 -- of them, holds of it

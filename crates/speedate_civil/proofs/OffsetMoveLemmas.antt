@@ -16,7 +16,8 @@ pub clock-moved : (old : Option ℤ) (offset shift local second : ℤ)
     → second ≡ local +ℤ shift
     → AllHold (move_table offset old) × (second ≡ (local -ℤ unwrap_or old (pos 0)) +ℤ offset)
 clock-moved old offset shift local second moved sum =
-    let met = refusal-value fault_alone (move_table offset old) (offset -ℤ unwrap_or old (pos 0)) shift
+    let met = refusal-value fault_alone (move_table offset old) (offset -ℤ unwrap_or old (pos 0))
+    shift
     (sym moved) in
     (met.0, omega (arith, ints, met.1, sum))
 

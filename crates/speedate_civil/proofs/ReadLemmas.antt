@@ -1,13 +1,8 @@
 -- What holds of a value that was read by tables and by steps.
 use Rattle.std.proofs.Common.{◌≡◌, Bool, true, false, if◌then◌else◌, List, [], ◌∷◌, IfOk, Result, Ok, Err, rules, subst}
 use Rattle.speedate_civil.specs.Base.{ParseError}
-use Rattle.speedate_base.specs.Requirement.{
-  Requirement,
-  AllHold,
-  first_fault_or,
-  result_map,
-  result_and_then,
-}
+use Rattle.speedate_base.specs.Requirement.{Requirement, AllHold, first_fault_or, result_map}
+use Rattle.speedate_base.specs.Requirement.{result_and_then}
 
 -- a choice by a test
 pub if_cases : {A : Type 0} (P : A → Type 0) (test : Bool) (one other : A) → (test ≡ true → P one)

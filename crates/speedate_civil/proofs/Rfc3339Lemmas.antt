@@ -1,55 +1,10 @@
 -- The texts of RFC 3339 by its rules are those that the strict readers take.
-use Rattle.std.proofs.Common.{
-  ◌≡◌,
-  ◌⊎◌,
-  ℕ,
-  ◌+◌,
-  ◌*◌,
-  ◌≤◌,
-  zero,
-  suc,
-  Bool,
-  true,
-  false,
-  ◌==◌,
-  List,
-  [],
-  ◌∷◌,
-  ◌++◌,
-  length,
-  take,
-  drop,
-  nat_le,
-  nat_lt,
-  slice_index,
-  Option,
-  Some,
-  ℤ,
-  pos,
-  IfOk,
-  Result,
-  Ok,
-  refl,
-  ◌↔◌,
-  rules,
-  arith,
-  ap,
-  subst,
-  sym,
-  ◌∙◌,
-  inl,
-  inr,
-  leb-true,
-  ltb-true,
-  eqb-true,
-  get_or-drop,
-  length-append,
-  length-drop,
-  length-take-le,
-  take_all,
-  take-append-drop,
-  IsOk,
-}
+use Rattle.std.proofs.Common.{◌≡◌, ◌⊎◌, ℕ, ◌+◌, ◌*◌, ◌≤◌, zero, suc, Bool, true, false, ◌==◌, List}
+use Rattle.std.proofs.Common.{[], ◌∷◌, ◌++◌, length, take, drop, nat_le, nat_lt, slice_index}
+use Rattle.std.proofs.Common.{Option, Some, ℤ, pos, IfOk, Result, Ok, refl, ◌↔◌, rules, arith, ap}
+use Rattle.std.proofs.Common.{subst, sym, ◌∙◌, inl, inr, leb-true, ltb-true, eqb-true, get_or-drop}
+use Rattle.std.proofs.Common.{length-append, length-drop, length-take-le, take_all}
+use Rattle.std.proofs.Common.{take-append-drop, IsOk}
 use Rattle.speedate_civil.specs.Base.{Behavior, ParseError}
 use Rattle.std.specs.Char.{is_ascii_digit}
 use Rattle.std.specs.List.{prefix_len}
@@ -58,99 +13,39 @@ use Rattle.std.proofs.lemmas.Bool.{not-true}
 use Rattle.std.proofs.lemmas.Bool.Decides.{nat_tests}
 use Rattle.std.proofs.lemmas.List.{drop_more, nil_from_length}
 use Rattle.std.proofs.lemmas.List.Sums.{prefix_len-le-length}
-use Rattle.speedate_base.specs.Ascii.{
-  colon,
-  comma,
-  full_stop,
-  hyphen,
-  plus_sign,
-  capital_t,
-  capital_z,
-  small_t,
-  small_z,
-}
-use Rattle.speedate_base.specs.Digits.{
-  run_length,
-  two_digits_at,
-  two_digit_text,
-  two_digit_value,
-  four_digit_value,
-  is_decimal_mark,
-}
+use Rattle.speedate_base.specs.Ascii.{colon, comma, full_stop, hyphen, plus_sign, capital_t}
+use Rattle.speedate_base.specs.Ascii.{capital_z, small_t, small_z}
+use Rattle.speedate_base.specs.Digits.{run_length, two_digits_at, two_digit_text, two_digit_value}
+use Rattle.speedate_base.specs.Digits.{four_digit_value, is_decimal_mark}
 use Rattle.speedate_base.specs.Numbers.{with_sign}
 use Rattle.speedate_base.specs.Config.{refuses_digits}
-use Rattle.speedate_base.specs.Requirement.{
-  fault_alone,
-  Requirement,
-  ◌implies◌,
-  AllHold,
-  whole_or_fault,
-  first_fault_or,
-  result_map,
-  result_and_then,
-}
+use Rattle.speedate_base.specs.Requirement.{fault_alone, Requirement, ◌implies◌, AllHold}
+use Rattle.speedate_base.specs.Requirement.{whole_or_fault, first_fault_or, result_map}
+use Rattle.speedate_base.specs.Requirement.{result_and_then}
 use Rattle.speedate_civil.specs.Calendar.{Ymd, IsDate}
-use Rattle.speedate_civil.specs.Time.{
-  Clock,
-  clock_front,
-  has_decimal_mark,
-  has_second,
-  minute_text,
-  end_fault,
-  is_plus_or_minus,
-  offset_digits,
-  offset_front,
-  offset_ranges,
-  signed_front,
-  TimeOfDay,
-  clock_with_offset,
-  time_front,
-  time_answer,
-  time_of_day,
-  Time,
-}
-use Rattle.speedate_civil.specs.DateTime.{
-  DateAndTime,
-  date_time_answer,
-  date_time_front,
-  separator_table,
-  date_and_time,
-  DateTime,
-}
+use Rattle.speedate_civil.specs.Time.{Clock, clock_front, has_decimal_mark, has_second, minute_text}
+use Rattle.speedate_civil.specs.Time.{end_fault, is_plus_or_minus, offset_digits, offset_front}
+use Rattle.speedate_civil.specs.Time.{offset_ranges, signed_front, TimeOfDay, clock_with_offset}
+use Rattle.speedate_civil.specs.Time.{time_front, time_answer, time_of_day, Time}
+use Rattle.speedate_civil.specs.DateTime.{DateAndTime, date_time_answer, date_time_front}
+use Rattle.speedate_civil.specs.DateTime.{separator_table, date_and_time, DateTime}
 use Rattle.speedate_civil.specs.Date.{date_front, date_table, date_text}
-use Rattle.speedate_civil.specs.Standard.{
-  IsFullDate,
-  IsDateTime,
-  IsTwoDigits,
-  IsSecfrac,
-  IsPartialTime,
-  IsNumoffset,
-  IsTimeOffset,
-  IsFullTime,
-  offset_place,
-  standard_date_time,
-  standard_offset,
-  standard_time,
-  strict_date_time_answer,
-  strict_time_answer,
-}
+use Rattle.speedate_civil.specs.Standard.{IsFullDate, IsDateTime, IsTwoDigits, IsSecfrac}
+use Rattle.speedate_civil.specs.Standard.{IsPartialTime, IsNumoffset, IsTimeOffset, IsFullTime}
+use Rattle.speedate_civil.specs.Standard.{offset_place, standard_date_time, standard_offset}
+use Rattle.speedate_civil.specs.Standard.{standard_time, strict_date_time_answer}
+use Rattle.speedate_civil.specs.Standard.{strict_time_answer}
 use Rattle.speedate_base.proofs.DigitRunLemmas.{run_length-append}
 use Rattle.speedate_base.proofs.NumberLemmas.{run-digits}
 use Rattle.speedate_base.proofs.RequirementLemmas.{whole_or_fault-iff}
 use Rattle.speedate_civil.proofs.ClockLemmas.{run_length-none, clock-secfrac, clock-whole}
 use Rattle.speedate_civil.proofs.DateLemmas.{date_text-front}
-use Rattle.speedate_civil.proofs.FrontLemmas.{
-  ClockRead,
-  bytes_from,
-  clock-read,
-  clock-size,
-  date_time_front-is,
-  minute_size,
-  time_front-is,
-}
+use Rattle.speedate_civil.proofs.FrontLemmas.{ClockRead, bytes_from, clock-read, clock-size}
+use Rattle.speedate_civil.proofs.FrontLemmas.{date_time_front-is, minute_size, time_front-is}
 use Rattle.speedate_civil.proofs.OffsetLemmas.{offset-cases}
 use Rattle.speedate_civil.proofs.ReadLemmas.{read-rows, read-then, read-value}
-use Rattle.speedate_base.proofs.RefusalLemmas.{refusal-all, refusal-ok, refusal-value, refusal-whole}
+use Rattle.speedate_base.proofs.RefusalLemmas.{refusal-all, refusal-ok, refusal-value}
+use Rattle.speedate_base.proofs.RefusalLemmas.{refusal-whole}
 use Rattle.speedate_civil.proofs.TimeLemmas.{front-printed}
 
 -- bytes of a text, from a place on, one by one
@@ -372,7 +267,8 @@ taken-of behavior text offset clock after read rest long second plain place =
       front.0,
       (
         ap (result_and_then (whole_or_fault fault text)) is
-            ∙ refusal-whole fault_alone fault text front.0 front.1 (omega (arith, long, after.whole)),
+            ∙ refusal-whole fault_alone fault text front.0 front.1
+            (omega (arith, long, after.whole)),
         (second, (search rules, rows)),
       ),
     )
@@ -451,7 +347,8 @@ date-time-of behavior text rows =
     read-then _ _ (date_front text)
     (λ date dated. read-then _ _ (first_fault_or (separator_table text) (time_front behavior rest))
     (λ time timed whole.
-    let read = (refusal-ok fault_alone (separator_table text) (time_front behavior rest) time timed).1 in
+    let read = (refusal-ok fault_alone (separator_table text) (time_front behavior rest) time
+    timed).1 in
     record {
       date = take 10 text;
       separator = slice_index text 10;

@@ -1,35 +1,22 @@
--- Where a text is read as a time or as a date-time, the places of the rows of RFC 3339 lie within it.
-use Rattle.std.proofs.Common.{◌≡◌, ◌≤◌, ◌<◌, ◌+◌, ◌∙◌, ◌==◌, ◌||◌, not, ℕ, ℤ, List, length, drop, slice_index, true, false, Option, IfOk, IfSome, Result, Ok, Err, refl, leb-true, ltb-true, sym, subst, ap, rules, arith}
-use Rattle.std.proofs.lemmas.Bool.{cases_lt, not-true}
+-- Where a text is read as a time or as a date-time, the places of the rows of RFC 3339 lie within
+-- it.
+use Rattle.std.proofs.Common.{◌≡◌, ◌≤◌, ◌<◌, ◌+◌, ◌∙◌, ◌==◌, ◌||◌, not, ℕ, List, length, drop, slice_index, true, false, IfOk, IfSome, Result, Ok, Err, refl, leb-true, ltb-true, sym, subst, ap, rules, arith}
+use Rattle.std.proofs.lemmas.Bool.{cases_lt}
 use Rattle.std.proofs.lemmas.Bool.Decides.{nat_tests}
 use Rattle.std.proofs.lemmas.List.{drop-drop, get_or-drop, get_or_past, length-drop}
-use Rattle.speedate_base.specs.Ascii.{colon, comma, hyphen}
-use Rattle.speedate_base.specs.Requirement.{fault_alone, first_fault_or, first_place, moved, refusal_map}
-use Rattle.speedate_base.proofs.RequirementLemmas.{AreWithin, are_within-moved, first_place-within, whole_or_fault-iff}
+use Rattle.speedate_base.specs.Ascii.{colon, comma}
+use Rattle.speedate_base.specs.Requirement.{fault_alone, first_fault_or, first_place, moved}
+use Rattle.speedate_base.specs.Requirement.{refusal_map}
+use Rattle.speedate_base.proofs.RequirementLemmas.{AreWithin, are_within-moved, first_place-within}
+use Rattle.speedate_base.proofs.RequirementLemmas.{whole_or_fault-iff}
 use Rattle.speedate_civil.specs.Base.{Behavior, ParseError}
 use Rattle.speedate_civil.specs.Date.{date_front}
-use Rattle.speedate_civil.specs.DateTime.{
-  DateAndTime,
-  date_time_answer,
-  date_time_answer_or,
-  date_time_front,
-  separator_table,
-}
+use Rattle.speedate_civil.specs.DateTime.{DateAndTime, date_time_answer, date_time_answer_or}
+use Rattle.speedate_civil.specs.DateTime.{date_time_front, separator_table}
 use Rattle.speedate_civil.specs.Standard.{offset_place, standard_date_time, standard_time}
-use Rattle.speedate_civil.specs.Time.{
-  Clock,
-  TimeOfDay,
-  clock_front,
-  end_fault,
-  has_minus_sign,
-  is_utc,
-  offset_digits,
-  offset_front,
-  offset_ranges,
-  time_answer,
-  time_answer_or,
-  time_front,
-}
+use Rattle.speedate_civil.specs.Time.{Clock, TimeOfDay, clock_front, end_fault, has_minus_sign}
+use Rattle.speedate_civil.specs.Time.{is_utc, offset_digits, offset_front, offset_ranges}
+use Rattle.speedate_civil.specs.Time.{time_answer, time_answer_or, time_front}
 use Rattle.speedate_civil.proofs.ErrorPlaceLemmas.{date_time_answer-view, time_answer-view}
 use Rattle.speedate_civil.proofs.FrontLemmas.{clock-read, clock-size}
 use Rattle.speedate_civil.proofs.OffsetLemmas.{offset-cases}
@@ -144,7 +131,8 @@ date_time-rows-within behavior text =
     read-then _ _ (date_front text)
     (λ date dated. read-then _ _ (first_fault_or (separator_table text) (time_front behavior rest))
     (λ time timed whole.
-    let read = (refusal-ok fault_alone (separator_table text) (time_front behavior rest) time timed).1 in
+    let read = (refusal-ok fault_alone (separator_table text) (time_front behavior rest) time
+    timed).1 in
     let size : 11 + length rest ≡ length text = omega (arith, whole, length-drop 11 text) in (
       λ fails. omega (arith, size),
       λ letter. subst (λ (size : ℕ). AreWithin size (moved 11 (standard_time rest))) size
@@ -160,7 +148,8 @@ standard_date_time-within {E = E} refuse behavior text value read =
     let alone =
     read-alike (date_time_answer_or refuse behavior text) (date_time_answer behavior text) value
     (date_time_answer-view (λ (refusal : E). tt {0}) refuse behavior text
-    ∙ sym (date_time_answer-view (λ (fault : ParseError). tt {0}) fault_alone behavior text)) read in
+    ∙ sym (date_time_answer-view (λ (fault : ParseError). tt {0}) fault_alone behavior text))
+    read in
     let whole = (whole_or_fault-iff (λ (found : DateAndTime). end_fault found.time.offset) text
     (date_time_front behavior text) value).0 alone in
     first_place-within (length text) (standard_date_time text)

@@ -7,25 +7,10 @@ use Rattle.speedate_base.specs.Ascii.{colon, full_stop}
 use Rattle.speedate_base.specs.Digits.{two_digit_text, six_digit_text, is_decimal_mark}
 use Rattle.speedate_base.specs.Offset.{IsWholeMinutes}
 use Rattle.speedate_base.specs.Requirement.{fault_alone, shifted, whole_or_fault, result_and_then}
-use Rattle.speedate_civil.specs.Time.{
-  Clock,
-  at_hour,
-  clock_answer,
-  clock_front,
-  clock_with_offset,
-  minute_text,
-  end_fault,
-  offset_front_or,
-  offset_text,
-  TimeOfDay,
-  IsTime,
-  time_after_clock_or,
-  time_front,
-  time_answer,
-  clock_text,
-  time_text,
-  is_after_time,
-}
+use Rattle.speedate_civil.specs.Time.{Clock, at_hour, clock_answer, clock_front, clock_with_offset}
+use Rattle.speedate_civil.specs.Time.{minute_text, end_fault, offset_front_or, offset_text}
+use Rattle.speedate_civil.specs.Time.{TimeOfDay, IsTime, time_after_clock_or, time_front}
+use Rattle.speedate_civil.specs.Time.{time_answer, clock_text, time_text, is_after_time}
 use Rattle.speedate_base.proofs.RefusalLemmas.{refusal-whole, shifted-shifted}
 use Rattle.speedate_civil.proofs.ClockLemmas.{clock-whole, clock-fraction}
 use Rattle.speedate_civil.proofs.OffsetLemmas.{offset_text-first, offset_text-front}

@@ -8,14 +8,8 @@ use Rattle.speedate_base.specs.Timestamp.{seconds_per_day, first_second, last_se
 use Rattle.speedate_civil.specs.Calendar.{IsDate, IsDay}
 use Rattle.speedate_civil.specs.Date.{ymd, Date}
 use Rattle.speedate_civil.specs.Time.{IsTime, time_of_day, Time}
-use Rattle.speedate_civil.specs.DateTime.{
-  DateAndTime,
-  IsDateAndTime,
-  local_second,
-  utc_second,
-  date_and_time,
-  DateTime,
-}
+use Rattle.speedate_civil.specs.DateTime.{DateAndTime, IsDateAndTime, local_second, utc_second}
+use Rattle.speedate_civil.specs.DateTime.{date_and_time, DateTime}
 use Rattle.speedate_civil.proofs.DayNumberLemmas.{day_number-small}
 
 pub is_day : (date : Date) → IsDay (ymd date)

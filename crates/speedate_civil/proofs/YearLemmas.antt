@@ -2,25 +2,10 @@
 -- from 1 March of the year -400 on, and the dates of these.
 use Rattle.std.proofs.Common.{◌≡◌, ℕ, ◌+◌, ◌-◌, ◌*◌, ◌/◌, ◌≤◌, IsTrue, arith}
 use Rattle.std.proofs.lemmas.Bool.Decides.{nat_tests}
-use Rattle.speedate_civil.specs.Calendar.{
-  days_before_year,
-  day_number,
-  is_leap_year,
-}
-use Rattle.speedate_civil.proofs.DayNumberLemmas.{
-  days_before_year-is,
-  february_length-is,
-  leap_day,
-  leap_day-counts,
-  leap_day-small,
-  year_length-is,
-}
-use Rattle.speedate_civil.proofs.MonthLemmas.{
-  IsOrdinal,
-  day_in_month,
-  long_month,
-  ordinal-at,
-}
+use Rattle.speedate_civil.specs.Calendar.{days_before_year, day_number, is_leap_year}
+use Rattle.speedate_civil.proofs.DayNumberLemmas.{days_before_year-is, february_length-is, leap_day}
+use Rattle.speedate_civil.proofs.DayNumberLemmas.{leap_day-counts, leap_day-small, year_length-is}
+use Rattle.speedate_civil.proofs.MonthLemmas.{IsOrdinal, day_in_month, long_month, ordinal-at}
 
 -- the days before a year, by years of March
 pub days_before_march : (year : ℕ)

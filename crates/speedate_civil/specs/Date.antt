@@ -3,31 +3,14 @@ use Rattle.std.specs.Prelude.{ℕ, pos, List, [], ◌∷◌, nat_le, ℤ, Result
 use Rattle.std.specs.Int.{is_in_range, int_div_euclid, int_rem_euclid}
 use Rattle.speedate_civil.specs.Base.{ParseError, TimestampUnit}
 use Rattle.speedate_base.specs.Ascii.{hyphen}
-use Rattle.speedate_base.specs.Digits.{
-  four_digits_at,
-  four_digit_value,
-  four_digit_text,
-  two_digits_at,
-  two_digit_value,
-  two_digit_text,
-}
+use Rattle.speedate_base.specs.Digits.{four_digits_at, four_digit_value, four_digit_text}
+use Rattle.speedate_base.specs.Digits.{two_digits_at, two_digit_value, two_digit_text}
 use Rattle.speedate_base.specs.Numbers.{whole_number}
 use Rattle.speedate_base.specs.Timestamp.{seconds_per_day, Instant, instant_answer, range_answer}
-use Rattle.speedate_base.specs.Requirement.{
-  NumberRow,
-  TextRow,
-  ◌else_fault◌,
-  ◌at_byte◌,
-  fault_alone,
-  first_fault_or,
-  first_refusal_or,
-  whole_or_refusal,
-  ◌implies◌,
-  or_number,
-  result_map,
-  with_size,
-  ◌>>=◌,
-}
+use Rattle.speedate_base.specs.Requirement.{NumberRow, TextRow, ◌else_fault◌, ◌at_byte◌}
+use Rattle.speedate_base.specs.Requirement.{fault_alone, first_fault_or, first_refusal_or}
+use Rattle.speedate_base.specs.Requirement.{whole_or_refusal, ◌implies◌, or_number, result_map}
+use Rattle.speedate_base.specs.Requirement.{with_size, ◌>>=◌}
 pub use Rattle.speedate_civil.specs.declared.date.Date.{Date}
 use Rattle.speedate_civil.specs.Calendar.{Ymd, month_length, epoch_day, date_of_number}
 

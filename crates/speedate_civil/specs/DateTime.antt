@@ -4,56 +4,23 @@ use Rattle.speedate_civil.specs.Base.{DateTimeConfig, Behavior, ParseError, Time
 use Rattle.std.specs.Option.{unwrap_or}
 use Rattle.std.specs.declared.cmp.Ordering.{Ordering}
 use Rattle.speedate_base.specs.Ascii.{space, capital_t, low_line, small_t}
-use Rattle.speedate_base.specs.Numbers.{
-  DecimalParts,
-  Number,
-  Whole,
-  Fractional,
-  NoNumber,
-  number_answer,
-}
+use Rattle.speedate_base.specs.Numbers.{DecimalParts, Number, Whole, Fractional, NoNumber}
+use Rattle.speedate_base.specs.Numbers.{number_answer}
 use Rattle.speedate_base.specs.Offset.{offset_table}
-use Rattle.speedate_base.specs.Timestamp.{
-  decimal_row,
-  decimal_instant,
-  digits_table,
-  Instant,
-  timestamp_microsecond,
-  instant_answer,
-  range_answer,
-  last_second,
-  later_answer,
-}
-use Rattle.speedate_base.specs.Requirement.{
-  TextRow,
-  ◌else_fault◌,
-  ◌at_byte◌,
-  fault_alone,
-  first_fault_or,
-  first_refusal_or,
-  shifted,
-  whole_or_refusal,
-  result_map,
-  or_number,
-  with_size,
-  ◌>>=◌,
-}
+use Rattle.speedate_base.specs.Timestamp.{decimal_row, decimal_instant, digits_table, Instant}
+use Rattle.speedate_base.specs.Timestamp.{timestamp_microsecond, instant_answer, range_answer}
+use Rattle.speedate_base.specs.Timestamp.{last_second, later_answer}
+use Rattle.speedate_base.specs.Requirement.{TextRow, ◌else_fault◌, ◌at_byte◌, fault_alone}
+use Rattle.speedate_base.specs.Requirement.{first_fault_or, first_refusal_or, shifted}
+use Rattle.speedate_base.specs.Requirement.{whole_or_refusal, result_map, or_number, with_size}
+use Rattle.speedate_base.specs.Requirement.{◌>>=◌}
 pub use Rattle.speedate_civil.specs.declared.datetime.DateTime.{DateTime}
 use Rattle.speedate_civil.specs.declared.datetime.now.Moment.{Moment}
 use Rattle.speedate_civil.specs.Instant.{by_instant, move_table}
 use Rattle.speedate_civil.specs.Calendar.{Ymd, IsDate, midnight_second, date_of_number}
 use Rattle.speedate_civil.specs.Date.{ymd, date_front_or, date_text, day_at, second_at}
-use Rattle.speedate_civil.specs.Time.{
-  microsecond_range,
-  TimeOfDay,
-  IsTime,
-  second_of_day,
-  time_of_day,
-  end_fault,
-  time_front_or,
-  time_text,
-  time_at,
-}
+use Rattle.speedate_civil.specs.Time.{microsecond_range, TimeOfDay, IsTime, second_of_day}
+use Rattle.speedate_civil.specs.Time.{time_of_day, end_fault, time_front_or, time_text, time_at}
 
 -- a date-time by its date and its time of day
 pub record DateAndTime : Type 0 where

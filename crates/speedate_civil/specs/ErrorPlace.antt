@@ -2,31 +2,13 @@
 -- which every row has its place, and the place of the first row that does not hold. A place is a
 -- byte of the text, or its end.
 use Rattle.std.specs.Prelude.{ℕ, ◌+◌, ◌-◌, List, ◌∷◌, length, true, Option, Some, None, ℤ, option_map}
-use Rattle.speedate_base.specs.Numbers.{
-  DecimalParts,
-  Number,
-  Whole,
-  Fractional,
-  NoNumber,
-  number_answer,
-  whole_number,
-}
-use Rattle.speedate_base.specs.Requirement.{
-  TextRow,
-  all_at_byte,
-  fault_at_byte,
-  first_place,
-  or_number_place,
-  ◌at_byte◌,
-}
+use Rattle.speedate_base.specs.Numbers.{DecimalParts, Number, Whole, Fractional, NoNumber}
+use Rattle.speedate_base.specs.Numbers.{number_answer, whole_number}
+use Rattle.speedate_base.specs.Requirement.{TextRow, all_at_byte, fault_at_byte, first_place}
+use Rattle.speedate_base.specs.Requirement.{or_number_place, ◌at_byte◌}
 use Rattle.speedate_base.specs.Refused.{placed, refused_place}
-use Rattle.speedate_base.specs.Timestamp.{
-  UnitRow,
-  decimal_instant,
-  decimal_row,
-  digits_row,
-  range_table,
-}
+use Rattle.speedate_base.specs.Timestamp.{UnitRow, decimal_instant, decimal_row, digits_row}
+use Rattle.speedate_base.specs.Timestamp.{range_table}
 use Rattle.speedate_civil.specs.Base.{Behavior, TimestampUnit}
 use Rattle.speedate_civil.specs.Date.{date_answer_or, date_timestamp_answer}
 use Rattle.speedate_civil.specs.DateTime.{date_time_answer_or, date_time_timestamp_answer}

@@ -5,28 +5,12 @@ use Rattle.speedate_civil.specs.Base.{Behavior, ParseError}
 use Rattle.std.specs.Char.{is_ascii_digit}
 use Rattle.std.specs.Int.{IsInRange}
 use Rattle.std.specs.List.{list_all}
-use Rattle.speedate_base.specs.Ascii.{
-  plus_sign,
-  hyphen,
-  colon,
-  full_stop,
-  capital_t,
-  capital_z,
-  small_t,
-  small_z,
-  comma,
-}
+use Rattle.speedate_base.specs.Ascii.{plus_sign, hyphen, colon, full_stop, capital_t, capital_z}
+use Rattle.speedate_base.specs.Ascii.{small_t, small_z, comma}
 use Rattle.speedate_base.specs.Config.{refuses_digits}
 use Rattle.speedate_base.specs.Digits.{two_digit_text, four_digit_text, run_length}
-use Rattle.speedate_base.specs.Requirement.{
-  TextRow,
-  ◌else_fault◌,
-  ◌at_byte◌,
-  moved,
-  fault_alone,
-  first_refusal_or,
-  ◌>>=◌,
-}
+use Rattle.speedate_base.specs.Requirement.{TextRow, ◌else_fault◌, ◌at_byte◌, moved, fault_alone}
+use Rattle.speedate_base.specs.Requirement.{first_refusal_or, ◌>>=◌}
 use Rattle.speedate_civil.specs.Calendar.{month_length}
 use Rattle.speedate_civil.specs.DateTime.{DateAndTime, date_time_answer_or}
 use Rattle.speedate_civil.specs.Time.{has_minus_sign, is_utc, TimeOfDay, time_answer_or}

@@ -5,43 +5,18 @@ use Rattle.std.specs.Int.{is_negative}
 use Rattle.std.specs.Option.{ForSome, unwrap_or}
 use Rattle.std.specs.declared.cmp.Ordering.{Ordering}
 use Rattle.speedate_civil.specs.Base.{Behavior, ParseError}
-use Rattle.speedate_base.specs.Ascii.{
-  colon,
-  full_stop,
-  plus_sign,
-  hyphen,
-  capital_z,
-  small_z,
-}
+use Rattle.speedate_base.specs.Ascii.{colon, full_stop, plus_sign, hyphen, capital_z, small_z}
 use Rattle.speedate_base.specs.Config.{refuses_digits}
-use Rattle.speedate_base.specs.Digits.{
-  run_length,
-  run_digits,
-  fraction_value,
-  two_digits_at,
-  two_digit_value,
-  two_digit_text,
-  six_digit_text,
-  is_decimal_mark,
-}
+use Rattle.speedate_base.specs.Digits.{run_length, run_digits, fraction_value, two_digits_at}
+use Rattle.speedate_base.specs.Digits.{two_digit_value, two_digit_text, six_digit_text}
+use Rattle.speedate_base.specs.Digits.{is_decimal_mark}
 use Rattle.speedate_base.specs.Numbers.{with_sign}
 use Rattle.speedate_base.specs.Offset.{IsOffset, offset_table}
 use Rattle.speedate_base.specs.Timestamp.{Instant, seconds_per_day}
-use Rattle.speedate_base.specs.Requirement.{
-  NumberRow,
-  TextRow,
-  ◌else_fault◌,
-  ◌at_byte◌,
-  fault_alone,
-  first_fault_or,
-  first_refusal_or,
-  ◌implies◌,
-  result_map,
-  shifted,
-  whole_or_refusal,
-  with_size,
-  ◌>>=◌,
-}
+use Rattle.speedate_base.specs.Requirement.{NumberRow, TextRow, ◌else_fault◌, ◌at_byte◌}
+use Rattle.speedate_base.specs.Requirement.{fault_alone, first_fault_or, first_refusal_or}
+use Rattle.speedate_base.specs.Requirement.{◌implies◌, result_map, shifted, whole_or_refusal}
+use Rattle.speedate_base.specs.Requirement.{with_size, ◌>>=◌}
 pub use Rattle.speedate_civil.specs.declared.time.Time.{Time}
 use Rattle.speedate_civil.specs.declared.time.pure.PureTime.{PureTime}
 use Rattle.speedate_civil.specs.Instant.{by_instant, move_table}
@@ -319,7 +294,8 @@ offset_ranges numbers =
     ∷ (nat_lt (offset_size numbers) seconds_per_day else_fault ParseError.OutOfRangeTz at_byte 0)
     ∷ []
 
--- the offset after a sign, which is given by its bytes, and how many bytes both take, or the refusal
+-- the offset after a sign, which is given by its bytes, and how many bytes both take, or the
+-- refusal
 abbrev pub signed_front_or : {E : Type 0} → (ParseError → ℕ → E) → Bool → ℕ → List ℕ
     → Result (Option ℤ × ℕ) E
 signed_front_or refuse west sign numbers =
@@ -327,8 +303,8 @@ signed_front_or refuse west sign numbers =
     (first_refusal_or refuse (offset_ranges numbers)
     (Ok (Some (with_sign west (offset_size numbers)), sign + offset_digits_size numbers)))
 
--- the offset that follows a time, if any, and how many bytes it takes, or the refusal of what follows
--- it
+-- the offset that follows a time, if any, and how many bytes it takes, or the refusal of what
+-- follows it
 abbrev pub offset_front_or : {E : Type 0} → (ParseError → ℕ → E) → List ℕ
     → Result (Option ℤ × ℕ) E
 offset_front_or refuse rest =

@@ -50,13 +50,8 @@ pub struct Time {
 }
 
 impl Time {
-    ghost use Rattle.speedate_civil.specs.Time.{
-      time_of_day,
-      second_of_day,
-      millisecond_of_day,
-      ◌gives◌,
-      new_time_answer,
-    };
+    ghost use Rattle.speedate_civil.specs.Time.{time_of_day, second_of_day, millisecond_of_day};
+    ghost use Rattle.speedate_civil.specs.Time.{◌gives◌, new_time_answer};
 
     /// The time of an hour, a minute, a second, a microsecond, and an offset from UTC in seconds or
     /// none: 12:13:14.500000+01:00 for 12, 13, 14, 500,000 and `Some(3600)`.

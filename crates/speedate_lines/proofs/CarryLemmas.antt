@@ -7,26 +7,13 @@ use Rattle.std.proofs.lemmas.List.Elements.{All-take, All-get_or}
 use Rattle.std.proofs.lemmas.Grind.{flat_map-append}
 use Rattle.std.proofs.Math.ListN.{get_or-append}
 use Rattle.speedate.specs.Ascii.{line_feed}
-use Rattle.speedate.specs.Lines.{
-  Pieces,
-  pieces,
-  onto_first,
-  complete_lines,
-  unfinished_line,
-  last_line,
-  lines,
-  IsOneLine,
-}
+use Rattle.speedate.specs.Lines.{Pieces, pieces, onto_first, complete_lines, unfinished_line}
+use Rattle.speedate.specs.Lines.{last_line, lines, IsOneLine}
 use Rattle.speedate_lines.specs.Answer.{line_answer, answers}
 use Rattle.speedate_lines.specs.Run.{kept_part}
 use Rattle.speedate_lines.proofs.AnswerLemmas.{line_answer-long}
-use Rattle.speedate.proofs.LineLemmas.{
-  EndsNoLine,
-  IsFree,
-  pieces-onto_first,
-  unfinished-free,
-  pieces-append,
-}
+use Rattle.speedate.proofs.LineLemmas.{EndsNoLine, IsFree, pieces-onto_first, unfinished-free}
+use Rattle.speedate.proofs.LineLemmas.{pieces-append}
 
 -- what is kept of an unfinished line holds no line feed at the front of a block
 pub IsOneLine-from_kept : (text front more block : List ℕ) (n : ℕ)

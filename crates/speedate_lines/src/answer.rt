@@ -4,14 +4,8 @@ ghost use Rattle.std.specs.Option.{option_map};
 ghost use Rattle.std.specs.Prelude.{◌≡◌, ◌+◌, ◌≤◌, true, false, length, take, drop, bytes_eq, MatchOption, [], ◌∷◌, ◌++◌};
 ghost use Rattle.arrayvec.specs.ArrayString.{array_string_len};
 ghost use Rattle.speedate.specs.Ascii.{line_feed};
-ghost use Rattle.speedate_lines.specs.Answer.{
-  err_answer,
-  kind_and_text,
-  kinds,
-  line_answer,
-  ok_answer,
-  reply_to,
-};
+ghost use Rattle.speedate_lines.specs.Answer.{err_answer, kind_and_text, kinds, line_answer};
+ghost use Rattle.speedate_lines.specs.Answer.{ok_answer, reply_to};
 
 use arrayvec::ArrayString;
 use speedate::{Date, DateTime, Duration, IsoOrder, Time, TimeConfig};

@@ -3,23 +3,11 @@
 ghost use Rattle.std.specs.Prelude.{◌≡◌, ◌+◌, ◌^◌, ◌<◌, ◌≤◌, [], length, take, drop, ◌||◌, true, false, is_err, Err, IfSome, IfOk, OnOk, OnErr};
 ghost use Rattle.std.specs.Io.KnownBytes.{Appends, Keeps, IsAtEnd};
 ghost use Rattle.arrayvec.specs.ArrayString.{array_string_len};
-ghost use Rattle.speedate.specs.Lines.{
-  IsOneLine,
-  complete_lines,
-  unfinished_line,
-  last_line,
-  lines,
-};
+ghost use Rattle.speedate.specs.Lines.{IsOneLine, complete_lines, unfinished_line, last_line};
+ghost use Rattle.speedate.specs.Lines.{lines};
 ghost use Rattle.speedate_lines.specs.Answer.{answers};
-ghost use Rattle.speedate_lines.specs.Run.{
-  kept_part,
-  ReadsAfter,
-  EndsBy,
-  Writes,
-  OnlyWrites,
-  AnswersCompleteLines,
-  AnswersBeginning,
-};
+ghost use Rattle.speedate_lines.specs.Run.{kept_part, ReadsAfter, EndsBy, Writes, OnlyWrites};
+ghost use Rattle.speedate_lines.specs.Run.{AnswersCompleteLines, AnswersBeginning};
 ghost use Rattle.speedate_lines.specs.Watch.{one_more};
 
 use crate::answer::{ANSWER_MAX, LINE_MAX, PENDING_MAX, Pending, answer_line};

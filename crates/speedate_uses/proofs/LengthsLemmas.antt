@@ -8,36 +8,14 @@ use Rattle.std.proofs.lemmas.List.{drop-drop, length-append, length-drop, length
 use Rattle.speedate.specs.declared.LineError.{LineError}
 use Rattle.speedate.specs.Ascii.{line_feed}
 use Rattle.speedate.specs.Base.{TimeConfig}
-use Rattle.speedate.specs.Column.{
-  Column,
-  column,
-  duration_number,
-  entry,
-  line_answer,
-  number_of_duration,
-  onto_column,
-  text_column,
-}
+use Rattle.speedate.specs.Column.{Column, column, duration_number, entry, line_answer}
+use Rattle.speedate.specs.Column.{number_of_duration, onto_column, text_column}
 use Rattle.speedate.specs.Config.{Choices, default_choices, time_choices}
 use Rattle.speedate.specs.Duration.{duration_answer}
-use Rattle.speedate.specs.Lines.{
-  complete_lines,
-  last_line,
-  onto_first,
-  unfinished_line,
-  whole_lines,
-  without_return,
-}
-use Rattle.speedate_uses.specs.Lengths.{
-  IsPart,
-  Lengths,
-  after,
-  ended,
-  length_of_line,
-  lengths_of,
-  onto_lengths,
-  total,
-}
+use Rattle.speedate.specs.Lines.{complete_lines, last_line, onto_first, unfinished_line}
+use Rattle.speedate.specs.Lines.{whole_lines, without_return}
+use Rattle.speedate_uses.specs.Lengths.{IsPart, Lengths, after, ended, length_of_line, lengths_of}
+use Rattle.speedate_uses.specs.Lengths.{onto_lengths, total}
 
 -- lengths are equal whose parts are
 same-lengths : {some same : ℕ} {number other : ℤ} (error : Option LineError) → some ≡ same

@@ -3,13 +3,8 @@ use Rattle.std.specs.declared.cmp.Ordering.{Ordering}
 use Rattle.std.specs.Prelude.{ℕ, ℤ, Bool, false, ◌&&◌, List, Result, Ok, Err}
 use Rattle.std.specs.Ordering.{int_cmp, is_le, nat_cmp, ordering_then}
 use Rattle.speedate.specs.Base.{Behavior, ParseError}
-use Rattle.speedate.specs.DateTime.{
-  DateAndTime,
-  date_time_front,
-  date_time_instant_order,
-  local_second,
-  utc_second,
-}
+use Rattle.speedate.specs.DateTime.{DateAndTime, date_time_front, date_time_instant_order}
+use Rattle.speedate.specs.DateTime.{local_second, utc_second}
 
 -- a date-time that was read lies between two others by instant, both among them; what was refused
 -- does not

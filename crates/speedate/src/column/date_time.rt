@@ -45,21 +45,11 @@ impl DateTimeReader {
     ghost use Rattle.speedate_base.specs.Config.{choices, time_choices};
     ghost use Rattle.speedate_base.specs.Requirement.{first_fault_or, result_and_then, result_map};
     ghost use Rattle.speedate_base.specs.Timestamp.{IsInYears, unix_instant};
-    ghost use Rattle.speedate_civil.specs.DateTime.{
-      date_and_time,
-      date_time_at,
-      date_time_by_config,
-      date_time_front,
-      utc_microsecond,
-    };
-    ghost use Rattle.speedate.specs.Column.{
-      IsFront,
-      as_number,
-      date_time_number,
-      text_behavior,
-      text_table,
-      with_offset,
-    };
+    ghost use Rattle.speedate_civil.specs.DateTime.{date_and_time, date_time_at};
+    ghost use Rattle.speedate_civil.specs.DateTime.{date_time_by_config, date_time_front};
+    ghost use Rattle.speedate_civil.specs.DateTime.{utc_microsecond};
+    ghost use Rattle.speedate.specs.Column.{IsFront, as_number, date_time_number, text_behavior};
+    ghost use Rattle.speedate.specs.Column.{text_table, with_offset};
 
     /// The number of a line by its date-time, or by the error of a line that is none.
     #[inline(always)]

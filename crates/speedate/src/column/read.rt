@@ -2,14 +2,8 @@
 
 ghost use Rattle.std.specs.Prelude.{◌≡◌, ◌≤◌, ◌++◌, [], IfSome, MatchOption, None, Some, drop, length, min, slice_set, take};
 ghost use Rattle.speedate.specs.Lines.{whole_lines};
-ghost use Rattle.speedate.specs.Column.{
-  HasNoEnd,
-  IsFirstLine,
-  IsFirstLineOf,
-  entry,
-  overwritten,
-  text_column,
-};
+ghost use Rattle.speedate.specs.Column.{HasNoEnd, IsFirstLine, IsFirstLineOf, entry, overwritten};
+ghost use Rattle.speedate.specs.Column.{text_column};
 
 use super::{Line, LineConfig, LineError, LineReader, Progress};
 use crate::lines::{line_end, without_return};

@@ -5,19 +5,10 @@ ghost use Rattle.std.specs.Ordering.{int_cmp};
 ghost use Rattle.speedate_base.specs.Timestamp.{instant_at, unix_instant};
 ghost use Rattle.speedate_civil.specs.DateTime.{local_microsecond, utc_microsecond, date_and_time};
 ghost use Rattle.speedate_civil.specs.Calendar.{date_order, days_between};
-ghost use Rattle.speedate.specs.Duration.{
-  duration_numbers,
-  signed_amount,
-  duration_of_amount,
-  amount_answer,
-  negated,
-  with_positive_zero,
-  duration_between,
-  date_time_later,
-  duration_between_dates,
-  date_later,
-  Duration,
-};
+ghost use Rattle.speedate.specs.Duration.{duration_numbers, signed_amount, duration_of_amount};
+ghost use Rattle.speedate.specs.Duration.{amount_answer, negated, with_positive_zero};
+ghost use Rattle.speedate.specs.Duration.{duration_between, date_time_later};
+ghost use Rattle.speedate.specs.Duration.{duration_between_dates, date_later, Duration};
 ghost use Rattle.speedate.specs.DurationNumbers.{signed_day};
 
 use super::{DAYS_MAX, Duration};

@@ -4,13 +4,8 @@ ghost use Rattle.std.specs.Prelude.{◌≡◌, ◌+◌, ◌-◌, ◌^◌, ◌<�
 ghost use Rattle.speedate_base.specs.Ascii.{colon};
 ghost use Rattle.speedate_base.specs.Digits.{run_length, run_value};
 ghost use Rattle.speedate_base.specs.Requirement.{first_refusal_or, shifted};
-ghost use Rattle.speedate.specs.ClockForm.{
-  colon_place,
-  has_hours,
-  hours_table,
-  after_hours_or,
-  clock_form_or,
-};
+ghost use Rattle.speedate.specs.ClockForm.{colon_place, has_hours, hours_table, after_hours_or};
+ghost use Rattle.speedate.specs.ClockForm.{clock_form_or};
 
 use super::unsigned::UnsignedDuration;
 use speedate_base::config::MicrosecondsPrecisionOverflowBehavior as Behavior;

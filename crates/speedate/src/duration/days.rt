@@ -3,16 +3,8 @@
 ghost use Rattle.std.specs.Prelude.{◌≡◌, ◌-◌, ◌^◌, ◌≤◌, ◌+◌, length, min, Some, None, IfSome, IfErr, IfOk, if◌then◌else◌};
 ghost use Rattle.speedate_base.specs.Digits.{run_length, run_value};
 ghost use Rattle.speedate_base.specs.Requirement.{shifted};
-ghost use Rattle.speedate.specs.DayForm.{
-  size_of_one,
-  day_endings,
-  gaps,
-  has_whole_ending,
-  is_day_letter,
-  days_front_or,
-  after_days_or,
-  day_form_or,
-};
+ghost use Rattle.speedate.specs.DayForm.{size_of_one, day_endings, gaps, has_whole_ending};
+ghost use Rattle.speedate.specs.DayForm.{is_day_letter, days_front_or, after_days_or, day_form_or};
 
 use super::unsigned::UnsignedDuration;
 use speedate_base::config::MicrosecondsPrecisionOverflowBehavior as Behavior;

@@ -4,17 +4,10 @@ ghost use Rattle.std.specs.Prelude.{◌≡◌, ◌≤◌, IfSome, is_err, is_som
 ghost use Rattle.speedate_base.specs.Config.{time_choices};
 ghost use Rattle.speedate_base.specs.Refused.{placed, refused_place, without_place};
 ghost use Rattle.speedate_base.specs.Requirement.{first_place};
-ghost use Rattle.speedate.specs.Duration.{
-  duration_answer,
-  duration_answer_or,
-};
+ghost use Rattle.speedate.specs.Duration.{duration_answer, duration_answer_or};
 ghost use Rattle.speedate.specs.DurationNumbers.{normal_table};
-ghost use Rattle.speedate.specs.DurationPlace.{
-  amount_numbers,
-  amount_place,
-  at_bytes,
-  normal_places,
-};
+ghost use Rattle.speedate.specs.DurationPlace.{amount_numbers, amount_place, at_bytes};
+ghost use Rattle.speedate.specs.DurationPlace.{normal_places};
 ghost use Rattle.speedate.specs.IsoParts.{IsIsoRead, bound_test};
 
 use super::iso::{Bound, first_item};

@@ -7,24 +7,10 @@ ghost use Rattle.speedate_base.specs.Digits.{fraction_value, is_decimal_mark};
 ghost use Rattle.std.specs.Option.{option_map, is_some};
 ghost use Rattle.speedate_base.specs.Refused.{placed};
 ghost use Rattle.speedate_base.specs.Requirement.{result_map, shifted, with_size};
-ghost use Rattle.speedate.specs.IsoForm.{
-  Component,
-  TimeDesignator,
-  units,
-  unit_in,
-  fraction_size,
-  unit_seconds,
-  next_units_after,
-  fraction_seconds,
-  fraction_microseconds,
-  component_at,
-  item_at,
-  are_counted,
-  no_sums,
-  with_number,
-  with_item,
-  sums_amount,
-};
+ghost use Rattle.speedate.specs.IsoForm.{Component, TimeDesignator, units, unit_in, fraction_size};
+ghost use Rattle.speedate.specs.IsoForm.{unit_seconds, next_units_after, fraction_seconds};
+ghost use Rattle.speedate.specs.IsoForm.{fraction_microseconds, component_at, item_at, are_counted};
+ghost use Rattle.speedate.specs.IsoForm.{no_sums, with_number, with_item, sums_amount};
 
 mod error_place;
 

@@ -6,14 +6,9 @@ ghost use Rattle.std.specs.Cmp.{po, on_total};
 ghost use Rattle.std.specs.Cmp.Rules.{comparing};
 ghost use Rattle.std.specs.Ordering.{on, as_partial_cmp, bool_cmp, int_cmp, ordering_then};
 ghost use Rattle.speedate.specs.Duration.{duration_numbers, signed_amount};
-ghost use Rattle.speedate.specs.DurationNumbers.{
-  duration_order,
-  duration_order-same,
-  duration_order-total,
-  signed_day,
-  signed_second,
-  signed_microsecond,
-};
+ghost use Rattle.speedate.specs.DurationNumbers.{duration_order, duration_order-same};
+ghost use Rattle.speedate.specs.DurationNumbers.{duration_order-total, signed_day, signed_second};
+ghost use Rattle.speedate.specs.DurationNumbers.{signed_microsecond};
 
 use super::Duration;
 use std::cmp::Ordering;

@@ -4,12 +4,8 @@ ghost use Rattle.std.specs.Prelude.{◌≡◌, ℕ, IfOk, List};
 ghost use Rattle.speedate_base.specs.Config.{time_choices};
 ghost use Rattle.speedate_base.specs.Requirement.{result_map};
 ghost use Rattle.speedate_civil.specs.Base.{Behavior, IsoOrder};
-ghost use Rattle.speedate.specs.Duration.{
-  duration_numbers,
-  ◌gives◌,
-  duration_answer,
-  IsGrammarAnswer,
-};
+ghost use Rattle.speedate.specs.Duration.{duration_numbers, ◌gives◌, duration_answer};
+ghost use Rattle.speedate.specs.Duration.{IsGrammarAnswer};
 ghost use Rattle.speedate.specs.DurationNumbers.{signed_form};
 ghost use Rattle.speedate.specs.IsoAmount.{IsAmountOf};
 ghost use Rattle.speedate.specs.IsoForm.{Item};

@@ -5,14 +5,8 @@ ghost use Rattle.std.specs.Fmt.{decimal};
 ghost use Rattle.arrayvec.specs.ArrayString.{array_string_len};
 ghost use Rattle.speedate_base.specs.Config.{time_choices};
 ghost use Rattle.speedate_base.specs.Digits.{two_digit_text};
-ghost use Rattle.speedate.specs.Duration.{
-  counted_text,
-  without_last_zeros,
-  short_fraction_text,
-  seconds_text,
-  rest_text,
-  duration_text,
-};
+ghost use Rattle.speedate.specs.Duration.{counted_text, without_last_zeros, short_fraction_text};
+ghost use Rattle.speedate.specs.Duration.{seconds_text, rest_text, duration_text};
 
 use super::Duration;
 use arrayvec::ArrayString;

@@ -2,15 +2,9 @@
 //! chooses one of them.
 
 ghost use Rattle.std.specs.Prelude.{◌≡◌, Contains, Ok, Some};
-ghost use Rattle.speedate_base.specs.Config.{
-  ◌chooses◌,
-  unit_choices,
-  unit_answer,
-  behavior_choices,
-  behavior_answer,
-  order_choices,
-  order_answer,
-};
+ghost use Rattle.speedate_base.specs.Config.{◌chooses◌, unit_choices, unit_answer};
+ghost use Rattle.speedate_base.specs.Config.{behavior_choices, behavior_answer, order_choices};
+ghost use Rattle.speedate_base.specs.Config.{order_answer};
 
 use super::{IsoOrder, MicrosecondsPrecisionOverflowBehavior, TimestampUnit};
 use crate::faults::ConfigError;

@@ -1,13 +1,8 @@
 //! What was expected where a text, or a value, is refused.
 
 ghost use Rattle.std.specs.Prelude.{◌≡◌, ◌≤◌, length};
-ghost use Rattle.speedate_base.specs.Expected.{
-  expected_shape,
-  expected_text,
-  is_duration,
-  is_of_texts,
-  is_strict,
-};
+ghost use Rattle.speedate_base.specs.Expected.{expected_shape, expected_text, is_duration};
+ghost use Rattle.speedate_base.specs.Expected.{is_of_texts, is_strict};
 
 use super::ParseError;
 

@@ -3,16 +3,9 @@
 ghost use Rattle.std.specs.Prelude.{◌≡◌, ◌+◌, ◌-◌, ◌^◌, ◌<◌, ◌≤◌, length, drop, min, nat_le, ◌==◌, slice_index, IsTrue, IfSome, Some, None, Ok, Err, if◌then◌else◌};
 ghost use Rattle.std.specs.Char.{is_ascii_digit};
 ghost use Rattle.std.specs.List.{list_all};
-ghost use Rattle.speedate_base.specs.Digits.{
-  is_decimal_mark,
-  one_digit_value,
-  two_digits_at,
-  two_digit_value,
-  run_length,
-  run_value,
-  digits_value,
-  zeros_length,
-};
+ghost use Rattle.speedate_base.specs.Digits.{is_decimal_mark, one_digit_value, two_digits_at};
+ghost use Rattle.speedate_base.specs.Digits.{two_digit_value, run_length, run_value, digits_value};
+ghost use Rattle.speedate_base.specs.Digits.{zeros_length};
 
 use super::lanes::{
     LANES, MANY_LANES, digits_in_front, digits_in_sixteen, eight_digits, zeros_in_sixteen,

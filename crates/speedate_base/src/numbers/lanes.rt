@@ -3,15 +3,8 @@
 ghost use Rattle.std.specs.Prelude.{◌≡◌, ℕ, ◌+◌, ◌-◌, ◌*◌, ◌^◌, ◌<◌, ◌≤◌, ◌&&◌, IsTrue, length, drop, slice_index};
 ghost use Rattle.std.specs.Char.{is_ascii_digit};
 ghost use Rattle.std.specs.List.{list_all, prefix_len};
-ghost use Rattle.speedate_base.specs.Digits.{
-  are_at_most,
-  digits_value,
-  eight_at,
-  fit_length,
-  fit_digits,
-  neighbours,
-  zeros_length,
-};
+ghost use Rattle.speedate_base.specs.Digits.{are_at_most, digits_value, eight_at, fit_length};
+ghost use Rattle.speedate_base.specs.Digits.{fit_digits, neighbours, zeros_length};
 
 use super::digits::byte_at;
 use std::simd::prelude::*;

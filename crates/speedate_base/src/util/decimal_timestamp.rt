@@ -3,22 +3,11 @@
 ghost use Rattle.std.specs.Prelude.{◌≡◌, ◌<◌, ◌≤◌, ◌^◌, ◌==◌, ◌*◌, length, IsTrue, IfOk, nat_le};
 ghost use Rattle.std.specs.Char.{is_ascii_digit};
 ghost use Rattle.std.specs.List.{list_all};
-ghost use Rattle.speedate_base.specs.Timestamp.{
-  decimal_row,
-  decimal_instant,
-  unix_row,
-  IsInYears,
-  inferred_seconds_max,
-  range_answer,
-  unix_instant,
-};
+ghost use Rattle.speedate_base.specs.Timestamp.{decimal_row, decimal_instant, unix_row, IsInYears};
+ghost use Rattle.speedate_base.specs.Timestamp.{inferred_seconds_max, range_answer, unix_instant};
 ghost use Rattle.speedate_base.specs.Digits.{digits_value};
-ghost use Rattle.speedate_base.specs.Numbers.{
-  decimal_digits,
-  decimal_value,
-  decimal_scale,
-  with_sign,
-};
+ghost use Rattle.speedate_base.specs.Numbers.{decimal_digits, decimal_value, decimal_scale};
+ghost use Rattle.speedate_base.specs.Numbers.{with_sign};
 ghost use Rattle.speedate_base.specs.Nearest.{nearest};
 ghost use Rattle.speedate_base.specs.Requirement.{result_map};
 

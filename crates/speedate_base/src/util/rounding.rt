@@ -4,13 +4,8 @@ ghost use Rattle.std.specs.Prelude.{◌≡◌, ℤ, ◌+◌, ◌-◌, ◌*◌, �
 ghost use Rattle.std.specs.Char.{is_ascii_digit};
 ghost use Rattle.std.specs.List.{list_all};
 ghost use Rattle.speedate_base.specs.Digits.{digits_value};
-ghost use Rattle.speedate_base.specs.Nearest.{
-  IsNearest,
-  nearest,
-  quotient,
-  rest_bounds,
-  told_by_sixteen,
-};
+ghost use Rattle.speedate_base.specs.Nearest.{IsNearest, nearest, quotient, rest_bounds};
+ghost use Rattle.speedate_base.specs.Nearest.{told_by_sixteen};
 ghost use Rattle.speedate_base.specs.Numbers.{with_sign};
 
 use crate::numbers::digits::{are_zeros, one_by_one};

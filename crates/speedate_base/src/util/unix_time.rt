@@ -23,13 +23,8 @@ pub struct UnixTime {
 impl UnixTime {
     ghost use Rattle.std.specs.Prelude.{IfOk, pos, ◌*ℤ◌, ◌+ℤ◌, unsigned_abs};
     ghost use Rattle.speedate_base.specs.Requirement.{result_map};
-    ghost use Rattle.speedate_base.specs.Timestamp.{
-      IsInYears,
-      instant_at,
-      range_answer,
-      unix_instant,
-      later_answer,
-    };
+    ghost use Rattle.speedate_base.specs.Timestamp.{IsInYears, instant_at, range_answer};
+    ghost use Rattle.speedate_base.specs.Timestamp.{unix_instant, later_answer};
 
     /// The instant of a timestamp in seconds.
     #[inline(always)]

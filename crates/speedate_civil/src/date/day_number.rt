@@ -6,18 +6,9 @@ ghost use Rattle.std.specs.Int.{IsInRange};
 ghost use Rattle.std.specs.Option.{option_map};
 ghost use Rattle.std.specs.Ordering.{int_cmp};
 ghost use Rattle.speedate_civil.specs.Date.{ymd};
-ghost use Rattle.speedate_civil.specs.Calendar.{
-  days_of_months,
-  is_leap_year,
-  ordinal_day,
-  day_number,
-  date_of_number,
-  date_numbered,
-  next_date,
-  date_order,
-  date_added,
-  days_between,
-};
+ghost use Rattle.speedate_civil.specs.Calendar.{days_of_months, is_leap_year, ordinal_day};
+ghost use Rattle.speedate_civil.specs.Calendar.{day_number, date_of_number, date_numbered};
+ghost use Rattle.speedate_civil.specs.Calendar.{next_date, date_order, date_added, days_between};
 
 use super::{Date, is_leap_year, month_length};
 

@@ -2,13 +2,8 @@
 
 ghost use Rattle.std.specs.Prelude.{◌≡◌, ◌≤◌, IfSome, is_err, is_some, length};
 ghost use Rattle.speedate_base.specs.Refused.{placed, without_place, refused_place};
-ghost use Rattle.speedate_civil.specs.Date.{
-  date_answer,
-  date_answer_or,
-  date_front,
-  date_front_or,
-  date_or_timestamp,
-};
+ghost use Rattle.speedate_civil.specs.Date.{date_answer, date_answer_or, date_front, date_front_or};
+ghost use Rattle.speedate_civil.specs.Date.{date_or_timestamp};
 ghost use Rattle.speedate_civil.specs.ErrorPlace.{date_or_timestamp_place};
 
 use super::Date;

@@ -6,16 +6,9 @@ ghost use Rattle.speedate_base.specs.Ascii.{HasNoControl};
 ghost use Rattle.speedate_base.specs.Digits.{eight_at, fit_length};
 ghost use Rattle.speedate_base.specs.Numbers.{NoNumber, number_answer};
 ghost use Rattle.speedate_civil.specs.Calendar.{Ymd};
-ghost use Rattle.speedate_civil.specs.Date.{
-  ymd,
-  date_front,
-  date_front_or,
-  date_answer,
-  date_answer_or,
-  date_or_timestamp,
-  ◌gives◌,
-  ◌gives_front◌,
-};
+ghost use Rattle.speedate_civil.specs.Date.{ymd, date_front, date_front_or, date_answer};
+ghost use Rattle.speedate_civil.specs.Date.{date_answer_or, date_or_timestamp, ◌gives◌};
+ghost use Rattle.speedate_civil.specs.Date.{◌gives_front◌};
 ghost use Rattle.speedate_civil.specs.ParserParts.{may_be_number};
 
 use super::{Date, TEXT_LENGTH, is_day};

@@ -4,14 +4,8 @@ ghost use Rattle.std.specs.Prelude.{Some, ℕ, ◌≡◌, ◌≤◌, ◌+◌, �
 ghost use Rattle.arrayvec.specs.ArrayString.{array_string_len};
 ghost use Rattle.speedate_civil.specs.Base.{DateConfig};
 ghost use Rattle.speedate_base.specs.Requirement.{result_map};
-ghost use Rattle.speedate_civil.specs.Date.{
-  ymd,
-  date_front,
-  date_answer,
-  date_text,
-  date_or_timestamp,
-  Date,
-};
+ghost use Rattle.speedate_civil.specs.Date.{ymd, date_front, date_answer, date_text};
+ghost use Rattle.speedate_civil.specs.Date.{date_or_timestamp, Date};
 
 use super::Date;
 use crate::text::two_digit_text;

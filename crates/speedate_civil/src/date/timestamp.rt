@@ -3,20 +3,10 @@
 ghost use Rattle.std.specs.Prelude.{◌≡◌, Bool, IfOk, IsTrue, Ok, int_le, pos};
 ghost use Rattle.speedate_civil.specs.Base.{TimestampUnit};
 ghost use Rattle.speedate_base.specs.Timestamp.{first_second, last_second, timestamp_second};
-ghost use Rattle.speedate_civil.specs.Calendar.{
-  date_of_number,
-  day_number,
-  midnight_second,
-  midnight_millisecond,
-};
-ghost use Rattle.speedate_civil.specs.Date.{
-  ymd,
-  day_at,
-  day_number_at,
-  second_at,
-  date_timestamp_answer,
-  ◌gives◌,
-};
+ghost use Rattle.speedate_civil.specs.Calendar.{date_of_number, day_number, midnight_second};
+ghost use Rattle.speedate_civil.specs.Calendar.{midnight_millisecond};
+ghost use Rattle.speedate_civil.specs.Date.{ymd, day_at, day_number_at, second_at};
+ghost use Rattle.speedate_civil.specs.Date.{date_timestamp_answer, ◌gives◌};
 
 use super::Date;
 use speedate_base::config::DateConfig;

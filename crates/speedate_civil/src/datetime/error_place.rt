@@ -6,17 +6,10 @@ ghost use Rattle.speedate_base.specs.Numbers.{decimal_value};
 ghost use Rattle.speedate_base.specs.Requirement.{first_place};
 ghost use Rattle.speedate_base.specs.Refused.{placed, refused_place, without_place};
 ghost use Rattle.speedate_base.specs.Timestamp.{decimal_row};
-ghost use Rattle.speedate_civil.specs.DateTime.{
-  date_time_answer,
-  date_time_answer_or,
-  date_time_by_config,
-  date_time_front,
-  date_time_front_or,
-};
-ghost use Rattle.speedate_civil.specs.ErrorPlace.{
-  date_time_or_timestamp_place,
-  decimal_table,
-};
+ghost use Rattle.speedate_civil.specs.DateTime.{date_time_answer, date_time_answer_or};
+ghost use Rattle.speedate_civil.specs.DateTime.{date_time_by_config, date_time_front};
+ghost use Rattle.speedate_civil.specs.DateTime.{date_time_front_or};
+ghost use Rattle.speedate_civil.specs.ErrorPlace.{date_time_or_timestamp_place, decimal_table};
 ghost use Rattle.speedate_civil.specs.Standard.{strict_date_time_answer, strict_date_time_answer_or};
 
 use super::DateTime;

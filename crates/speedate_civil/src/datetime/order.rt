@@ -9,13 +9,9 @@ impl DateTime {
     ghost use Rattle.std.specs.Cmp.Lexicographic.{slice_cmp};
     ghost use Rattle.std.specs.Ordering.{nat_cmp, ordering_reverse};
     ghost use Rattle.speedate_base.specs.Timestamp.{unix_instant};
-    ghost use Rattle.speedate_civil.specs.DateTime.{
-      date_and_time,
-      date_time_text,
-      date_time_instant,
-      date_time_instant_order,
-      DateTime,
-    };
+    ghost use Rattle.speedate_civil.specs.DateTime.{date_and_time, date_time_text};
+    ghost use Rattle.speedate_civil.specs.DateTime.{date_time_instant, date_time_instant_order};
+    ghost use Rattle.speedate_civil.specs.DateTime.{DateTime};
     ghost use Rattle.speedate_civil.specs.Instant.{BothOrNeither, IsBeforeNextOnly, IsNotAfter};
     ghost use Rattle.speedate_civil.specs.Calendar.{Ymd};
     ghost use Rattle.speedate_civil.specs.Time.{minute_time};

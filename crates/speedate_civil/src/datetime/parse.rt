@@ -6,42 +6,21 @@ ghost use Rattle.speedate_base.specs.Ascii.{HasNoControl, capital_t, small_t};
 ghost use Rattle.speedate_base.specs.Config.{choices, time_choices};
 ghost use Rattle.speedate_base.specs.Numbers.{NoNumber, decimal_value, number_answer};
 ghost use Rattle.speedate_base.specs.Offset.{IsWholeMinutes};
-ghost use Rattle.speedate_base.specs.Requirement.{
-  first_fault_or,
-  first_place,
-  first_refusal_or,
-  or_number,
-  result_map,
-  shifted,
-  with_size,
-};
+ghost use Rattle.speedate_base.specs.Requirement.{first_fault_or, first_place, first_refusal_or};
+ghost use Rattle.speedate_base.specs.Requirement.{or_number, result_map, shifted, with_size};
 ghost use Rattle.speedate_base.specs.Timestamp.{IsInYears, unix_instant};
 ghost use Rattle.speedate_civil.specs.Base.{Behavior, TimestampUnit};
-ghost use Rattle.speedate_civil.specs.DateTime.{
-  DateAndTime,
-  date_and_time,
-  date_time_answer,
-  date_time_answer_or,
-  date_time_at,
-  date_time_by_config,
-  date_time_front,
-  date_time_front_or,
-  date_time_or_timestamp,
-  decimal_text_instant,
-  is_separator,
-  number_instant,
-  whole_instant,
-  separator_table,
-  ◌gives◌,
-  ◌gives_front◌,
-};
+ghost use Rattle.speedate_civil.specs.DateTime.{DateAndTime, date_and_time, date_time_answer};
+ghost use Rattle.speedate_civil.specs.DateTime.{date_time_answer_or, date_time_at};
+ghost use Rattle.speedate_civil.specs.DateTime.{date_time_by_config, date_time_front};
+ghost use Rattle.speedate_civil.specs.DateTime.{date_time_front_or, date_time_or_timestamp};
+ghost use Rattle.speedate_civil.specs.DateTime.{decimal_text_instant, is_separator, number_instant};
+ghost use Rattle.speedate_civil.specs.DateTime.{whole_instant, separator_table, ◌gives◌};
+ghost use Rattle.speedate_civil.specs.DateTime.{◌gives_front◌};
 ghost use Rattle.speedate_civil.specs.ParserParts.{LooksUsual};
-ghost use Rattle.speedate_civil.specs.Standard.{
-  IsDateTime,
-  standard_date_time,
-  strict_date_time_answer,
-  strict_date_time_answer_or,
-};
+ghost use Rattle.speedate_civil.specs.Standard.{IsDateTime, standard_date_time};
+ghost use Rattle.speedate_civil.specs.Standard.{strict_date_time_answer};
+ghost use Rattle.speedate_civil.specs.Standard.{strict_date_time_answer_or};
 ghost use Rattle.speedate_civil.specs.Time.{time_front, time_front_or, time_of_day};
 
 use super::DateTime;

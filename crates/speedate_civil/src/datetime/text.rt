@@ -6,14 +6,8 @@ ghost use Rattle.speedate_base.specs.Config.{time_choices};
 ghost use Rattle.speedate_civil.specs.Base.{TimeConfig, DateTimeConfig};
 ghost use Rattle.speedate_base.specs.Offset.{IsWholeMinutes};
 ghost use Rattle.speedate_base.specs.Requirement.{result_map};
-ghost use Rattle.speedate_civil.specs.DateTime.{
-  date_and_time,
-  date_time_answer,
-  date_time_front,
-  date_time_text,
-  date_time_by_config,
-  DateTime,
-};
+ghost use Rattle.speedate_civil.specs.DateTime.{date_and_time, date_time_answer, date_time_front};
+ghost use Rattle.speedate_civil.specs.DateTime.{date_time_text, date_time_by_config, DateTime};
 ghost use Rattle.speedate_civil.specs.Time.{is_after_time};
 
 use super::DateTime;

@@ -7,32 +7,15 @@ ghost use Rattle.speedate_civil.specs.Base.{TimestampUnit};
 ghost use Rattle.speedate_base.specs.Nearest.{IsNearest};
 ghost use Rattle.speedate_base.specs.Numbers.{decimal_scale, decimal_value};
 ghost use Rattle.speedate_base.specs.Offset.{IsOffset, IsWholeMinutes};
-ghost use Rattle.speedate_base.specs.Timestamp.{
-  IsInYears,
-  first_second,
-  last_second,
-  unix_instant,
-  decimal_row,
-  decimal_numerator,
-  decimal_instant,
-  unix_row,
-};
-ghost use Rattle.speedate_civil.specs.DateTime.{
-  local_second,
-  utc_second,
-  local_millisecond,
-  utc_millisecond,
-  local_microsecond,
-  utc_microsecond,
-  date_and_time,
-  IsShownAt,
-  date_time_at,
-  instant_date_time,
-  date_time_timestamp_answer,
-  meant_microsecond,
-  date_time_decimal_answer,
-  ◌gives◌,
-};
+ghost use Rattle.speedate_base.specs.Timestamp.{IsInYears, first_second, last_second, unix_instant};
+ghost use Rattle.speedate_base.specs.Timestamp.{decimal_row, decimal_numerator, decimal_instant};
+ghost use Rattle.speedate_base.specs.Timestamp.{unix_row};
+ghost use Rattle.speedate_civil.specs.DateTime.{local_second, utc_second, local_millisecond};
+ghost use Rattle.speedate_civil.specs.DateTime.{utc_millisecond, local_microsecond};
+ghost use Rattle.speedate_civil.specs.DateTime.{utc_microsecond, date_and_time, IsShownAt};
+ghost use Rattle.speedate_civil.specs.DateTime.{date_time_at, instant_date_time};
+ghost use Rattle.speedate_civil.specs.DateTime.{date_time_timestamp_answer, meant_microsecond};
+ghost use Rattle.speedate_civil.specs.DateTime.{date_time_decimal_answer, ◌gives◌};
 
 use super::DateTime;
 use crate::date::Date;

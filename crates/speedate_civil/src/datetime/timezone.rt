@@ -2,13 +2,8 @@
 
 ghost use Rattle.std.specs.Prelude.{◌≡◌, ◌+ℤ◌, ◌≤ℤ◌, IfOk, Some};
 ghost use Rattle.speedate_base.specs.Timestamp.{first_second, last_second};
-ghost use Rattle.speedate_civil.specs.DateTime.{
-  utc_second,
-  date_and_time,
-  date_time_with_offset,
-  date_time_in_timezone,
-  ◌gives◌,
-};
+ghost use Rattle.speedate_civil.specs.DateTime.{utc_second, date_and_time, date_time_with_offset};
+ghost use Rattle.speedate_civil.specs.DateTime.{date_time_in_timezone, ◌gives◌};
 
 use super::DateTime;
 use crate::time::clock_shift;

@@ -10,19 +10,10 @@ ghost use Rattle.speedate_base.specs.Numbers.{with_sign};
 ghost use Rattle.speedate_base.specs.Offset.{IsOffset, IsWholeMinutes};
 ghost use Rattle.speedate_base.specs.Timestamp.{seconds_per_day};
 ghost use Rattle.speedate_base.specs.Requirement.{first_refusal_or, shifted};
-ghost use Rattle.speedate_civil.specs.Time.{
-  end_fault,
-  has_minus_sign,
-  is_plus_or_minus,
-  is_utc,
-  offset_digits,
-  offset_front_or,
-  signed_front_or,
-  offset_minute,
-  offset_digits_size,
-  offset_size_text,
-  offset_text,
-};
+ghost use Rattle.speedate_civil.specs.Time.{end_fault, has_minus_sign, is_plus_or_minus, is_utc};
+ghost use Rattle.speedate_civil.specs.Time.{offset_digits, offset_front_or, signed_front_or};
+ghost use Rattle.speedate_civil.specs.Time.{offset_minute, offset_digits_size, offset_size_text};
+ghost use Rattle.speedate_civil.specs.Time.{offset_text};
 
 use crate::text::two_digit_text;
 use arrayvec::ArrayString;

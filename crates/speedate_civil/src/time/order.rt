@@ -10,14 +10,8 @@ impl Time {
     ghost use Rattle.std.specs.Ordering.{nat_cmp, ordering_reverse};
     ghost use Rattle.speedate_base.specs.Timestamp.{unix_instant};
     ghost use Rattle.speedate_civil.specs.Instant.{BothOrNeither, IsBeforeNextOnly, IsNotAfter};
-    ghost use Rattle.speedate_civil.specs.Time.{
-      time_of_day,
-      time_text,
-      Time,
-      time_instant,
-      time_instant_order,
-      minute_time,
-    };
+    ghost use Rattle.speedate_civil.specs.Time.{time_of_day, time_text, Time, time_instant};
+    ghost use Rattle.speedate_civil.specs.Time.{time_instant_order, minute_time};
 
     /// Compares two times by instant: in UTC if both have an offset, and otherwise as clocks show them.
     /// So 12:00:00+01:00 is less than 11:30:00Z, and 11:30:00 is less than 12:00:00+01:00. Each time is

@@ -7,25 +7,11 @@ ghost use Rattle.speedate_base.specs.Digits.{eight_at, fit_length};
 ghost use Rattle.speedate_base.specs.Offset.{IsWholeMinutes};
 ghost use Rattle.speedate_base.specs.Requirement.{first_place, first_refusal_or, moved, shifted};
 ghost use Rattle.speedate_civil.specs.Base.{Behavior};
-ghost use Rattle.speedate_civil.specs.Standard.{
-  standard_offset,
-  standard_time,
-  strict_time_answer,
-  strict_time_answer_or,
-  IsFullTime,
-};
-ghost use Rattle.speedate_civil.specs.Time.{
-  clock_parts,
-  time_after_clock_or,
-  time_of_day,
-  TimeOfDay,
-  time_front,
-  time_front_or,
-  time_answer,
-  time_answer_or,
-  ◌gives◌,
-  ◌gives_front◌,
-};
+ghost use Rattle.speedate_civil.specs.Standard.{standard_offset, standard_time, strict_time_answer};
+ghost use Rattle.speedate_civil.specs.Standard.{strict_time_answer_or, IsFullTime};
+ghost use Rattle.speedate_civil.specs.Time.{clock_parts, time_after_clock_or, time_of_day};
+ghost use Rattle.speedate_civil.specs.Time.{TimeOfDay, time_front, time_front_or, time_answer};
+ghost use Rattle.speedate_civil.specs.Time.{time_answer_or, ◌gives◌, ◌gives_front◌};
 
 use super::offset::{end_fault, has_minus_sign, is_utc, parse_offset};
 use super::{PureTime, Time};

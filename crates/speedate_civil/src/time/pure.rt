@@ -1,14 +1,8 @@
 //! Times of day without their offsets, at the front of a text.
 
 ghost use Rattle.std.specs.Prelude.{◌≡◌, ◌+◌, ◌≤◌, ◌==◌, ◌||◌, ℕ, IfErr, IfOk, IsTrue, Ok, length, drop, codes};
-ghost use Rattle.speedate_base.specs.Digits.{
-  run_length,
-  run_digits,
-  fraction_value,
-  two_digit_value,
-  eight_at,
-  fit_length,
-};
+ghost use Rattle.speedate_base.specs.Digits.{run_length, run_digits, fraction_value};
+ghost use Rattle.speedate_base.specs.Digits.{two_digit_value, eight_at, fit_length};
 
 use super::Time;
 use speedate_base::config::MicrosecondsPrecisionOverflowBehavior as Behavior;
@@ -66,18 +60,10 @@ impl PureTime {
     ghost use Rattle.speedate_base.specs.Offset.{IsOffset, IsWholeMinutes};
     ghost use Rattle.speedate_base.specs.Requirement.{first_refusal_or, result_map, shifted};
     ghost use Rattle.speedate_civil.specs.ParserParts.{clock_after, second_of};
-    ghost use Rattle.speedate_civil.specs.Time.{
-      clock_front,
-      clock_front_or,
-      minute_clock,
-      minute_front,
-      minute_front_or,
-      second_table,
-      clock_parts,
-      has_decimal_mark,
-      time_of_day,
-      clock_with_offset,
-    };
+    ghost use Rattle.speedate_civil.specs.Time.{clock_front, clock_front_or, minute_clock};
+    ghost use Rattle.speedate_civil.specs.Time.{minute_front, minute_front_or, second_table};
+    ghost use Rattle.speedate_civil.specs.Time.{clock_parts, has_decimal_mark, time_of_day};
+    ghost use Rattle.speedate_civil.specs.Time.{clock_with_offset};
 
     /// Parses the clock that begins at `place`, whatever follows it: 12:13:14 and a half, in ten bytes,
     /// from `b"P12:13:14.5Z"` at place 1.

@@ -6,15 +6,8 @@ ghost use Rattle.speedate_base.specs.Config.{time_choices};
 ghost use Rattle.speedate_civil.specs.Base.{TimeConfig};
 ghost use Rattle.speedate_base.specs.Offset.{IsWholeMinutes};
 ghost use Rattle.speedate_base.specs.Requirement.{result_map};
-ghost use Rattle.speedate_civil.specs.Time.{
-  time_of_day,
-  time_answer,
-  time_front,
-  clock_text,
-  time_text,
-  is_after_time,
-  Time,
-};
+ghost use Rattle.speedate_civil.specs.Time.{time_of_day, time_answer, time_front, clock_text};
+ghost use Rattle.speedate_civil.specs.Time.{time_text, is_after_time, Time};
 
 use super::Time;
 use super::offset::push_offset;

@@ -5,13 +5,8 @@ ghost use Rattle.std.specs.Option.{ForSome};
 ghost use Rattle.speedate_base.specs.Config.{time_choices};
 ghost use Rattle.speedate_base.specs.Offset.{IsOffset};
 ghost use Rattle.speedate_base.specs.Timestamp.{seconds_per_day};
-ghost use Rattle.speedate_civil.specs.Time.{
-  time_of_day,
-  microsecond_of_day,
-  time_at,
-  timestamp_answer,
-  ◌gives◌,
-};
+ghost use Rattle.speedate_civil.specs.Time.{time_of_day, microsecond_of_day, time_at};
+ghost use Rattle.speedate_civil.specs.Time.{timestamp_answer, ◌gives◌};
 
 use super::Time;
 use speedate_base::config::TimeConfig;

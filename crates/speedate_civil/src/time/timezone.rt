@@ -6,13 +6,8 @@ ghost use Rattle.std.specs.Option.{ForSome, unwrap_or};
 ghost use Rattle.speedate_base.specs.Offset.{IsOffset};
 ghost use Rattle.speedate_base.specs.Requirement.{first_fault_or};
 ghost use Rattle.speedate_civil.specs.Instant.{move_table};
-ghost use Rattle.speedate_civil.specs.Time.{
-  time_of_day,
-  utc_second_of_day,
-  ◌gives◌,
-  time_with_offset,
-  time_in_timezone,
-};
+ghost use Rattle.speedate_civil.specs.Time.{time_of_day, utc_second_of_day, ◌gives◌};
+ghost use Rattle.speedate_civil.specs.Time.{time_with_offset, time_in_timezone};
 
 use super::Time;
 use speedate_base::config::require_offset;

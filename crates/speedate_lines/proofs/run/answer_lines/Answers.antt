@@ -3,12 +3,8 @@ use Rattle.speedate.specs.Ascii.{line_feed}
 use Rattle.speedate.specs.Lines.{Pieces, complete_lines}
 use Rattle.speedate_lines.specs.Answer.{line_answer, answers}
 use Rattle.speedate.proofs.LineLemmas.{pieces-from, pieces-rest}
-use Rattle.speedate_lines.proofs.SentLemmas.{
-  AppendsBut-trans,
-  AppendsBut-more,
-  AppendsBut-same,
-  OnlyWrites-failed,
-}
+use Rattle.speedate_lines.proofs.SentLemmas.{AppendsBut-trans, AppendsBut-more, AppendsBut-same}
+use Rattle.speedate_lines.proofs.SentLemmas.{OnlyWrites-failed}
 use Rattle.std.proofs.Math.Bool.{or-false}
 use Rattle.speedate_lines.proofs.run.answer_lines.Goals as goal
 

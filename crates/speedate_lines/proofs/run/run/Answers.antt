@@ -5,8 +5,8 @@ use Rattle.std.proofs.KnownBytes.{Appends-trans, Consumes-trans, Consumes-whole}
 use Rattle.speedate.specs.Lines.{complete_lines, unfinished_line, last_line, lines}
 use Rattle.speedate_lines.specs.Answer.{answers}
 use Rattle.speedate_lines.specs.Run.{kept_part}
-use Rattle.speedate_lines.proofs.CarryLemmas.{IsOneLine-from_kept}
-use Rattle.speedate_lines.proofs.CarryLemmas.{answers-more, kept-more, answers-all}
+use Rattle.speedate_lines.proofs.CarryLemmas.{IsOneLine-from_kept, answers-more, kept-more}
+use Rattle.speedate_lines.proofs.CarryLemmas.{answers-all}
 use Rattle.std.proofs.Math.Bool.{or-false}
 use Rattle.speedate_lines.proofs.SentLemmas.{Appends-all, AppendsFrom-beginning}
 use Rattle.speedate_lines.proofs.run.run.Goals as goal

@@ -3,14 +3,8 @@ use Rattle.std.proofs.lemmas.List.Sorted.{answers_always}
 use Rattle.std.proofs.lemmas.Result.{on_ok_weaker}
 use Rattle.speedate.specs.DateTime.{date_and_time}
 use Rattle.speedate_uses.specs.Log.{instant_key}
-use Rattle.speedate_uses.proofs.LogLemmas.{
-  at-err,
-  at-ok,
-  reversed-sorted-by,
-  reversed-stable-by,
-  sorted-from,
-  stable-from,
-}
+use Rattle.speedate_uses.proofs.LogLemmas.{at-err, at-ok, reversed-sorted-by, reversed-stable-by}
+use Rattle.speedate_uses.proofs.LogLemmas.{sorted-from, stable-from}
 use Rattle.speedate_uses.proofs.log.sort_by_instant.Goals.{
   else-times-gt-FEW,
   then-times-gt-FEW+else-is_sorted_by_key+else-are_falling+else-is_ok,

@@ -2,13 +2,8 @@ use Rattle.std.proofs.Common.{◌≡◌, ◌∙◌, rules, ap, sym, subst, ℤ, 
 use Rattle.std.proofs.lemmas.Int.{ints}
 use Rattle.std.specs.Option.{ForSome, unwrap_or}
 use Rattle.speedate_base.specs.Offset.{IsOffset}
-use Rattle.speedate_base.specs.Timestamp.{
-  Instant,
-  IsInYears,
-  first_second,
-  last_second,
-  unix_instant,
-}
+use Rattle.speedate_base.specs.Timestamp.{Instant, IsInYears, first_second, last_second}
+use Rattle.speedate_base.specs.Timestamp.{unix_instant}
 use Rattle.speedate_civil.specs.DateTime.{date_time_at, utc_second}
 use Rattle.speedate_civil.proofs.DateTimeInstantLemmas.{date_time_at-shown}
 use Rattle.speedate_civil.proofs.ValueLemmas.{offset-small}

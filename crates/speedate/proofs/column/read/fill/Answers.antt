@@ -1,14 +1,8 @@
 use Rattle.std.proofs.Common.{◌+◌, ◌-◌, ◌≡◌, ℕ, List, length, set, None, Some, arith, refl, sym}
 use Rattle.std.proofs.lemmas.List.{take_rest, length-drop, length-set}
-use Rattle.speedate.proofs.ColumnLemmas.{
-  IsSoFar-more,
-  IsSoFar-whole,
-  text_column-more,
-  text_column-full,
-  text_column-none,
-  text_column-ended,
-  rest-more,
-}
+use Rattle.speedate.proofs.ColumnLemmas.{IsSoFar-more, IsSoFar-whole, text_column-more}
+use Rattle.speedate.proofs.ColumnLemmas.{text_column-full, text_column-none, text_column-ended}
+use Rattle.speedate.proofs.ColumnLemmas.{rest-more}
 use Rattle.speedate.proofs.column.read.fill.Goals as goal
 
 pub loop-lines-preserved : goal.loop-lines-preserved

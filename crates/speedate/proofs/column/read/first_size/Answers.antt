@@ -1,12 +1,7 @@
 use Rattle.std.proofs.Common.{◌<◌, ℕ, List, length, take, arith, sym, ap, subst, ◌∙◌, ◌≤◌}
 use Rattle.std.proofs.lemmas.Bool.Decides.{nat_tests}
-use Rattle.speedate.proofs.WholeLineLemmas.{
-  whole_lines-from,
-  whole_lines-last,
-  whole_lines-none,
-  without_return-front,
-  without_return-whole,
-}
+use Rattle.speedate.proofs.WholeLineLemmas.{whole_lines-from, whole_lines-last, whole_lines-none}
+use Rattle.speedate.proofs.WholeLineLemmas.{without_return-front, without_return-whole}
 use Rattle.speedate.proofs.column.read.first_size.Goals as goal
 
 pub returns-in-Some : goal.returns-in-Some

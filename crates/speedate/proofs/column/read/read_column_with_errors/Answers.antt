@@ -1,11 +1,7 @@
 use Rattle.std.proofs.Common.{◌≡◌, ◌∙◌, ◌≤◌, ℕ, length, min, take, Some, arith, sym}
 use Rattle.std.proofs.lemmas.List.{length-take}
-use Rattle.speedate.proofs.ColumnLemmas.{
-  overwritten-front,
-  text_column-errors,
-  text_column-goes_on,
-  text_column-short,
-}
+use Rattle.speedate.proofs.ColumnLemmas.{overwritten-front, text_column-errors, text_column-goes_on}
+use Rattle.speedate.proofs.ColumnLemmas.{text_column-short}
 use Rattle.speedate.proofs.column.read.read_column_with_errors.Goals as goal
 
 pub returns : goal.returns

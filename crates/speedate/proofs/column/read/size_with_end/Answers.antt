@@ -1,11 +1,8 @@
 use Rattle.std.proofs.Common.{rules, ◌≡◌, ℕ, ◌+◌, ◌<◌, List, length, slice_index, arith}
 use Rattle.std.proofs.lemmas.Bool.Decides.{nat_tests}
 use Rattle.speedate_base.specs.Ascii.{line_feed}
-use Rattle.speedate.proofs.WholeLineLemmas.{
-  IsFirstLineOf-last,
-  IsFirstLineOf-feed,
-  IsFirstLineOf-return,
-}
+use Rattle.speedate.proofs.WholeLineLemmas.{IsFirstLineOf-last, IsFirstLineOf-feed}
+use Rattle.speedate.proofs.WholeLineLemmas.{IsFirstLineOf-return}
 use Rattle.speedate.proofs.column.read.size_with_end.Goals as goal
 
 pub returns-then-size-text : goal.returns-then-size-text

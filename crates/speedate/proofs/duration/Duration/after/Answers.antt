@@ -3,13 +3,8 @@ use Rattle.std.proofs.Math.IntN.{neg_ℤ-neg_ℤ}
 use Rattle.std.proofs.lemmas.Result.{IfOk-weaker}
 use Rattle.speedate_civil.specs.DateTime.{date_and_time, IsShownAt}
 use Rattle.speedate.specs.Duration.{duration_numbers, signed_amount}
-use Rattle.speedate.proofs.DurationLemmas.{
-  is_duration,
-  shown-later,
-  between-exact,
-  ends-order,
-  ends-back,
-}
+use Rattle.speedate.proofs.DurationLemmas.{is_duration, shown-later, between-exact, ends-order}
+use Rattle.speedate.proofs.DurationLemmas.{ends-back}
 use Rattle.speedate.proofs.duration.Duration.after.Goals as goal
 
 pub returns-clause-ends : goal.returns-clause-ends

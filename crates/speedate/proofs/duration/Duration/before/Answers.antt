@@ -2,14 +2,8 @@ use Rattle.std.proofs.Common.{rules, neg_ℤ}
 use Rattle.std.proofs.lemmas.Result.{IfOk-weaker}
 use Rattle.speedate_civil.specs.DateTime.{date_and_time}
 use Rattle.speedate.specs.Duration.{duration_numbers, signed_amount}
-use Rattle.speedate.proofs.DurationLemmas.{
-  is_duration,
-  opposite,
-  opposite-apart,
-  between-exact,
-  ends-order,
-  ends-back,
-}
+use Rattle.speedate.proofs.DurationLemmas.{is_duration, opposite, opposite-apart, between-exact}
+use Rattle.speedate.proofs.DurationLemmas.{ends-order, ends-back}
 use Rattle.speedate.proofs.duration.Duration.before.Goals as goal
 
 pub returns-clause-between : goal.returns-clause-between

@@ -3,13 +3,8 @@ use Rattle.speedate_civil.specs.DateTime.{date_and_time}
 use Rattle.speedate_civil.proofs.ValueLemmas.{is_date_and_time}
 use Rattle.speedate.specs.Duration.{duration_numbers, signed_amount}
 use Rattle.speedate.specs.DurationNumbers.{DurationNumbers}
-use Rattle.speedate.proofs.DurationLemmas.{
-  signed_amount-kept,
-  between-days,
-  between-later,
-  between-ends,
-  date_time_later-exact,
-}
+use Rattle.speedate.proofs.DurationLemmas.{signed_amount-kept, between-days, between-later}
+use Rattle.speedate.proofs.DurationLemmas.{between-ends, date_time_later-exact}
 use Rattle.speedate.proofs.duration.Duration.between.Goals as goal
 
 pub returns-clause-answer : goal.returns-clause-answer

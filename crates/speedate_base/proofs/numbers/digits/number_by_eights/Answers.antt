@@ -3,15 +3,8 @@ use Rattle.std.proofs.lemmas.Bool.Decides.{nat_tests}
 use Rattle.std.proofs.lemmas.List.{length-take-le, take_all}
 use Rattle.std.proofs.lemmas.Result.{err_from_is_err_and}
 use Rattle.speedate_base.proofs.DigitRunLemmas.{run-front, run-on, digits_value-fits, list_all-more}
-use Rattle.speedate_base.proofs.BlockLemmas.{
-  block-all,
-  block-ends,
-  block-more,
-  is_number,
-  is-place,
-  from-number,
-  from-place,
-}
+use Rattle.speedate_base.proofs.BlockLemmas.{block-all, block-ends, block-more, is_number, is-place}
+use Rattle.speedate_base.proofs.BlockLemmas.{from-number, from-place}
 use Rattle.speedate_base.proofs.numbers.digits.number_by_eights.Goals as goal
 
 pub returns-in_err-value : goal.returns-in_err-value

@@ -6,13 +6,8 @@ use Rattle.std.proofs.lemmas.Simd.{length-zip2}
 use Rattle.std.proofs.Math.Nat.{zero-mod, add-mul-div_right, div-eq_of_lt}
 use lib.Lanes.{Each1, zip2, number_l}
 use Rattle.speedate_base.specs.Digits.{fits_byte, fit_length, fit_digits, neighbours}
-use Rattle.speedate_base.proofs.PatternLemmas.{
-  less,
-  by_eight,
-  from_le_bytes-number,
-  first-fits,
-  fit_length_le,
-}
+use Rattle.speedate_base.proofs.PatternLemmas.{less, by_eight, from_le_bytes-number, first-fits}
+use Rattle.speedate_base.proofs.PatternLemmas.{fit_length_le}
 use Rattle.speedate_base.proofs.numbers.lanes.two_digit_numbers.Goals as goal
 
 -- the first lanes, less the pattern, are the digits that they stand for

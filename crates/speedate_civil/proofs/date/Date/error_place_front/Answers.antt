@@ -6,7 +6,8 @@ use Rattle.speedate_civil.proofs.ErrorPlaceLemmas.{date_front-view}
 use Rattle.speedate_civil.proofs.date.Date.error_place_front.Goals as goal
 
 pub returns-clause-fault : goal.returns-clause-fault
-returns-clause-fault c = date_front-view (λ (refused : Refused). refused.fault) placed c.args.bytes.now
+returns-clause-fault c = date_front-view (λ (refused : Refused). refused.fault) placed
+    c.args.bytes.now
 
 pub returns-clause-refused : goal.returns-clause-refused
 returns-clause-refused c = let same = refused-is_some _ _ (returns-clause-fault c) in search rules

@@ -1,11 +1,6 @@
 use Rattle.std.proofs.Common.{◌∙◌, ap, true, ℕ, List, option_map}
-use Rattle.speedate_civil.specs.Date.{
-  ymd,
-  date_answer,
-  date_text,
-  date_timestamp_answer,
-  date_or_timestamp,
-}
+use Rattle.speedate_civil.specs.Date.{ymd, date_answer, date_text, date_timestamp_answer}
+use Rattle.speedate_civil.specs.Date.{date_or_timestamp}
 use Rattle.speedate_base.specs.Numbers.{whole_number}
 use Rattle.speedate_base.specs.Requirement.{or_number}
 use Rattle.speedate_base.proofs.TextLemmas.{text-alone, text-canonical}

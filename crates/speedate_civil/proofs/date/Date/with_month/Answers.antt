@@ -1,17 +1,8 @@
 use Rattle.std.proofs.Common.{◌≡◌, ◌∙◌, ap₂, refl, sym, ℕ, ◌+◌, ◌*◌, true, arith, rules}
 use Rattle.speedate_base.specs.Digits.{two_digits_at}
-use Rattle.speedate_civil.proofs.DateFrontLemmas.{
-  Read,
-  front-read,
-  day-none,
-  day-there,
-  no-day,
-  no-month,
-  late-day,
-  date-there,
-  in-range,
-  out-of-range,
-}
+use Rattle.speedate_civil.proofs.DateFrontLemmas.{Read, front-read, day-none, day-there, no-day}
+use Rattle.speedate_civil.proofs.DateFrontLemmas.{no-month, late-day, date-there, in-range}
+use Rattle.speedate_civil.proofs.DateFrontLemmas.{out-of-range}
 use Rattle.speedate_civil.proofs.date.Date.with_month.Goals as goal
 
 pub two_digit_numbers-requires-clause-fits : goal.two_digit_numbers-requires-clause-fits

@@ -2,12 +2,9 @@ use Rattle.std.proofs.Common.{◌≡◌, ◌∙◌, ap, sym, subst, rules}
 use Rattle.std.specs.Ordering.{ordering_reverse}
 use Rattle.speedate_civil.specs.DateTime.{date_time_instant, date_time_instant_order, date_and_time}
 use Rattle.speedate_civil.specs.Instant.{IsNotAfter}
-use Rattle.speedate_civil.proofs.InstantOrderLemmas.{
-  date_time_text-order,
-  by_instant-reversed,
-  by_instant-transitive,
-  date_time_instant_order-across,
-}
+use Rattle.speedate_civil.proofs.InstantOrderLemmas.{date_time_text-order, by_instant-reversed}
+use Rattle.speedate_civil.proofs.InstantOrderLemmas.{by_instant-transitive}
+use Rattle.speedate_civil.proofs.InstantOrderLemmas.{date_time_instant_order-across}
 use Rattle.speedate_civil.proofs.ValueLemmas.{is_date_and_time}
 use Rattle.speedate_civil.proofs.datetime.DateTime.cmp_instant.Goals as goal
 

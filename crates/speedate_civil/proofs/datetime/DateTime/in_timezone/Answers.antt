@@ -5,13 +5,8 @@ use Rattle.std.proofs.lemmas.Result.{err_from_is_err_and}
 use Rattle.speedate_civil.specs.Base.{ParseError}
 use Rattle.speedate_base.specs.Requirement.{fault_alone, AllHold}
 use Rattle.speedate_base.specs.Timestamp.{Instant}
-use Rattle.speedate_civil.specs.DateTime.{
-  DateAndTime,
-  utc_second,
-  IsShownAt,
-  date_and_time,
-  DateTime,
-}
+use Rattle.speedate_civil.specs.DateTime.{DateAndTime, utc_second, IsShownAt, date_and_time}
+use Rattle.speedate_civil.specs.DateTime.{DateTime}
 use Rattle.speedate_civil.specs.Instant.{move_table}
 use Rattle.speedate_civil.proofs.OffsetMoveLemmas.{second-moved, instant-kept}
 use Rattle.speedate_base.proofs.RefusalLemmas.{first_refusal_or-next, refusal-all}
@@ -37,7 +32,8 @@ returns-in_err-shift-clause-answer c =
     let given : SFits w32 offset = search rules in
     let refused = simp to_z-of_z at c.in_err-shift.ensures.answer in
     let p = err_from_is_err_and c.from_residual.result c.from_residual.ensures.1 in
-    rw (p.1, p.2) (first_refusal_or-next fault_alone (move_table offset old) (offset -ℤ unwrap_or old (pos 0))
+    rw (p.1, p.2) (first_refusal_or-next fault_alone (move_table offset old)
+    (offset -ℤ unwrap_or old (pos 0))
     (Err c.in_err-shift.field-0.0) _ refused)
 
 pub move_second-requires-clause-least : goal.move_second-requires-clause-least

@@ -18,7 +18,8 @@ returns-in_err-require_standard-clause-answer c =
 
 pub returns-clause-answer : goal.returns-clause-answer
 returns-clause-answer c =
-    refusal-read fault_alone (standard_date_time c.args.bytes.now) (date_and_time c.in_ok-value.value)
+    refusal-read fault_alone (standard_date_time c.args.bytes.now)
+    (date_and_time c.in_ok-value.value)
     _ _ c.in_ok-value.ensures.answer c.in_ok-require_standard.ensures.answer
 
 pub returns-in_err-value-clause-standard : goal.returns-in_err-value-clause-standard

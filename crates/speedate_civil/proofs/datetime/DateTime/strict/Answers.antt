@@ -17,7 +17,8 @@ returns-in_err-require_standard-clause-answer g c =
 
 pub returns-clause-answer : goal.returns-clause-answer
 returns-clause-answer g c =
-    refusal-read g.E.Refusal.refusal (standard_date_time c.args.bytes.now) (date_and_time c.in_ok-value.value)
+    refusal-read g.E.Refusal.refusal (standard_date_time c.args.bytes.now)
+    (date_and_time c.in_ok-value.value)
     _ _ c.in_ok-value.ensures.answer c.in_ok-require_standard.ensures.answer
 
 pub returns-in_err-require_standard-clause-placed

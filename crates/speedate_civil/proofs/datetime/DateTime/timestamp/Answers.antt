@@ -1,20 +1,12 @@
 use Rattle.std.proofs.Common.{rules, ◌≡◌, ◌∙◌, ap, sym, subst, arith, None, Ok, ℤ, ◌≤ℤ◌}
 use Rattle.std.proofs.lemmas.Int.{ints}
 use Rattle.speedate_base.specs.Timestamp.{first_second, last_second}
-use Rattle.speedate_civil.specs.DateTime.{
-  DateAndTime,
-  IsDateAndTime,
-  local_second,
-  date_time_timestamp_answer,
-  date_and_time,
-}
+use Rattle.speedate_civil.specs.DateTime.{DateAndTime, IsDateAndTime, local_second}
+use Rattle.speedate_civil.specs.DateTime.{date_time_timestamp_answer, date_and_time}
 use Rattle.speedate_civil.specs.Base.{TimestampUnit}
 use Rattle.speedate_civil.proofs.DateTimeTimestampLemmas.{date_time_timestamp-leads_back}
-use Rattle.speedate_civil.proofs.ValueLemmas.{
-  is_date_and_time,
-  local_second-late,
-  local_second-early,
-}
+use Rattle.speedate_civil.proofs.ValueLemmas.{is_date_and_time, local_second-late}
+use Rattle.speedate_civil.proofs.ValueLemmas.{local_second-early}
 use Rattle.speedate_civil.proofs.datetime.DateTime.timestamp.Goals as goal
 
 -- without an offset none is attached

@@ -1,12 +1,7 @@
 use Rattle.std.proofs.Common.{◌∙◌, ap}
 use Rattle.speedate_base.specs.Numbers.{number_answer}
-use Rattle.speedate_civil.specs.DateTime.{
-  date_time_answer,
-  date_time_text,
-  date_time_number_answer,
-  date_time_or_timestamp,
-  date_and_time,
-}
+use Rattle.speedate_civil.specs.DateTime.{date_time_answer, date_time_text, date_time_number_answer}
+use Rattle.speedate_civil.specs.DateTime.{date_time_or_timestamp, date_and_time}
 use Rattle.speedate_base.specs.Requirement.{or_number}
 use Rattle.speedate_base.proofs.TextLemmas.{text-alone, text-canonical}
 use Rattle.speedate_civil.proofs.AfterTimeLemmas.{date_time_text-front-iff}

@@ -8,7 +8,8 @@ use Rattle.speedate_civil.proofs.datetime.parse.require_standard.Goals as goal
 pub returns-clause-answer : goal.returns-clause-answer
 returns-clause-answer g c =
     let refuse = g.E.Refusal.refusal in
-    let time = λ (text : List ℕ). first_refusal_or (shifted 11 refuse) (standard_time text) (Ok tt) in
+    let time = λ (text : List ℕ). first_refusal_or (shifted 11 refuse) (standard_time text)
+    (Ok tt) in
     rw (sym c.has_letter_t.ensures.value ∙ c.if-not-has_letter_t.false)
     (c.require_standard.ensures.answer ∙ ap time (take_rest c.args.text.now 11)
     ∙ sym (first_refusal_or-moved refuse 11 (standard_time (drop 11 c.args.text.now)) (Ok tt)))

@@ -2,12 +2,8 @@ use Rattle.std.proofs.Common.{◌∙◌, Result, ap, ap₂, refl, rules, sym}
 use Rattle.speedate_civil.specs.Base.{ParseError}
 use Rattle.speedate_base.specs.Numbers.{Number, number_answer}
 use Rattle.speedate_base.specs.Requirement.{or_number, result_map}
-use Rattle.speedate_civil.specs.DateTime.{
-  DateAndTime,
-  date_time_answer,
-  date_time_at,
-  date_time_number_answer,
-}
+use Rattle.speedate_civil.specs.DateTime.{DateAndTime, date_time_answer, date_time_at}
+use Rattle.speedate_civil.specs.DateTime.{date_time_number_answer}
 use Rattle.speedate_civil.proofs.DateTimeTimestampLemmas.{number_instant-date_time}
 use Rattle.speedate_civil.proofs.NumberTextLemmas.{number_answer-refused}
 use Rattle.speedate_civil.proofs.datetime.parse.timestamp_instant.Goals as goal

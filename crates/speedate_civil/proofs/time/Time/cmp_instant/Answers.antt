@@ -1,11 +1,8 @@
 use Rattle.std.proofs.Common.{◌≡◌, ◌∙◌, subst, rules}
 use Rattle.speedate_civil.specs.Time.{time_of_day, time_instant, time_instant_order}
 use Rattle.speedate_civil.specs.Instant.{IsNotAfter}
-use Rattle.speedate_civil.proofs.InstantOrderLemmas.{
-  time_text-order,
-  by_instant-transitive,
-  time_instant_order-across,
-}
+use Rattle.speedate_civil.proofs.InstantOrderLemmas.{time_text-order, by_instant-transitive}
+use Rattle.speedate_civil.proofs.InstantOrderLemmas.{time_instant_order-across}
 use Rattle.speedate_civil.proofs.ValueLemmas.{is_time}
 use Rattle.speedate_civil.proofs.time.Time.cmp_instant.Goals as goal
 

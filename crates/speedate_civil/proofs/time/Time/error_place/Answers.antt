@@ -6,7 +6,8 @@ use Rattle.speedate_civil.proofs.ErrorPlaceLemmas.{time_answer-view}
 use Rattle.speedate_civil.proofs.time.Time.error_place.Goals as goal
 
 pub returns-clause-fault : goal.returns-clause-fault
-returns-clause-fault c = time_answer-view (λ (refused : Refused). refused.fault) placed c.args.config.now.microseconds_precision_overflow_behavior c.args.bytes.now
+returns-clause-fault c = time_answer-view (λ (refused : Refused). refused.fault) placed
+    c.args.config.now.microseconds_precision_overflow_behavior c.args.bytes.now
 
 pub returns-clause-refused : goal.returns-clause-refused
 returns-clause-refused c = let same = refused-is_some _ _ (returns-clause-fault c) in search rules

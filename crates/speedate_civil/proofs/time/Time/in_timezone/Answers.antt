@@ -4,14 +4,8 @@ use Rattle.std.proofs.lemmas.Result.{err_from_is_err_and}
 use Rattle.std.proofs.lemmas.Grind.{common_steps}
 use Rattle.speedate_civil.specs.Instant.{move_table}
 use Rattle.speedate_civil.specs.Time.{time_of_day}
-use Rattle.speedate_civil.proofs.OffsetMoveLemmas.{
-  clock-moved,
-  sum-in-bits,
-  time-after,
-  time-before,
-  time-moved,
-  second_of_day-kept,
-}
+use Rattle.speedate_civil.proofs.OffsetMoveLemmas.{clock-moved, sum-in-bits, time-after}
+use Rattle.speedate_civil.proofs.OffsetMoveLemmas.{time-before, time-moved, second_of_day-kept}
 use Rattle.speedate_civil.proofs.time.Time.in_timezone.Goals as goal
 use Rattle.speedate_base.proofs.RefusalLemmas.{first_refusal_or-next}
 use Rattle.speedate_base.specs.Requirement.{fault_alone}
@@ -27,7 +21,8 @@ returns-in_err-shift-clause-answer c =
     let given : SFits w32 offset = search rules in
     let refused = simp to_z-of_z at c.in_err-shift.ensures.answer in
     let p = err_from_is_err_and c.from_residual.result c.from_residual.ensures.1 in
-    rw (p.1, p.2) (first_refusal_or-next fault_alone (move_table offset old) (offset -ℤ unwrap_or old (pos 0))
+    rw (p.1, p.2) (first_refusal_or-next fault_alone (move_table offset old)
+    (offset -ℤ unwrap_or old (pos 0))
     (Err c.in_err-shift.field-0.0) _ refused)
 
 pub returns-then-second-lt0-clause-answer : goal.returns-then-second-lt0-clause-answer

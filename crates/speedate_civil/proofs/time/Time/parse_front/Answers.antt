@@ -1,14 +1,8 @@
 use Rattle.std.proofs.Common.{◌≡◌, sym, ℕ, ◌≤◌, IfOk, List, length, take, Result, Ok, Err}
 use Rattle.speedate_civil.specs.Base.{Behavior, ParseError}
 use Rattle.speedate_base.specs.Requirement.{result_map, with_size}
-use Rattle.speedate_civil.specs.Time.{
-  end_fault,
-  TimeOfDay,
-  time_front,
-  time_answer,
-  time_of_day,
-  Time,
-}
+use Rattle.speedate_civil.specs.Time.{end_fault, TimeOfDay, time_front, time_answer, time_of_day}
+use Rattle.speedate_civil.specs.Time.{Time}
 use Rattle.speedate_base.proofs.RequirementLemmas.{whole_or_fault-iff}
 use Rattle.speedate_base.specs.Ascii.{HasNoControl}
 use Rattle.speedate_civil.proofs.ReadLemmas.{read-result}

@@ -9,7 +9,8 @@ use Rattle.speedate_civil.proofs.time.Time.require_standard.Goals as goal
 standard-from : {E : Type 0} (refuse : ParseError → ℕ → E) (text : List ℕ) (place : ℕ)
     → (slice_index text 5 == colon) ≡ true → (slice_index text 8 == comma) ≡ false
     → offset_place text ≡ place
-    → first_refusal_or {A = Unit {0}} refuse (moved place (standard_offset (drop place text))) (Ok tt)
+    → first_refusal_or {A = Unit {0}} refuse (moved place (standard_offset (drop place text)))
+    (Ok tt)
     ≡ first_refusal_or refuse (standard_time text) (Ok tt)
 standard-from refuse text place second plain is = rw (second, plain, is) refl
 

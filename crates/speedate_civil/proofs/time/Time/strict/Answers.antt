@@ -22,12 +22,15 @@ returns-in_err-require_standard-clause-answer g c =
     c.from_residual-in_err-require_standard.ensures.1 in
     rw (p.1, p.2) (refusal-read g.E.Refusal.refusal (standard_time c.args.bytes.now)
     (time_of_day c.in_ok-time.time)
-    _ _ c.in_ok-time.ensures.answer (c.in_err-require_standard.ensures.answer ∙ standard-here g.E.Refusal.refusal c.args.bytes.now))
+    _ _ c.in_ok-time.ensures.answer (c.in_err-require_standard.ensures.answer
+    ∙ standard-here g.E.Refusal.refusal c.args.bytes.now))
 
 pub returns-clause-answer : goal.returns-clause-answer
 returns-clause-answer g c =
-    refusal-read g.E.Refusal.refusal (standard_time c.args.bytes.now) (time_of_day c.in_ok-time.time)
-    _ _ c.in_ok-time.ensures.answer (c.in_ok-require_standard.ensures.answer ∙ standard-here g.E.Refusal.refusal c.args.bytes.now)
+    refusal-read g.E.Refusal.refusal (standard_time c.args.bytes.now)
+    (time_of_day c.in_ok-time.time)
+    _ _ c.in_ok-time.ensures.answer (c.in_ok-require_standard.ensures.answer
+    ∙ standard-here g.E.Refusal.refusal c.args.bytes.now)
 
 within-here : (size : ℕ) (place : Option ℕ) → IfSome place (λ place. place ≤ size)
     → IfSome place (λ place. 0 + place ≤ size)

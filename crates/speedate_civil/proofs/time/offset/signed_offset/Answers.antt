@@ -8,20 +8,9 @@ use Rattle.speedate_base.specs.Digits.{two_digit_value, eight_at}
 use Rattle.speedate_base.specs.Numbers.{with_sign}
 use Rattle.speedate_base.specs.Timestamp.{seconds_per_day}
 use Rattle.speedate_base.specs.Requirement.{◌at_byte◌, ◌else_fault◌, first_refusal_or, shifted}
-use Rattle.speedate_civil.specs.Time.{
-  offset_digits,
-  offset_ranges,
-  signed_front_or,
-  offset_minute,
-  offset_minute_place,
-  offset_digits_size,
-  offset_size,
-}
-use Rattle.speedate_base.proofs.RefusalLemmas.{
-  first_refusal_or-next,
-  refusal-all,
-  refusal-value,
-}
+use Rattle.speedate_civil.specs.Time.{offset_digits, offset_ranges, signed_front_or, offset_minute}
+use Rattle.speedate_civil.specs.Time.{offset_minute_place, offset_digits_size, offset_size}
+use Rattle.speedate_base.proofs.RefusalLemmas.{first_refusal_or-next, refusal-all, refusal-value}
 use Rattle.speedate_base.proofs.PatternLemmas.{eight_at-drop}
 use Rattle.speedate_civil.proofs.time.offset.signed_offset.Goals as goal
 
@@ -79,7 +68,8 @@ returns-in_err-hour-clause-answer g c =
     let rest : List ℕ = drop c.args.place c.args.bytes.now in
     let p = err_from_is_err_and c.from_residual.result c.from_residual.ensures.1 in
     let refused =
-    read (shifted c.args.start g.E.Refusal.refusal) c.args.bytes.now _ c.args.place _ c.eight_bytes.ensures.bytes
+    read (shifted c.args.start g.E.Refusal.refusal) c.args.bytes.now _ c.args.place _
+    c.eight_bytes.ensures.bytes
     c.in_err-hour.ensures.numbers in
     let next : Result (Option ℤ × ℕ) _ =
     first_refusal_or (shifted c.args.start g.E.Refusal.refusal) (offset_ranges rest)
@@ -87,11 +77,13 @@ returns-in_err-hour-clause-answer g c =
       Some (with_sign c.args.west (offset_size rest)),
       c.args.sign + offset_digits_size rest,
     )) in
-    rw (p.1, p.2) (first_refusal_or-next (shifted c.args.start g.E.Refusal.refusal) (offset_digits rest) _ _ next refused)
+    rw (p.1, p.2) (first_refusal_or-next (shifted c.args.start g.E.Refusal.refusal)
+    (offset_digits rest) _ _ next refused)
 
 pub returns-then-minute-gt59-clause-answer : goal.returns-then-minute-gt59-clause-answer
 returns-then-minute-gt59-clause-answer g c =
-    let is = known (shifted c.args.start g.E.Refusal.refusal) c.args.west c.args.sign c.args.bytes.now _ c.args.place
+    let is = known (shifted c.args.start g.E.Refusal.refusal) c.args.west c.args.sign
+    c.args.bytes.now _ c.args.place
     ((c.in_ok-hour.hour, c.in_ok-hour.minute), c.in_ok-hour.size)
     c.eight_bytes.ensures.bytes c.in_ok-hour.ensures.numbers in
     grind (arith, nat_tests) ∙ is.0
@@ -99,14 +91,16 @@ returns-then-minute-gt59-clause-answer g c =
 pub returns-then-seconds-ge-SECONDS_PER_DAY-clause-answer
     : goal.returns-then-seconds-ge-SECONDS_PER_DAY-clause-answer
 returns-then-seconds-ge-SECONDS_PER_DAY-clause-answer g c =
-    let is = known (shifted c.args.start g.E.Refusal.refusal) c.args.west c.args.sign c.args.bytes.now _ c.args.place
+    let is = known (shifted c.args.start g.E.Refusal.refusal) c.args.west c.args.sign
+    c.args.bytes.now _ c.args.place
     ((c.in_ok-hour.hour, c.in_ok-hour.minute), c.in_ok-hour.size)
     c.eight_bytes.ensures.bytes c.in_ok-hour.ensures.numbers in
     grind (arith, nat_tests, c.from.ensures, c.from-2.ensures) ∙ is.0
 
 pub returns-clause-answer : goal.returns-clause-answer
 returns-clause-answer g c =
-    let is = known (shifted c.args.start g.E.Refusal.refusal) c.args.west c.args.sign c.args.bytes.now _ c.args.place
+    let is = known (shifted c.args.start g.E.Refusal.refusal) c.args.west c.args.sign
+    c.args.bytes.now _ c.args.place
     ((c.in_ok-hour.hour, c.in_ok-hour.minute), c.in_ok-hour.size)
     c.eight_bytes.ensures.bytes c.in_ok-hour.ensures.numbers in
     let fits : SFits w32 c.with_sign.result = search rules in

@@ -2,11 +2,8 @@ use Rattle.std.proofs.Common.{rules, ◌∙◌, ap, sym, refl, Ok}
 use Rattle.speedate_civil.specs.Base.{ParseError}
 use Rattle.speedate_civil.specs.Date.{date_answer, ymd}
 use Rattle.speedate.specs.Column.{IsFront, LineError, date_number}
-use Rattle.speedate.proofs.FrontNumberLemmas.{
-  HasNoEnd-read,
-  date_number-longer,
-  date_number-of_date,
-}
+use Rattle.speedate.proofs.FrontNumberLemmas.{HasNoEnd-read, date_number-longer}
+use Rattle.speedate.proofs.FrontNumberLemmas.{date_number-of_date}
 use Rattle.speedate.proofs.column.date.DateReaderLineReader.front.Goals as goal
 
 pub returns-in-Ok : goal.returns-in-Ok

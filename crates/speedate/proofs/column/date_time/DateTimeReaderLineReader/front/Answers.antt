@@ -2,12 +2,8 @@ use Rattle.std.proofs.Common.{◌∙◌, ap, sym, refl, Err}
 use Rattle.speedate_civil.specs.Base.{Behavior}
 use Rattle.speedate_civil.specs.DateTime.{date_and_time, date_time_answer}
 use Rattle.speedate.specs.Column.{HasNoEnd, LineError, text_behavior}
-use Rattle.speedate.proofs.FrontNumberLemmas.{
-  HasNoEnd-read,
-  IfOk-any,
-  date_time_number-longer,
-  date_time_number-of_date_time,
-}
+use Rattle.speedate.proofs.FrontNumberLemmas.{HasNoEnd-read, IfOk-any, date_time_number-longer}
+use Rattle.speedate.proofs.FrontNumberLemmas.{date_time_number-of_date_time}
 use Rattle.speedate.proofs.column.date_time.DateTimeReaderLineReader.front.Goals as goal
 
 pub returns-in-Ok : goal.returns-in-Ok

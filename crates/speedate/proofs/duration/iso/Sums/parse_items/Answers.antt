@@ -1,4 +1,4 @@
-use Rattle.std.proofs.Common.{◌≡◌, ◌∙◌, ap, sym, subst, arith, ℕ, ◌+◌, ◌-◌, ◌<◌, ◌≤◌, List, length, length-drop, true, false, Ok, Err, rules}
+use Rattle.std.proofs.Common.{◌≡◌, ◌∙◌, ap, sym, subst, arith, ℕ, ◌+◌, ◌-◌, ◌<◌, List, length, length-drop, true, false, Ok, Err, rules}
 use Rattle.std.proofs.lemmas.Bool.Decides.{nat_tests}
 use Rattle.std.proofs.lemmas.List.{take_rest}
 use Rattle.std.proofs.lemmas.Result.{err_from_is_err_and}
@@ -6,12 +6,8 @@ use Rattle.speedate_base.specs.Requirement.{shifted}
 use Rattle.speedate.specs.Duration.{iso_from_or}
 use Rattle.speedate.specs.DurationNumbers.{UnsignedDuration}
 use Rattle.speedate.specs.IsoParts.{sums_parts}
-use Rattle.speedate.proofs.DurationPlaceLemmas.{
-  iso_from-next,
-  iso_from-refused,
-  iso_from-short,
-  iso_from-sum,
-}
+use Rattle.speedate.proofs.DurationPlaceLemmas.{iso_from-next, iso_from-refused, iso_from-short}
+use Rattle.speedate.proofs.DurationPlaceLemmas.{iso_from-sum}
 use Rattle.speedate.proofs.duration.iso.Sums.parse_items.Goals as goal
 
 pub returns-in_err-next : goal.returns-in_err-next

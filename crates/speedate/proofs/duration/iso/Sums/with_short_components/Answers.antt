@@ -1,4 +1,4 @@
-use Rattle.std.proofs.Common.{◌∙◌, ap, sym, arith, ℕ, ◌-◌, ◌≤◌, List, length, length-drop}
+use Rattle.std.proofs.Common.{◌∙◌, ap, sym, arith, ℕ, ◌-◌, List, length, length-drop}
 use Rattle.std.proofs.lemmas.List.{take_rest}
 use Rattle.speedate_base.specs.Refused.{placed}
 use Rattle.speedate_base.specs.Requirement.{shifted}

@@ -1,4 +1,4 @@
-use Rattle.std.proofs.Common.{◌≡◌, ◌∙◌, ap, arith, subst, sym, ℕ, ◌-◌, ◌<◌, ◌≤◌, List, length, length-drop, slice_index, false, drop, rules}
+use Rattle.std.proofs.Common.{◌≡◌, ◌∙◌, ap, arith, subst, sym, ℕ, ◌-◌, ◌≤◌, List, length, length-drop, slice_index, false, drop, rules}
 use Rattle.std.proofs.lemmas.List.{take_rest}
 use Rattle.speedate_base.specs.Ascii.{capital_t}
 use Rattle.speedate_base.specs.Refused.{placed}
@@ -6,7 +6,7 @@ use Rattle.speedate_base.specs.Requirement.{shifted}
 use Rattle.speedate.specs.Duration.{iso_from_or}
 use Rattle.speedate.specs.IsoForm.{IsoSums}
 use Rattle.speedate.specs.IsoParts.{sums_parts}
-use Rattle.speedate.proofs.DurationPlaceLemmas.{iso_from-start, iso_from-time_part}
+use Rattle.speedate.proofs.DurationPlaceLemmas.{iso_from-time_part}
 use Rattle.speedate.proofs.duration.iso.Sums.with_short_time.Goals as goal
 
 pub returns-in-84 : goal.returns-in-84

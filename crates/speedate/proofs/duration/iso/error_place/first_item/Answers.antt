@@ -1,4 +1,4 @@
-use Rattle.std.proofs.Common.{◌≡◌, ◌≤◌, ◌<◌, ◌-◌, ◌+◌, ◌∙◌, ap, sym, subst, arith, rules, ℕ, Bool, true, false, List, length, drop, if◌then◌else◌, IsOk, Result, Ok, Err}
+use Rattle.std.proofs.Common.{◌≡◌, ◌≤◌, ◌<◌, ◌-◌, ◌+◌, ◌∙◌, ap, sym, subst, arith, rules, ℕ, Bool, true, false, List, length, drop, if◌then◌else◌, IsOk, Result, Err}
 use Rattle.std.proofs.lemmas.Bool.Decides.{nat_tests}
 use Rattle.std.proofs.lemmas.List.{drop-drop, length-drop, take_rest}
 use Rattle.speedate_base.specs.Refused.{placed}
@@ -10,14 +10,8 @@ use Rattle.speedate.specs.DurationNumbers.{UnsignedDuration}
 use Rattle.speedate.specs.DurationPlace.{amount_numbers, first_item_after}
 use Rattle.speedate.specs.IsoForm.{item_at}
 use Rattle.speedate.specs.IsoParts.{bound_test, item_front_or, sums_parts}
-use Rattle.speedate.proofs.DurationPlaceLemmas.{
-  first_item-done,
-  first_item-step,
-  iso_after-view,
-  iso_from-read,
-  iso_from-refused,
-  item_front-any,
-}
+use Rattle.speedate.proofs.DurationPlaceLemmas.{first_item-done, first_item-step, iso_after-view}
+use Rattle.speedate.proofs.DurationPlaceLemmas.{iso_from-read, iso_from-refused, item_front-any}
 use Rattle.speedate.proofs.duration.iso.error_place.first_item.Goals as goal
 
 is_ok-err : (answer : Result UnsignedDuration ParseError) (fault : ParseError)

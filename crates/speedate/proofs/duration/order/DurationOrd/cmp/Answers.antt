@@ -3,12 +3,8 @@ use Rattle.std.specs.Ordering.{bool_cmp, ordering_then}
 use Rattle.std.proofs.lemmas.Bool.Decides.{nat_tests}
 use Rattle.std.proofs.lemmas.Int.{ints}
 use Rattle.speedate.specs.Duration.{duration_numbers, signed_amount}
-use Rattle.speedate.specs.DurationNumbers.{
-  DurationNumbers,
-  IsDuration,
-  duration_order,
-  amount_microseconds,
-}
+use Rattle.speedate.specs.DurationNumbers.{DurationNumbers, IsDuration, duration_order}
+use Rattle.speedate.specs.DurationNumbers.{amount_microseconds}
 use Rattle.speedate.proofs.DurationLemmas.{is_duration}
 use Rattle.speedate.proofs.duration.order.DurationOrd.cmp.Goals as goal
 

@@ -1,19 +1,12 @@
-use Rattle.std.proofs.Common.{◌∙◌, add-zero, ap, ap₂, sym, ℕ, ◌+◌, List, drop, Err}
+use Rattle.std.proofs.Common.{◌∙◌, add-zero, ap, ap₂, sym, ℕ, ◌+◌, List, Err}
 use Rattle.std.proofs.lemmas.List.{take_rest}
 use Rattle.std.proofs.lemmas.Result.{err_from_is_err_and}
 use Rattle.speedate_base.specs.Digits.{digits_value}
 use Rattle.speedate_base.specs.Requirement.{first_refusal_or, shifted}
 use Rattle.speedate_base.proofs.RefusalLemmas.{first_refusal_or-next, shifted-shifted}
 use Rattle.speedate_civil.specs.Base.{ParseError}
-use Rattle.speedate.specs.ClockForm.{
-  after_hours_or,
-  clock_form_or,
-  colon_place,
-  from_minute,
-  hours,
-  hours_range,
-  hours_table,
-}
+use Rattle.speedate.specs.ClockForm.{after_hours_or, clock_form_or, colon_place, from_minute, hours}
+use Rattle.speedate.specs.ClockForm.{hours_range, hours_table}
 use Rattle.speedate.proofs.ClockFormLemmas.{clock-many, clock-rest}
 use Rattle.speedate.proofs.duration.unsigned.UnsignedDuration.from_clock.Goals as goal
 

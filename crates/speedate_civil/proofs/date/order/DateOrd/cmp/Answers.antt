@@ -1,10 +1,7 @@
 use Rattle.std.proofs.Common.{◌≡◌, ◌+◌, ◌*◌, nat_cmp, rules, sym, ◌∙◌}
 use Rattle.speedate_civil.specs.Date.{ymd}
-use Rattle.speedate_civil.proofs.DateOrderLemmas.{
-  date_text-order,
-  date_order-day_number,
-  date_order-number,
-}
+use Rattle.speedate_civil.proofs.DateOrderLemmas.{date_text-order, date_order-day_number}
+use Rattle.speedate_civil.proofs.DateOrderLemmas.{date_order-number}
 use Rattle.speedate_civil.proofs.ValueLemmas.{is_day}
 use Rattle.speedate_civil.proofs.date.order.DateOrd.cmp.Goals as goal
 

@@ -4,12 +4,8 @@ use Rattle.std.proofs.lemmas.Result.{err_from_is_err_and}
 use Rattle.speedate_base.specs.Requirement.{shifted}
 use Rattle.speedate_civil.specs.Base.{ParseError}
 use Rattle.speedate_civil.specs.ParserParts.{clock_after, second_of}
-use Rattle.speedate_civil.proofs.ClockFrontLemmas.{
-  minute-decided,
-  minute-late,
-  minute-none,
-  minute-read,
-}
+use Rattle.speedate_civil.proofs.ClockFrontLemmas.{minute-decided, minute-late, minute-none}
+use Rattle.speedate_civil.proofs.ClockFrontLemmas.{minute-read}
 use Rattle.speedate_civil.proofs.time.pure.PureTime.minute_front_at.Goals as goal
 
 pub returns-then-fits-lt2-clause-answer : goal.returns-then-fits-lt2-clause-answer

@@ -5,13 +5,8 @@ use Rattle.speedate_base.proofs.RefusalLemmas.{shifted-shifted}
 use Rattle.speedate_civil.specs.Base.{ParseError}
 use Rattle.speedate_civil.specs.ParserParts.{clock_after}
 use Rattle.speedate_civil.specs.Time.{at_hour, minute_clock, second_table}
-use Rattle.speedate_civil.proofs.ClockFrontLemmas.{
-  front-read,
-  decided,
-  late-hour,
-  late-minute,
-  second-read,
-}
+use Rattle.speedate_civil.proofs.ClockFrontLemmas.{front-read, decided, late-hour, late-minute}
+use Rattle.speedate_civil.proofs.ClockFrontLemmas.{second-read}
 use Rattle.speedate_civil.proofs.time.pure.PureTime.with_minute.Goals as goal
 
 pub two_digit_numbers-requires-clause-fits : goal.two_digit_numbers-requires-clause-fits
