@@ -130,6 +130,15 @@ prove() {
     }
 }
 
+# over_libraries COMMAND..: builds the libraries, lowest first, and runs a command of rt in the folder of a crate above them.
+# By itself rt would, as long as one of them is missing, look through the sources of all before it proves any.
+over_libraries() {
+    for it in $libraries; do
+        (cd "../$it" && rt lib) || return
+    done
+    "$@"
+}
+
 # Sets `cpu`, the flags by which the C functions are built for every processor of a target: those of x86-64 lack what the
 # kit would use otherwise, and no call of a library asks for the processor.
 find_cpu() {
@@ -184,7 +193,7 @@ make_archive() {
 
 build_from_sources() {
     # The libraries of all targets have one name, so each is copied at once.
-    rt lib --target "$triple" $cpu && cp out/libspeedate_c.a "$made/libspeedate.a"
+    over_libraries rt lib --target "$triple" $cpu && cp out/libspeedate_c.a "$made/libspeedate.a"
 }
 
 # Proves and builds the C functions alone, over the libraries that the gate proved.
