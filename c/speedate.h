@@ -513,6 +513,11 @@ SPEEDATE_NODISCARD int speedate_datetime_compare(SpeedateDateTime first, Speedat
 SPEEDATE_NODISCARD int speedate_datetime_from_timestamp(int64_t timestamp, uint32_t microsecond, SpeedateConfig config,
                                                         SpeedateDateTime *out);
 
+/* The number that a timestamp has in a column of date-times: what speedate_datetime_timestamp_tz_us gives of
+ * speedate_datetime_from_timestamp without further microseconds, in a fraction of the time. It fails with
+ * SPEEDATE_DATE_TOO_SMALL before the year 0000, and SPEEDATE_DATE_TOO_LARGE after the year 9999. */
+SPEEDATE_NODISCARD int speedate_timestamp_microseconds(int64_t timestamp, SpeedateConfig config, int64_t *out);
+
 /* The seconds since 1970-01-01T00:00:00, and the milliseconds, rounded down, as if date and time were in UTC: the
  * offset is ignored. For Unix time call speedate_datetime_timestamp_tz. */
 SPEEDATE_NODISCARD int speedate_datetime_timestamp(SpeedateDateTime value, int64_t *out);

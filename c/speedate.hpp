@@ -746,6 +746,12 @@ Result<Progress> duration_column_with_errors(std::string_view text, Numbers &out
 
 /* ---- Numbers and versions ---- */
 
+/* The number that a timestamp has in a column of date-times. */
+inline Result<std::int64_t> timestamp_microseconds(std::int64_t timestamp, const Config &config = {}) {
+    return detail::number<std::int64_t>(
+        [&](auto *out) { return speedate_timestamp_microseconds(timestamp, config.c(), out); });
+}
+
 /* The whole number of a text. */
 inline Result<std::int64_t> int_parse(std::string_view text) {
     return detail::number<std::int64_t>([&](auto *out) { return speedate_int_parse(text.data(), text.size(), out); });

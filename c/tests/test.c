@@ -466,6 +466,11 @@ static int run_value(void) {
         SpeedateConfig it = config();
         WRITES(SpeedateDateTime, say_datetime, speedate_datetime_from_timestamp(timestamp, microsecond, it, out))
     }
+    if (is_call("timestamp_microseconds")) {
+        int64_t timestamp = number();
+        SpeedateConfig it = config();
+        WRITES(int64_t, say_number, speedate_timestamp_microseconds(timestamp, it, out))
+    }
     VALUE(int64_t, say_number, datetime_timestamp, SpeedateDateTime, datetime)
     VALUE(int64_t, say_number, datetime_timestamp_ms, SpeedateDateTime, datetime)
     VALUE(int64_t, say_number, datetime_timestamp_tz, SpeedateDateTime, datetime)

@@ -65,6 +65,7 @@ static void results() {
     }
     CHECK(throws);
     CHECK(version() == SPEEDATE_VERSION && version_minor() >= SPEEDATE_VERSION_MINOR);
+    CHECK(timestamp_microseconds(-1).value() == -1000000 && !timestamp_microseconds(INT64_MIN));
     CHECK(int_parse("-012").value() == -12 && int_parse("1.5").error() == Error(SPEEDATE_INVALID_INTEGER));
 }
 

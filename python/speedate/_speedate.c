@@ -843,9 +843,11 @@ static int read_dates(const Text *text, SpeedateConfig config, SpeedateColumnCon
 /* How the texts of a column become numbers: lines at once, and a text of a list by its value. */
 typedef struct ColumnReader ColumnReader;
 typedef int NumberOf(const ColumnReader *reader, const Text *text, const Value *value, int64_t *number);
+typedef int OfTimestamp(const ColumnReader *reader, int64_t timestamp, int64_t *number);
 struct ColumnReader {
     ReadLines *read;
     NumberOf *number_of;
+    OfTimestamp *of_timestamp; /* NULL if integers are no timestamps */
     int parser; /* of a text of a list */
     SpeedateConfig config;
     SpeedateColumnConfig lines;
@@ -886,6 +888,20 @@ static inline int read_number(const ColumnReader *reader, const Text *text, int6
     if (code != SPEEDATE_OK)
         *number = NOT_A_TIME;
     return code;
+}
+
+/* The numbers of timestamps. */
+
+static int date_time_of_timestamp(const ColumnReader *reader, int64_t timestamp, int64_t *number) {
+    int code = speedate_timestamp_microseconds(timestamp, reader->config, number);
+    bool lacks_offset = !reader->config.has_timestamp_offset && !reader->lines.assumes_utc;
+    return code == SPEEDATE_OK && lacks_offset ? SPEEDATE_TZ_REQUIRED : code;
+}
+
+static int date_of_timestamp(const ColumnReader *reader, int64_t timestamp, int64_t *number) {
+    Value value;
+    int code = speedate_date_from_timestamp(timestamp, true, reader->config, &value.date);
+    return code == SPEEDATE_OK ? reader->number_of(reader, NULL, &value, number) : code;
 }
 
 /* Whether a text is read, or is one after which the column goes on. */
@@ -1011,7 +1027,7 @@ static int add_row(Column *column, int code, Py_ssize_t index, PyObject *item, c
     Table *table = column->table;
     table->indices[table->count] = index;
     table->codes[table->count] = (uint8_t)code;
-    table->places[table->count] = place_in_column(reader->parser, reader->config, item, text);
+    table->places[table->count] = text ? place_in_column(reader->parser, reader->config, item, text) : -1;
     return ++table->count < ROWS ? 0 : end_rows(column->state, table);
 }
 
@@ -1039,13 +1055,13 @@ static int hint_of(const ColumnReader *reader, const Text *text, bool is_line) {
     return hint != NO_HINT && read_number(reader, &rest, &number) == SPEEDATE_OK ? hint : NO_HINT;
 }
 
-/* The Fault of a text, which it keeps. */
+/* The Fault of a text, which it keeps, or of a timestamp, which has none. */
 static PyObject *fault_of_text(Column *column, int code, Py_ssize_t index, PyObject *item, const Text *text, size_t cut,
                                bool is_line) {
     const State *state = column->state;
     const ColumnReader *reader = &column->reader;
     PyObject *fault = new_fault_at(state, code, index);
-    if (!fault || code > LAST_OF_TEXTS || !PyObject_TypeCheck(fault, (PyTypeObject *)state->held[FAULT]))
+    if (!fault || !text || code > LAST_OF_TEXTS || !PyObject_TypeCheck(fault, (PyTypeObject *)state->held[FAULT]))
         return fault;
     if (!column->call)
         column->call = PyLong_FromLong(call_number(reader->parser, reader->config) + OF_COLUMN);
@@ -1226,10 +1242,18 @@ static bool has_bytes(const Py_buffer *buffer) {
     return buffer->itemsize == 1 && (strcmp(format, "B") == 0 || strcmp(format, "b") == 0 || strcmp(format, "c") == 0);
 }
 
-/* Makes a view of an object that has bytes in memory, and none of any other. */
-static int view_bytes(PyObject *texts, PyObject **view) {
+/* Whether a buffer is a row of integers in the order of bytes of this machine, which is how NumPy has them. Those of one
+ * byte are texts. */
+static bool has_integers(const Py_buffer *buffer) {
+    const char *format = buffer->format;
+    bool is_whole = *format != '\0' && format[1] == '\0' && strchr("hilqHILQ", *format);
+    return is_whole && buffer->ndim == 1 && PyBuffer_IsContiguous(buffer, 'C');
+}
+
+/* Makes a view of an object that has bytes or integers in memory, and none of any other. */
+static int view_memory(PyObject *texts, bool (*has)(const Py_buffer *), PyObject **view) {
     *view = PyObject_CheckBuffer(texts) ? PyMemoryView_FromObject(texts) : NULL;
-    if (*view && !has_bytes(PyMemoryView_GET_BUFFER(*view)))
+    if (*view && !has(PyMemoryView_GET_BUFFER(*view)))
         Py_CLEAR(*view);
     if (!PyErr_Occurred())
         return 0;
@@ -1251,9 +1275,33 @@ static int is_missing(Column *column, PyObject *item) {
     return 0;
 }
 
+/* The number of a timestamp, or what becomes of it if it is refused. */
+static inline int add_timestamp(Column *column, int64_t timestamp, int64_t *number) {
+    int code = column->reader.of_timestamp(&column->reader, timestamp, number);
+    if (code == SPEEDATE_OK)
+        return 0;
+    *number = NOT_A_TIME;
+    return refuse_text(column, code, next_index(column), NULL, NULL, 0, false);
+}
+
+/* The same of an integer, or of an object that stands for one. */
+static int read_integer(Column *column, PyObject *item, int64_t *number) {
+    int overflow = 1;
+    int64_t timestamp = PyLong_CheckExact(item) ? PyLong_AsLongLongAndOverflow(item, &overflow) : 0;
+    if (overflow) {
+        char name[32];
+        PyOS_snprintf(name, sizeof name, "text %zd", next_index(column));
+        if (take_integer(column->state, name, item, INT64_MIN, INT64_MAX, &timestamp) < 0)
+            return -1;
+    }
+    return add_timestamp(column, timestamp, number);
+}
+
 /* The number of an item, which may be a line with its end. */
 static int read_item(Column *column, PyObject *item, bool is_line, int64_t *number) {
     Text text;
+    if (column->reader.of_timestamp && PyIndex_Check(item) && !is_text(item))
+        return read_integer(column, item, number);
     int missing = is_text(item) ? 0 : is_missing(column, item);
     *number = NOT_A_TIME;
     if (missing != 0)
@@ -1270,6 +1318,67 @@ static int read_item(Column *column, PyObject *item, bool is_line, int64_t *numb
             status = refuse_text(column, code, next_index(column), item, &text, size - text.size, is_line);
     }
     Py_XDECREF(text.owner);
+    return status;
+}
+
+/* An integer of a buffer. One that is too large has no other answer than as an object. */
+static int add_integer(Column *column, const Py_buffer *buffer, const char *at, int64_t *number) {
+    uint64_t wide;
+#define INTEGER_OF(letter, type) \
+    case letter: { \
+        type it; \
+        memcpy(&it, at, sizeof it); \
+        return add_timestamp(column, it, number); \
+    }
+#define LARGE_OF(letter, type) \
+    case letter: { \
+        type it; \
+        memcpy(&it, at, sizeof it); \
+        wide = it; \
+        break; \
+    }
+    switch (*buffer->format) {
+        INTEGER_OF('h', short)
+        INTEGER_OF('i', int)
+        INTEGER_OF('l', long)
+        INTEGER_OF('q', long long)
+        INTEGER_OF('H', unsigned short)
+        INTEGER_OF('I', unsigned)
+        LARGE_OF('L', unsigned long)
+        LARGE_OF('Q', unsigned long long)
+    default:
+        Py_UNREACHABLE(); /* has_integers takes none */
+    }
+    if (wide <= INT64_MAX)
+        return add_timestamp(column, (int64_t)wide, number);
+    PyObject *item = PyLong_FromUnsignedLongLong(wide);
+    int status = item ? read_integer(column, item, number) : -1;
+    Py_XDECREF(item);
+    return status;
+}
+
+static int add_integers(Column *column, const Py_buffer *buffer) {
+    size_t count = (size_t)(buffer->len / buffer->itemsize);
+    int status = start_block(column, count);
+    for (size_t i = 0; status == 0 && i < count; i++) {
+        const char *at = (const char *)buffer->buf + i * (size_t)buffer->itemsize;
+        status = add_integer(column, buffer, at, column->numbers + column->count);
+        if (status == 0 && ++column->count == column->room)
+            status = end_block(column);
+    }
+    return status;
+}
+
+/* Adds the integers of an object that has them in memory, and tells whether it is one. */
+static int add_row_of_integers(Column *column, PyObject *texts, bool *is_one) {
+    PyObject *view = NULL;
+    *is_one = false;
+    if (!column->reader.of_timestamp)
+        return 0;
+    int status = view_memory(texts, has_integers, &view);
+    if ((*is_one = view != NULL))
+        status = add_integers(column, PyMemoryView_GET_BUFFER(view));
+    Py_XDECREF(view);
     return status;
 }
 
@@ -1295,7 +1404,7 @@ static int add_texts(Column *column, PyObject *texts) {
         return add_lines(column, PyBytes_AS_STRING(texts), PyBytes_GET_SIZE(texts), true);
     if (PyByteArray_Check(texts) && !PyByteArray_CheckExact(texts))
         return add_made(column, PyBytes_FromStringAndSize(PyByteArray_AS_STRING(texts), PyByteArray_GET_SIZE(texts)));
-    if (view_bytes(texts, &view) < 0)
+    if (view_memory(texts, has_bytes, &view) < 0)
         return -1;
     if (view) {
         int status = add_view(column, view);
@@ -1304,7 +1413,9 @@ static int add_texts(Column *column, PyObject *texts) {
     }
     PyObject *items, *pair = PyObject_CallFunctionObjArgs(column->state->held[ITEMS], texts, NULL);
     int are_lines, status = -1;
-    if (pair && PyArg_ParseTuple(pair, "Op", &items, &are_lines))
+    bool is_row;
+    if (pair && PyArg_ParseTuple(pair, "Op", &items, &are_lines) &&
+        (status = add_row_of_integers(column, items, &is_row)) == 0 && !is_row)
         status = add_items(column, items, BLOCK, are_lines || column->reader.items_are_lines);
     Py_XDECREF(pair);
     return status;
@@ -1349,6 +1460,7 @@ typedef struct {
     Signature signature;
     ReadLines *read;
     NumberOf *number_of;
+    OfTimestamp *of_timestamp;
     int parser[SPEEDATE_FORM_STRICT + 1];
 } ColumnCall;
 
@@ -1377,6 +1489,7 @@ static PyObject *read_column(const ColumnCall *call, GIVEN) {
     reader->lines.goes_on = nat;
     reader->read = call->read;
     reader->number_of = call->number_of;
+    reader->of_timestamp = timestamps ? call->of_timestamp : NULL;
     reader->parser = call->parser[reader->lines.form];
     return column_of(&column, bound[TEXTS]);
 }
@@ -1385,16 +1498,19 @@ static const ColumnCall date_time_column_reader = {
     {"date_time_column", {"texts", OTHERS, "timestamps", "strict", "naive"}, 2},
     read_date_times,
     number_of_date_time,
+    date_time_of_timestamp,
     {DATE_TIME, DATE_TIME_OR_TIMESTAMP, DATE_TIME_STRICT}};
 static const ColumnCall date_column_reader = {
     {"date_column", {"texts", OTHERS, "timestamps"}, 2},
     read_dates,
     number_of_date,
+    date_of_timestamp,
     {DATE, DATE_OR_TIMESTAMP, NO_PLACE}};
 static const ColumnCall duration_column_reader = {
     {"duration_column", {"texts", OTHERS}, 2},
     read_durations,
     number_of_duration,
+    NULL,
     {DURATION, NO_PLACE, NO_PLACE}};
 
 CALL(date_time_column, read_column)
@@ -1734,7 +1850,8 @@ static PyMethodDef methods[] = {
            "`list(file)`, are lines too. A mapping and a DataFrame are a `TypeError`: pass one column.\n\n"
            "With `strict=True` texts are parsed as by `date_time_strict`, and with `timestamps=True` they may be timestamps, of\n"
            "which `timestamp_unit` should name the unit: otherwise each number has a unit of its own, and 13000000000 is seconds,\n"
-           "of the year 2381. The year 0 is accepted, although `date_time` has no such value.\n\n"
+           "of the year 2381. Integers are timestamps then too, as an array of NumPy has them; those of one byte in memory are\n"
+           "texts. The year 0 is accepted, although `date_time` has no such value.\n\n"
            "Texts and timestamps without an offset fail with `tz_required`, or count as UTC with `naive=\"utc\"`. A timestamp has\n"
            "the offset of the configuration: for Unix time it is `Config(timestamp_offset=0)`.\n\n"
            "The first text that is refused raises its `Fault`, whose `index` is its place in the column. With `faults=\"nat\"` the\n"

@@ -2,13 +2,13 @@ import array
 import ctypes
 import datetime
 import mmap
-from typing import Any, Dict, Iterable, List, Literal, Optional, Tuple, Union
+from typing import Any, Dict, Iterable, List, Literal, Optional, SupportsIndex, Tuple, Union
 
 from ._types import Config as Config, Fault as Fault, Refusal as Refusal, Unrepresentable as Unrepresentable
 
 _Text = Union[str, bytes, bytearray, memoryview]
 _Bytes = Union[bytes, bytearray, memoryview, mmap.mmap, array.array[int], ctypes.Array[Any]]
-_Texts = Union[Iterable[Union[_Text, float, None]], _Bytes]
+_Texts = Union[Iterable[Union[_Text, float, SupportsIndex, None]], _Bytes]
 _Faults = Union[Literal["raise", "nat"], List[Fault], Dict[str, array.array[int]]]
 _Newline = Literal["\r\n", "\n"]
 _Empty = Literal["error", "nat"]

@@ -250,10 +250,10 @@ def _items(texts):
 
 
 def _values(texts):
-    """The array of a column of pandas that has objects, over which an iteration takes less time, or the texts themselves."""
+    """The array of a column of pandas that has objects, over which an iteration takes less time, or integers, or the texts themselves."""
     pandas = sys.modules.get("pandas")
     if isinstance(texts, (getattr(pandas, "Series", ()), getattr(pandas, "Index", ()))):
         values = texts.to_numpy()
-        if values.dtype == object:
+        if values.dtype.kind in "Oiu":
             return values
     return texts

@@ -390,7 +390,11 @@ def _is_missing(text):
     return text is None or isinstance(text, float) and text != text or any(text is it for it in _missing())
 
 
-def _column(read, place_of, texts, faults, newline, empty, lines):
+def _is_integer(text):
+    return hasattr(text, "__index__") and not isinstance(text, (str, bytes, bytearray, memoryview))
+
+
+def _column(read, place_of, texts, faults, newline, empty, lines, read_integer=None):
     """The numbers of texts, each by a call that gives it of the bytes, or raises a Fault, whose place another call gives."""
     column, table = array.array("q"), {"index": array.array("q"), "code": array.array("B"), "place": array.array("q")}
     ends = [b"\n", b"\r"] if newline == "\r\n" else [b"\n"]
@@ -398,17 +402,19 @@ def _column(read, place_of, texts, faults, newline, empty, lines):
         if _is_missing(text):
             column.append(-(2**63))
             continue
-        whole = _bytes(text, f"text {index}")
+        is_integer = read_integer is not None and _is_integer(text)
+        whole = _integer(f"text {index}", text, -(2**63), 2**63 - 1) if is_integer else _bytes(text, f"text {index}")
         if whole == b"" and empty == "nat":
             column.append(-(2**63))
             continue
         try:
-            column.append(read(whole))
+            column.append((read_integer if is_integer else read)(whole))
         except Fault as fault:
             fault = Fault(fault.code, index)
-            place = place_of(whole)
-            fault.text, fault.place = _kept(text), None if place is None else _counted(text, place)
-            _give_hint(fault, read, whole, [] if is_line else ends)
+            if not is_integer:
+                place = place_of(whole)
+                fault.text, fault.place = _kept(text), None if place is None else _counted(text, place)
+                _give_hint(fault, read, whole, [] if is_line else ends)
             if faults == "raise":
                 raise fault from None
             column.append(-(2**63))
@@ -466,8 +472,17 @@ def date_time_column(texts, config=None, *, strict=False, timestamps=False, naiv
     name = "datetime_parse_strict" if strict else "datetime_parse" if timestamps else "datetime_parse_rfc3339"
 
     def read(text):
-        out, second = _DateTime(), ctypes.c_int64()
+        out = _DateTime()
         _check(getattr(_library, f"speedate_{name}")(text, len(text), numbers, out))
+        return number_of(out)
+
+    def read_integer(timestamp):
+        out = _DateTime()
+        _check(_library.speedate_datetime_from_timestamp(timestamp, 0, numbers, out))
+        return number_of(out)
+
+    def number_of(out):
+        second = ctypes.c_int64()
         if not out.has_offset and naive == "error":
             raise Fault(19)  # tz_required
         _check(_library.speedate_datetime_timestamp_tz(out, second))
@@ -476,7 +491,7 @@ def date_time_column(texts, config=None, *, strict=False, timestamps=False, naiv
     def place_of(text):
         return _place_in_column(getattr(_library, f"speedate_{name.replace('_parse', '_error_place')}"), text, numbers)
 
-    return _column(read, place_of, texts, faults, newline, empty, lines)
+    return _column(read, place_of, texts, faults, newline, empty, lines, read_integer if timestamps else None)
 
 
 def date_column(texts, config=None, *, timestamps=False, faults="raise", newline="\r\n", empty="error", lines=False):
@@ -485,11 +500,20 @@ def date_column(texts, config=None, *, timestamps=False, faults="raise", newline
     numbers = _configured(config, _OF_TIMESTAMPS if timestamps else ())
 
     def read(text):
-        out, day = _Date(), ctypes.c_uint32()
+        out = _Date()
         if timestamps:
             _check(_library.speedate_date_parse(text, len(text), numbers, out))
         else:
             _check(_library.speedate_date_parse_rfc3339(text, len(text), out))
+        return number_of(out)
+
+    def read_integer(timestamp):
+        out = _Date()
+        _check(_library.speedate_date_from_timestamp(timestamp, 1, numbers, out))
+        return number_of(out)
+
+    def number_of(out):
+        day = ctypes.c_uint32()
         _check(_library.speedate_date_day_number(out, day))
         return day.value - 719_528  # from 0000-01-01 to 1970-01-01
 
@@ -498,7 +522,7 @@ def date_column(texts, config=None, *, timestamps=False, faults="raise", newline
             return _place_in_column(_library.speedate_date_error_place, text, numbers)
         return _place_in_column(_library.speedate_date_error_place_rfc3339, text)
 
-    return _column(read, place_of, texts, faults, newline, empty, lines)
+    return _column(read, place_of, texts, faults, newline, empty, lines, read_integer if timestamps else None)
 
 
 def duration_column(texts, config=None, *, faults="raise", newline="\r\n", empty="error", lines=False):

@@ -137,6 +137,24 @@ date_column(b"1", timestamps=True) -> Fault: date_not_exact in text 0
 date_column([], Config("ms")) -> TypeError: config has a timestamp_unit, which is not read here: date and date_time do with timestamps=True
 date_column([], strict=True) -> TypeError: date_column() got an unexpected keyword argument 'strict'
 date_column("1970-01-02") -> TypeError: texts has to be an iterable of texts, a file, or bytes, not str
+date_time_column([1654646404, "1970-01-01T00:00:01Z", None, numbers(2)], Config(timestamp_offset=0), timestamps=True) -> array('q', [1654646404000000, 1000000, -9223372036854775808, 2000000])
+date_time_column(array.array("q", [0, -1, 1500000]), Config("us", 0), timestamps=True) -> array('q', [0, -1, 1500000])
+date_time_column(array.array("q", [0, 3600]), Config("s", 3600), timestamps=True), date_time_column(range(2), timestamps=True, naive="utc") -> (array('q', [-3600000000, 0]), array('q', [0, 1000000]))
+[date_time_column(array.array(it, [1, 20000]), timestamps=True, naive="utc") for it in "hilqHILQ"] == [array.array("q", [1000000, 20000000000])] * 8 -> True
+date_time_column(memoryview(array.array("q", [1, 2, 3]))[::2], timestamps=True, naive="utc") -> array('q', [1000000, 3000000])
+date_time_column(array.array("q", [20000000000, 20000000001]), timestamps=True, naive="utc") -> array('q', [20000000000000000, 20000000001000])
+date_time_column(array.array("q", [1]), timestamps=True), date_time_column([1], timestamps=True) -> Fault: tz_required in text 0
+date_time_column(array.array("q", [0, 253402300800000, -(2**63)]), timestamps=True, naive="utc", faults="nat") -> array('q', [0, -9223372036854775808, -9223372036854775808])
+date_column(array.array("q", [0, 86400, -86400]), timestamps=True), date_column([172800], timestamps=True) -> (array('q', [0, 1, -1]), array('q', [2]))
+date_column(array.array("q", [0, 1]), timestamps=True) -> Fault: date_not_exact in text 1
+refusal(date_column, [1], timestamps=True), expected(date_column, [1], timestamps=True) -> ((None, None), 'a whole number of days')
+numbered(date_column, [0, 1, 86400, 2**60]), numbered(date_time_column, [0, 2**60]) -> ((4, [1, 3], [5, 39], [-1, -1]), (2, [0, 1], [19, 39], [-1, -1]))
+date_time_column([True], timestamps=True) -> TypeError: text 0 has to be int, not bool
+date_time_column([1, 2**63], timestamps=True, naive="utc") -> ValueError: text 1 has to be from -9223372036854775808 to 9223372036854775807
+date_time_column(array.array("Q", [1, 2**63]), timestamps=True, naive="utc") -> ValueError: text 1 has to be from -9223372036854775808 to 9223372036854775807
+date_time_column([1.5], timestamps=True) -> TypeError: text 0 has to be str or bytes or bytearray or memoryview, not float
+date_time_column([1]), date_time_column(array.array("q", [1])) -> TypeError: text 0 has to be str or bytes or bytearray or memoryview, not int
+len(date_time_column(array.array("q", [1]) * 100000, timestamps=True, naive="utc")) -> 100000
 duration_column(["PT1.5S", "-00:01:00", "1 day", "-PT0S"]) -> array('q', [1500000, -60000000, 86400000000, 0])
 duration_column(b"PT1.5S\r\n-00:01:00\n1 day") -> array('q', [1500000, -60000000, 86400000000])
 duration_column(["P106751991DT4H54.775807S"]) -> array('q', [9223372036854775807])
@@ -306,6 +324,18 @@ def listed(texts, read=speedate.date_time_column):
     assert told == tuple([-1 if getattr(it, name) is None else getattr(it, name) for it in faults] for name in ("index", "code", "place"))
     assert list(others) == ["index", "other", "code", "place"]
     return told
+
+
+def numbered(read, timestamps):
+    """How many numbers a column of timestamps has, and the faults of them, from a list and from memory alike."""
+    told, row = [], array.array("q", timestamps)
+    for it in (timestamps, row, [str(it) for it in timestamps]):
+        faults, table = [], {}
+        assert read(it, timestamps=True, faults=faults) == read(it, timestamps=True, faults=table)
+        assert [fault.code for fault in faults] == table["code"].tolist()
+        told.append((len(it), *(table[name].tolist() for name in ("index", "code", "place"))))
+    assert told[0] == told[1] and told[0][:3] == told[2][:3]
+    return told[0]
 
 
 def place(call, *given, **named):

@@ -4,12 +4,14 @@ mod date;
 mod date_time;
 mod duration;
 mod read;
+mod timestamp;
 
 pub use date::DateReader;
 pub use date_time::{DateTimeParser, DateTimeReader};
 pub use duration::DurationReader;
 pub use read::{read_column, read_column_with_errors};
 use speedate_base::faults::ParseError;
+pub use timestamp::timestamp_microseconds;
 
 /// How a text is cut into lines: `LineConfig { at_end: true, drops_returns: false }` takes all lines of a
 /// file that has no carriage returns.

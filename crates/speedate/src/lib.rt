@@ -58,7 +58,7 @@ mod lines;
 
 pub use column::{
     DateReader, DateTimeParser, DateTimeReader, DurationReader, LineConfig, LineError, LineFront,
-    LineReader, Progress, read_column, read_column_with_errors,
+    LineReader, Progress, read_column, read_column_with_errors, timestamp_microseconds,
 };
 pub use duration::{DAYS_MAX, Duration};
 pub use lines::line_end;

@@ -18,13 +18,13 @@ ghost use Rattle.speedate_c.specs.Code.{order_number, success, value_out_of_rang
 ghost use Rattle.speedate_c.specs.Config.{choices_of};
 ghost use Rattle.speedate_c.specs.DateTime.{date_time_of, shown_date_time};
 
-use crate::code::{SUCCESS, order_number};
+use crate::code::{SUCCESS, fault_code, order_number};
 use crate::config::SpeedateConfig;
 use crate::date::SpeedateDate;
 use crate::text::{write_place, write_text};
 use crate::time::SpeedateTime;
 use arrayvec::ArrayString;
-use speedate::{DateTime, ParseError};
+use speedate::{DateTime, ParseError, timestamp_microseconds};
 
 /// How many bytes the longest text of a date-time has.
 const TEXT_MAX: usize = 32;
@@ -316,6 +316,31 @@ pub extern "C" fn speedate_datetime_from_timestamp(
     let config = config_or_return!(config.to_config());
     let answer = DateTime::from_timestamp_with_config(timestamp, microsecond, &config);
     write_date_time(answer, out)
+}
+
+/// The microseconds since 1970-01-01T00:00:00 in UTC of the date-time of a timestamp, as
+/// [`timestamp_microseconds`] gives them: 1,000,000 for 1 second.
+///
+/// The errors are those of that call; `CONFIG_OUT_OF_RANGE` comes first.
+#[unsafe(no_mangle)]
+pub extern "C" fn speedate_timestamp_microseconds(
+    timestamp: i64,
+    config: SpeedateConfig,
+    out: &mut i64,
+) -> i32
+    ensures answer { (result, out.new)
+        ≡ with_option (choices_of config) (config_out_of_range, out.old)
+        (λ config. written_answer utc_microsecond out.old
+        (date_time_timestamp_answer config.unit config.offset 0 timestamp)) }
+{
+    let config = config_or_return!(config.to_config());
+    match timestamp_microseconds(timestamp, &config) {
+        Ok(number) => {
+            *out = number;
+            SUCCESS
+        }
+        Err(fault) => fault_code(fault),
+    }
 }
 
 /// The second since 1970-01-01T00:00:00 that a clock at the offset shows, as

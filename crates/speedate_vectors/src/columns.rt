@@ -4,7 +4,7 @@ use crate::rows::{date_time_config, quoted, same, time_config, value, words};
 use speedate::{
     DateConfig, DateReader, DateTimeParser, DateTimeReader, DurationReader, LineConfig, LineError,
     LineReader, MicrosecondsPrecisionOverflowBehavior, Progress, TimeConfig, read_column,
-    read_column_with_errors,
+    read_column_with_errors, timestamp_microseconds,
 };
 use std::fmt::Debug;
 use std::process::Abort;
@@ -291,4 +291,31 @@ fn errors_are_numbered(rt: HostRuntime) {
     same(&rt, (progress.lines, progress.bytes), (4, 25), "progress");
     same(&rt, days, [1, -7, -7, -7, 5], "days");
     same(&rt, errors, [0, 1, 5, 22], "errors");
+}
+
+/// A configuration, a timestamp, and its number in a column of date-times, or the name of its error.
+const TIMESTAMPS: &str = "\
+s error - lax 1 1000000
+ms error - lax -1500 -1500000
+us error - lax -1500001 -1500001
+s error 3600 lax 1 -3599000000
+infer error 0 lax 20000000000 20000000000000000
+infer error 0 lax 20000000001 20000000001000
+infer error 0 lax -9223372036854775808 date_too_small
+s error 0 lax 253402300799 253402300799000000
+s error 0 lax 253402300800 date_too_large
+s error -86399 lax 253402300799 253402387198000000
+s error 0 lax -62167219200 -62167219200000000
+s error 0 lax -62167219201 date_too_small
+us error 0 lax 9223372036854775807 date_too_large";
+
+#[test]
+fn timestamps_are_microseconds(rt: HostRuntime) {
+    for row in TIMESTAMPS.lines() {
+        let [_, _, _, _, timestamp, want, ..] = words(row);
+        match timestamp_microseconds(value(&rt, timestamp), &date_time_config(&rt, row)) {
+            Ok(number) => same(&rt, number, value(&rt, want), row),
+            Err(fault) => same(&rt, fault.name(), want, row),
+        }
+    }
 }

@@ -185,7 +185,7 @@ impl LineReader for DateTimeReader {
 
 /// The microseconds of the date-time whose clock shows an instant, and which has this offset.
 #[inline(always)]
-fn timestamp_number(time: UnixTime, offset: Option<i32>) -> i64
+pub(super) fn timestamp_number(time: UnixTime, offset: Option<i32>) -> i64
     requires within { IsInYears (unix_instant time) }
     requires offset { ForSome offset IsOffset }
     ensures number { result ≡ utc_microsecond (date_time_at offset (unix_instant time)) }
