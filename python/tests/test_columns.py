@@ -168,6 +168,25 @@ class Sources(unittest.TestCase):
             with self.assertRaisesRegex(TypeError, f"^text 0 has to be .*, not {kind}$"):
                 column(wrong)
 
+    @unittest.skipUnless(numpy, "NumPy is not installed")
+    def test_timestamps_of_numpy(self):
+        days, unix = numpy.arange(-40_000, 40_000), speedate.Config("s", 0)
+        seconds = days * 86_400
+        whole = [seconds, seconds.astype(">i8"), numpy.repeat(seconds, 2)[::2], seconds.tolist(), iter(seconds)]
+        for it in [*whole, *([pandas.Series(seconds, index=-days), pandas.Index(seconds)] if pandas else [])]:
+            read = speedate.date_time_column(it, unix, timestamps=True)
+            self.assertEqual(numpy.frombuffer(read, "datetime64[us]").tolist(), seconds.astype("datetime64[s]").tolist())
+        self.assertEqual(speedate.date_column(seconds, speedate.Config("s"), timestamps=True).tolist(), days.tolist())
+        for kind in ("i2", "u2", "i4", "u4", "i8", "u8"):
+            self.assertEqual(column(numpy.array([0, 20_000], kind), config=unix, timestamps=True), [0, 20_000_000_000])
+        if pandas:
+            self.assertEqual(column(pandas.Series([1, None], dtype="Int64"), config=unix, timestamps=True), [1_000_000, NAT])
+        for wrong, kind in ((numpy.array([True]), "bool_?"), (numpy.zeros(2), "float64"), (days.astype("M8[D]"), "datetime64")):
+            with self.assertRaisesRegex(TypeError, f"^text 0 has to be .*, not {kind}$"):
+                column(wrong, config=unix, timestamps=True)
+        with self.assertRaisesRegex(TypeError, "^text 0 has to be .*, not int64$"):
+            column(seconds)
+
     @unittest.skipUnless(pandas and not hasattr(sys, "gettotalrefcount"), "there is no pandas, or a debug Python, which its objects stop")
     def test_pandas(self):
         texts = ["1677-09-22T00:00Z", "2020-02-29T12:13:14.5+01:00", "2262-04-11T23:47:16Z"]
