@@ -9,8 +9,8 @@ use Rattle.speedate_base.specs.Requirement.{first_fault_or, result_and_then}
 use Rattle.speedate.specs.Duration.{iso_after, iso_after_or, iso_from, iso_form, form_answer}
 use Rattle.speedate.specs.Duration.{unsigned_answer_or, duration_answer}
 use Rattle.speedate.specs.DurationNumbers.{signed_form}
-use Rattle.speedate.specs.IsoForm.{Item, item_text, IsoSums, item_at, item_table}
-use Rattle.speedate.specs.IsoForm.{with_item, sums_amount}
+use Rattle.speedate.specs.IsoForm.{Item, item_text, IsoSums, item_at, item_table, with_item}
+use Rattle.speedate.specs.IsoForm.{sums_amount}
 
 -- the answer after the bytes of an item
 pub iso_after-skipped : (skipped : ℕ) (sums : IsoSums) (text : List ℕ)

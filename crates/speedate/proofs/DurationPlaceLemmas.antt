@@ -19,8 +19,7 @@ use Rattle.speedate.specs.ClockForm.{clock_end, clock_form_or, clock_numbers, co
 use Rattle.speedate.specs.ClockForm.{from_minute, hours, hours_range, hours_table, rest_table}
 use Rattle.speedate.specs.DayForm.{after_days_or, day_form_or, days_size, days_table, hours_of_day}
 use Rattle.speedate.specs.Duration.{duration_answer_or, form_answer_or, has_days, iso_after_or}
-use Rattle.speedate.specs.Duration.{iso_form, iso_form_or, iso_from_or}
-use Rattle.speedate.specs.Duration.{unsigned_answer_or}
+use Rattle.speedate.specs.Duration.{iso_form, iso_form_or, iso_from_or, unsigned_answer_or}
 use Rattle.speedate.specs.DurationNumbers.{DurationNumbers, UnsignedDuration, amount_microseconds}
 use Rattle.speedate.specs.DurationNumbers.{normal_table, of_amount}
 use Rattle.speedate.specs.DurationPlace.{amount_numbers, amount_place, at_bytes, first_item_after}

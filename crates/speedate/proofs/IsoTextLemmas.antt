@@ -14,10 +14,10 @@ use Rattle.speedate_base.specs.Ascii.{capital_t, capital_y}
 use Rattle.speedate_base.specs.Digits.{six_digit_text, digits_value}
 use Rattle.speedate_base.specs.Requirement.{fault_alone, AllHold, result_and_then}
 use Rattle.speedate_base.proofs.TextLemmas.{text-distinct}
-use Rattle.speedate.specs.Duration.{iso_from, iso_form}
-use Rattle.speedate.specs.Duration.{duration_answer, counted_text, without_last_zeros}
-use Rattle.speedate.specs.Duration.{short_fraction_text, seconds_text, hours_text, days_text}
-use Rattle.speedate.specs.Duration.{start_text, rest_text, is_whole_days, duration_text}
+use Rattle.speedate.specs.Duration.{iso_from, iso_form, duration_answer, counted_text}
+use Rattle.speedate.specs.Duration.{without_last_zeros, short_fraction_text, seconds_text}
+use Rattle.speedate.specs.Duration.{hours_text, days_text, start_text, rest_text, is_whole_days}
+use Rattle.speedate.specs.Duration.{duration_text}
 use Rattle.speedate.proofs.DurationAnswerLemmas.{duration_answer-form, iso_from-item, iso_from-end}
 use Rattle.speedate.proofs.IsoItemLemmas.{item_at-component}
 use Rattle.speedate.specs.IsoOrder.{IsLaxOrRefused}

@@ -5,8 +5,8 @@ use Rattle.speedate_civil.specs.Base.{Behavior, ParseError}
 use Rattle.std.specs.List.{list_any, starts_with}
 use Rattle.speedate_base.specs.Ascii.{capital_d, small_d}
 use Rattle.speedate_base.specs.Digits.{run_length, run_value}
-use Rattle.speedate_base.specs.Requirement.{TextRow, ◌at_byte◌, ◌else_fault◌}
-use Rattle.speedate_base.specs.Requirement.{first_refusal_or, result_and_then, shifted, ◌>>=◌}
+use Rattle.speedate_base.specs.Requirement.{TextRow, ◌at_byte◌, ◌else_fault◌, first_refusal_or}
+use Rattle.speedate_base.specs.Requirement.{result_and_then, shifted, ◌>>=◌}
 use Rattle.speedate.specs.ClockForm.{clock_form_or}
 use Rattle.speedate.specs.DurationNumbers.{UnsignedDuration}
 

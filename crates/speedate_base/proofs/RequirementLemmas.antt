@@ -1,10 +1,10 @@
 -- How tables chain, and which of their rows has the place.
 use Rattle.std.proofs.Common.{◌≡◌, ◌↔◌, ◌+◌, ◌≤◌, ◌∙◌, IfSome, ap, sym, ℕ, true, false, List, [], ◌∷◌, length, Option, Some, None, Result, Ok, Err, is_some, is_err, refl, rules, arith}
 use Rattle.std.specs.Option.{option_map}
-use Rattle.speedate_base.specs.Requirement.{Requirement, TextRow, first_fault_or}
-use Rattle.speedate_base.specs.Requirement.{fault_at_byte, first_place, moved, IsAnswerOf}
-use Rattle.speedate_base.specs.Requirement.{or_number, or_number_place, whole_or_fault}
-use Rattle.speedate_base.specs.Requirement.{result_and_then, result_map, ParseError}
+use Rattle.speedate_base.specs.Requirement.{Requirement, TextRow, first_fault_or, fault_at_byte}
+use Rattle.speedate_base.specs.Requirement.{first_place, moved, IsAnswerOf, or_number}
+use Rattle.speedate_base.specs.Requirement.{or_number_place, whole_or_fault, result_and_then}
+use Rattle.speedate_base.specs.Requirement.{result_map, ParseError}
 
 -- a value is alone in a text if and only if it takes all bytes
 pub whole_or_fault-iff : {A : Type 0} (fault : A → ParseError) (text : List ℕ)

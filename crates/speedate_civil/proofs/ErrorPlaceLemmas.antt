@@ -1,9 +1,8 @@
 -- The answers with another refusal: those with a place have the faults of the grammar.
 use Rattle.std.proofs.Common.{◌≡◌, ◌∙◌, ◌+◌, ap, ℕ, ℤ, List, drop, Option, Ok, is_err, is_some, true, refl, rules}
 use Rattle.speedate_civil.specs.Base.{Behavior, ParseError, TimestampUnit}
-use Rattle.speedate_base.specs.Requirement.{end_table, fault_alone, fault_at_byte}
-use Rattle.speedate_base.specs.Requirement.{first_refusal_or, refusal_map}
-use Rattle.speedate_base.specs.Requirement.{result_map, shifted, whole_or_refusal}
+use Rattle.speedate_base.specs.Requirement.{end_table, fault_alone, fault_at_byte, first_refusal_or}
+use Rattle.speedate_base.specs.Requirement.{refusal_map, result_map, shifted, whole_or_refusal}
 use Rattle.speedate_base.specs.Refused.{placed, refused_place}
 use Rattle.speedate_base.specs.declared.refusal.Refused.{Refused}
 use Rattle.speedate_base.proofs.RefusalLemmas.{chain-view, first_refusal_or-view, map-view}

@@ -224,10 +224,7 @@ impl DateTime {
         ensures standard { IsOk result ↔ IsDateTime behavior bytes.now }
         ensures minutes { IfOk result (λ value. IsWholeMinutes value.time.tz_offset) }
     {
-        // Where it has two callers, `strict` is not inlined.
-        let value = Self::parse_whole::<ParseError>(bytes, behavior)?;
-        require_standard::<ParseError>(bytes)?;
-        Ok(value)
+        Self::strict(bytes, behavior)
     }
 
     /// Parses the date-time at the front of a text, whatever follows it, and returns how many bytes it
