@@ -243,15 +243,6 @@ iso_from-next refuse other sums next end rest size some within small read =
     (shifted-shifted start size refuse)
     ∙ ap (λ (start : ℕ). iso_from_or (shifted start refuse) next (drop size rest)) there
 
--- nothing is read yet
-pub iso_from-start : {E : Type 0} (refuse : ParseError → ℕ → E) (sums : IsoSums) (text : List ℕ)
-    → iso_from_or (shifted (length text - length text) refuse) sums text
-    ≡ iso_from_or refuse sums text
-iso_from-start refuse sums text =
-    let none : length text - length text ≡ 0 = omega arith in
-    ap (λ (start : ℕ). iso_from_or (shifted start refuse) sums text) none
-    ∙ ap (λ (refuse : ParseError → ℕ → _). iso_from_or refuse sums text) (shifted-none refuse)
-
 -- what was read of a part is read of the whole
 pub iso_from-part : {E : Type 0} (refuse : ParseError → ℕ → E) (end : ℕ) (sums next : IsoSums)
     (text rest : List ℕ) → length rest ≤ length text → length text ≤ end
