@@ -2,7 +2,8 @@
 
 use crate::faults::ParseError;
 
-/// What a parser answers to a text that it refuses, by the error and the byte at which it lies.
+/// What a parser answers to a text that it refuses, by the error and the byte at which it lies: for
+/// `b"2020-13-01"` either `OutOfRangeMonth` alone, or the same with byte 5.
 pub trait Refusal: Copy {
     ghost use Rattle.std.specs.Prelude.{◌≡◌, ◌≤◌, ℕ};
     ghost use Rattle.speedate_base.specs.Requirement.{ParseError};
@@ -13,7 +14,8 @@ pub trait Refusal: Copy {
     // The refusal lies within so many bytes.
     ghost lies_within: { ℕ → Self → Type 0 };
 
-    /// The refusal with this error at this byte.
+    /// The refusal with this error at this byte: `OutOfRangeMonth` for that error and byte 5, if the
+    /// refusal is the error alone.
     fn at(fault: ParseError, place: usize) -> Self
         ensures refusal { result ≡ refusal fault place }
         ensures within { (size : ℕ) → place ≤ size → lies_within size result };
@@ -32,7 +34,7 @@ impl Refusal for ParseError {
     }
 }
 
-/// An error and the byte at which it lies, or the text's end.
+/// An error and the byte at which it lies, or the text's end: `OutOfRangeMonth` and 5 for `b"2020-13-01"`.
 #[derive(Clone, Copy, Debug, PartialEq, Eq)]
 pub struct Refused {
     /// Why the text is refused.
@@ -59,7 +61,7 @@ impl Refused {
     ghost use Rattle.std.specs.Prelude.{◌≡◌};
     ghost use Rattle.speedate_base.specs.Refused.{refused_place};
 
-    /// The place of a refusal: none of a value.
+    /// The place of a refusal, and none of a value: 5 for `OutOfRangeMonth` at byte 5.
     #[inline(always)]
     pub fn place_of<T: Copy>(answer: Result<T, Refused>) -> Option<usize>
         ensures place { result ≡ refused_place answer }

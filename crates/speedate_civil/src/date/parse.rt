@@ -161,7 +161,7 @@ impl Date {
 
     /// Parses the date at the front of a text, and how many bytes it takes, whatever follows it.
     #[inline(always)]
-    pub(crate) fn front<E: Refusal>(bytes: &[u8]) -> Result<(Self, usize), E>
+    pub(super) fn front<E: Refusal>(bytes: &[u8]) -> Result<(Self, usize), E>
         ensures answer { result gives_front date_front_or E.refusal bytes.now }
         ensures within { IfOk result (λ front. front.1 ≤ length bytes.now) }
         ensures placed { IfErr result (E.lies_within (length bytes.now)) }
