@@ -1,7 +1,6 @@
 mod AfterTimeLemmas
 mod ClockFrontLemmas
 mod ClockLemmas
-mod DateFrontLemmas
 mod DateLemmas
 pub mod DateOrderLemmas
 pub mod DateTimeInstantLemmas

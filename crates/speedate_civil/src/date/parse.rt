@@ -15,7 +15,7 @@ use super::{Date, TEXT_LENGTH, is_day};
 use speedate_base::config::DateConfig;
 use speedate_base::faults::ParseError;
 use speedate_base::numbers::{
-    LANES, eight_bytes, fit_length, int_parse_bytes, two_digit_numbers, two_digits,
+    LANES, first_eight, fit_length, int_parse_bytes, two_digit_numbers, two_digits,
 };
 use speedate_base::refusal::Refusal;
 use std::simd::prelude::*;
@@ -169,8 +169,7 @@ impl Date {
         if bytes.len() < TEXT_LENGTH {
             return Err(E::at(ParseError::TooShort, bytes.len()));
         }
-        let front = eight_bytes(bytes, 0);
-        let place = fit_length(front, u8x8::from_array(*b"0000-00-"));
+        let place = fit_length(first_eight(bytes), u8x8::from_array(*b"0000-00-"));
         if place < LANES {
             return match place {
                 0..=3 => Err(E::at(ParseError::InvalidCharYear, 0)),
@@ -178,21 +177,24 @@ impl Date {
                 _ => Err(E::at(ParseError::InvalidCharMonth, 5)),
             };
         }
-        Self::with_month(front, bytes)
+        Self::with_month(bytes)
     }
 
-    /// The date at the front of a text whose first eight bytes, which are given, look like those of one.
+    /// The date at the front of a text whose first eight bytes look like those of one.
     #[inline(always)]
-    pub(crate) fn with_month<E: Refusal>(front: u8x8, bytes: &[u8]) -> Result<(Self, usize), E>
-        requires front { front ≡ eight_at bytes.now 0 }
+    pub(crate) fn with_month<E: Refusal>(bytes: &[u8]) -> Result<(Self, usize), E>
         requires long { 10 ≤ length bytes.now }
-        requires looks { 8 ≤ fit_length (codes "0000-00-") front }
+        requires looks { 8 ≤ fit_length (codes "0000-00-") (eight_at bytes.now 0) }
         ensures answer { result gives_front date_front_or E.refusal bytes.now }
         ensures within { IfOk result (λ front. front.1 ≤ length bytes.now) }
         ensures placed { IfErr result (E.lies_within (length bytes.now)) }
     {
         let form = u8x8::from_array(*b"0000-00-");
-        let [century, _, year, _, _, month, _, _] = two_digit_numbers(front, form, LANES);
+        let [century, _, year, _, _, month, _, _] = two_digit_numbers(
+            first_eight(bytes),
+            form,
+            LANES,
+        );
         let year = 100 * u16::from(century) + u16::from(year);
         let Some(day) = two_digits(bytes, 8) else {
             return Err(E::at(ParseError::InvalidCharDay, 8));

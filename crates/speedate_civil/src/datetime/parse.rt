@@ -265,7 +265,7 @@ impl DateTime {
         ensures within { IfOk result (λ front. front.1 ≤ length bytes.now) }
     {
         let behavior = config.microseconds_precision_overflow_behavior;
-        let (date, _) = Date::with_month(first_eight(bytes), bytes)?;
+        let (date, _) = Date::with_month(bytes)?;
         let (time, size) = usual_time_after_date(bytes, behavior)?;
         Ok((DateTime { date, time }, TIME_PLACE + size))
     }
