@@ -74,27 +74,32 @@ component-leads : (sums : IsoSums) (unit : IsoUnit) (number : ℕ) (fraction res
     → iso_from sums (decimal number ++ fraction ++ unit.designator ∷ [] ++ rest)
     ≡ iso_from (with_number unit number fraction sums) rest
 component-leads sums unit number fraction rest found comes whole is few few_days few_seconds =
-    let component : ComponentText =
-    record { number = decimal number; fraction = fraction; designator = unit.designator } in
+    let component : ComponentText = record {
+      number = decimal number;
+      fraction = fraction;
+      designator = unit.designator;
+    } in
+    let item = Component component in
+    let after = with_number unit number fraction sums in
     let small : number < 2 ^ 64 = omega (arith, few) in
     let spelled = digits_value-decimal digits_model number small in
     let fits : digits_value (decimal number) ≤ 4294967295 = omega (arith, spelled, few) in
-    let sum : with_item (Component component) sums ≡ with_number unit number fraction sums =
-    ap (λ one. with_component one component sums) found
-    ∙ ap (λ (n : ℕ). with_number unit n fraction sums) spelled in
+    let of_unit = ap (λ (one : Option IsoUnit). with_component one component sums) found in
+    let of_number = ap (λ (n : ℕ). with_number unit n fraction sums) spelled in
+    let sum : with_item item sums ≡ after = of_unit ∙ of_number in
     let counted = and_from _ _ (le-leb _ 4294967295 few_days) (le-leb _ 4294967295 few_seconds) in
     let digits = lt-ltb 0 (length (decimal number)) (decimal_nonempty number small) in
-    let is_item : IsItem (Component component) = (digits_decimal digits_model number small, is) in
-    let all : AllHold (item_table sums (Component component)) = (
+    let is_item : IsItem item = (digits_decimal digits_model number small, is) in
+    let all : AllHold (item_table sums item) = (
       digits,
       (
         le-leb _ 4294967295 fits,
         (ap not whole, (ap is_some found, (comes, (ap are_counted sum ∙ counted, tt)))),
       ),
     ) in
-    iso_from-item sums (Component component) rest
-    (item_at-component sums.is_time component rest is_item digits (ap is_some found))
-    ∙ refusal-all fault_alone (item_table sums (Component component)) _ all
+    let front = item_at-component sums.is_time component rest is_item digits (ap is_some found) in
+    iso_from-item sums item rest front
+    ∙ refusal-all fault_alone (item_table sums item) _ all
     ∙ ap (λ (sums : IsoSums). iso_from sums rest) sum
 
 -- a number and its unit, or nothing for none, lead to the sums with that number of the unit
@@ -121,8 +126,8 @@ counted-leads next is_time some false unit number day second rest other found co
     let days : after.day ≡ day + number * unit.day = omega (arith, no-seconds unit) in
     let seconds : after.second ≡ second + number * unit.second = omega (arith, no-seconds unit) in
     let microseconds : after.microsecond ≡ 0 = omega (arith, no-microseconds unit) in
-    ap (λ (digits : List ℕ). iso_from sums (digits ++ unit.designator ∷ [] ++ rest))
-    (sym (append-nil (decimal number)))
+    let read = λ (digits : List ℕ). iso_from sums (digits ++ unit.designator ∷ [] ++ rest) in
+    ap read (sym (append-nil (decimal number)))
     ∙ component-leads sums unit number [] rest found comes refl tt few
     (omega (arith, days, few_days)) (omega (arith, seconds, few_seconds))
     ∙ (λ i. iso_from (record after {
@@ -138,8 +143,8 @@ IsMicroseconds fraction microsecond =
     × (fraction_microseconds (unit capital_s 0 1) (drop 1 fraction) ≡ microsecond)
 
 fraction-of : (microsecond : ℕ) (none : Bool) → (microsecond == 0) ≡ none → microsecond ≤ 999999
-    → IsMicroseconds (if none then [] else full_stop
-    ∷ without_last_zeros (six_digit_text microsecond)) microsecond
+    → IsMicroseconds
+    (if none then [] else full_stop ∷ without_last_zeros (six_digit_text microsecond)) microsecond
 fraction-of microsecond none other small =
     grind (arith, ints, nat_tests, other, small, eqb-true, no-seconds, no-microseconds)
 
@@ -153,15 +158,17 @@ seconds-end : (next : List IsoUnit) (some : Bool) (number microsecond day second
 seconds-end next some number microsecond day second comes few small few_days few_seconds =
     let sums = at next true some day second in
     let fraction = short_fraction_text microsecond in
-    let after = with_number (unit capital_s 0 1) number fraction sums in
+    let second_unit = unit capital_s 0 1 in
+    let after = with_number second_unit number fraction sums in
     let means = fraction-of microsecond (microsecond == 0) refl small in
     let days : after.day ≡ day = omega (arith, means.1) in
     let seconds : after.second ≡ second + number = omega (arith, means.1) in
     let microseconds : after.microsecond ≡ microsecond = omega (arith, means.2) in
     ap (iso_from sums) (sym (append-nil (decimal number ++ fraction ++ capital_s ∷ [])))
-    ∙ component-leads sums (unit capital_s 0 1) number fraction [] refl comes refl means.0 few
+    ∙ component-leads sums second_unit number fraction [] refl comes refl means.0 few
     (omega (arith, days, few_days)) (omega (arith, seconds, few_seconds))
-    ∙ iso_from-end after [] refl ∙ (λ i. Ok (record {
+    ∙ iso_from-end after [] refl
+    ∙ (λ i. Ok (record {
       day = days i;
       second = seconds i;
       microsecond = microseconds i;
@@ -180,8 +187,9 @@ seconds-read next some none number microsecond day second other comes few small 
     few_seconds has = search (rules, and_parts, eqb-true, iso_from-end, seconds-end)
 
 -- the units that may still come
-days-come : (years : Bool) → is_some (unit_in
-    (if years then units false else units_after capital_y (units false)) capital_d) ≡ true
+days-come : (years : Bool)
+    → is_some (unit_in (if years then units false else units_after capital_y (units false))
+    capital_d) ≡ true
 days-come years = grind (arith, nat_tests)
 
 minutes-come : (hours : Bool)
@@ -217,23 +225,30 @@ hours-read : (numbers : DurationNumbers) (some : Bool) → IsDuration numbers
     → iso_from (at (units true) true some numbers.day 0) (hours_text numbers)
     ≡ Ok (amount_of numbers)
 hours-read numbers some valid other =
+    let day = numbers.day in
     let hour = numbers.second / 3600 in
     let minute = numbers.second / 60 % 60 in
-    let last = seconds_text (numbers.second % 60) numbers.microsecond in
-    let few : numbers.day ≤ 4294967295 = omega (arith, valid.day) in
-    let day_is : numbers.day + hour * 0 + minute * 0 ≡ numbers.day = omega arith in
-    let second_is : 0 + hour * 3600 + minute * 60 + numbers.second % 60 ≡ numbers.second =
-    omega arith in
-    ap (iso_from (at (units true) true some numbers.day 0))
-    (append_assoc (counted_text hour capital_h) (counted_text minute capital_m) last)
-    ∙ counted-leads (units true) true some (hour == 0) (unit capital_h 0 3600) hour numbers.day 0
-    (counted_text minute capital_m ++ last) refl refl refl
+    let second = numbers.second % 60 in
+    let start = at (units true) true some day 0 in
+    let hour_text = counted_text hour capital_h in
+    let minute_text = counted_text minute capital_m in
+    let last = seconds_text second numbers.microsecond in
+    let after = minute_text ++ last in
+    let hour_unit = unit capital_h 0 3600 in
+    let minute_unit = unit capital_m 0 60 in
+    let few : day ≤ 4294967295 = omega (arith, valid.day) in
+    let day_is : day + hour * 0 + minute * 0 ≡ day = omega arith in
+    let second_is : 0 + hour * 3600 + minute * 60 + second ≡ numbers.second = omega arith in
+    let minutes = minutes-come (hour == 0) in
+    let seconds = seconds-come (hour == 0) (minute == 0) in
+    let has = hours-some numbers.second numbers.microsecond some other in
+    ap (iso_from start) (append_assoc hour_text minute_text last)
+    ∙ counted-leads (units true) true some (hour == 0) hour_unit hour day 0 after refl refl refl
     (omega (arith, valid.second)) (omega (arith, few)) (omega (arith, valid.second))
-    ∙ counted-leads _ true _ (minute == 0) (unit capital_m 0 60) minute _ _ last refl refl
-    (minutes-come (hour == 0)) (omega arith) (omega (arith, few)) (omega (arith, valid.second))
-    ∙ seconds-read _ _ _ (numbers.second % 60) numbers.microsecond _ _ refl
-    (seconds-come (hour == 0) (minute == 0)) (omega arith) valid.microsecond (omega (arith, few))
-    (omega (arith, valid.second)) (hours-some numbers.second numbers.microsecond some other)
+    ∙ counted-leads _ true _ (minute == 0) minute_unit minute _ _ last refl refl minutes
+    (omega arith) (omega (arith, few)) (omega (arith, valid.second))
+    ∙ seconds-read _ _ _ second numbers.microsecond _ _ refl seconds
+    (omega arith) valid.microsecond (omega (arith, few)) (omega (arith, valid.second)) has
     ∙ (λ i. Ok (record { day = day_is i; second = second_is i; microsecond = numbers.microsecond }))
 
 -- whole days end, and `T0S` stands where there are none
@@ -241,9 +256,10 @@ whole-read : (next : List IsoUnit) (day : ℕ) (none : Bool) → day ≤ 4294967
     → iso_from (at next false (not none) day 0) (if none then codes "T0S" else [])
     ≡ Ok (record { day = day; second = 0; microsecond = 0 })
 whole-read next day true few =
+    let start = at (units true) true false day 0 in
+    let zero_text = append-nil (decimal 0) ∙ decimal_digit 0 (lit< tt) in
     iso_from-item (at next false false day 0) TimeDesignator (codes "0S") refl
-    ∙ ap (λ (digits : List ℕ). iso_from (at (units true) true false day 0)
-    (digits ++ capital_s ∷ [])) (sym (append-nil (decimal 0) ∙ decimal_digit 0 (lit< tt)))
+    ∙ ap (λ (digits : List ℕ). iso_from start (digits ++ capital_s ∷ [])) (sym zero_text)
     ∙ seconds-end (units true) false 0 0 day 0 refl (omega arith) (omega arith) few (omega arith)
 whole-read next day false few = iso_from-end (at next false true day 0) [] refl
 
@@ -270,18 +286,22 @@ text-read : (numbers : DurationNumbers) → IsDuration numbers
 text-read numbers valid =
     let year = numbers.day / 365 in
     let day = numbers.day % 365 in
+    let year_text = counted_text year capital_y in
+    let day_text = counted_text day capital_d in
     let rest = rest_text numbers in
+    let after = day_text ++ rest in
     let left = if year == 0 then units false else units_after capital_y (units false) in
     let next = if day == 0 then left else units_after capital_d left in
     let days : 0 + year * 365 + day * 1 ≡ numbers.day = omega arith in
     let seconds : 0 + year * 0 + day * 0 ≡ 0 = omega arith in
-    ap (iso_form IsoOrder.Strict)
-    (append_assoc (counted_text year capital_y) (counted_text day capital_d) rest)
-    ∙ counted-leads (units false) false false (year == 0) (unit capital_y 365 0) year 0 0
-    (counted_text day capital_d ++ rest) refl refl refl
+    let year_unit = unit capital_y 365 0 in
+    let day_unit = unit capital_d 1 0 in
+    let come = days-come (year == 0) in
+    ap (iso_form IsoOrder.Strict) (append_assoc year_text day_text rest)
+    ∙ counted-leads (units false) false false (year == 0) year_unit year 0 0 after refl refl refl
     (omega (arith, valid.day)) (omega (arith, valid.day)) (omega arith)
-    ∙ counted-leads left false _ (day == 0) (unit capital_d 1 0) day _ _ rest refl refl
-    (days-come (year == 0)) (omega arith) (omega (arith, valid.day)) (omega arith)
+    ∙ counted-leads left false _ (day == 0) day_unit day _ _ rest refl refl come
+    (omega arith) (omega (arith, valid.day)) (omega arith)
     ∙ (λ i. iso_from (at next false (days-some numbers.day i) (days i) (seconds i)) rest)
     ∙ rest-read next numbers (is_whole_days numbers) (numbers.day == 0) valid refl
 
@@ -301,20 +321,20 @@ strict-reads behavior numbers valid =
 -- so the lax order answers it too
 lax-reads : {A : Type 0} (lax strict : Result A ParseError) (value : A) → IsLaxOrRefused lax strict
     → strict ≡ Ok value → lax ≡ Ok value
-lax-reads lax strict value h0 read = search (rules)
+lax-reads lax strict value are read = search rules
 
 pub duration_text-reads : (order : IsoOrder) (behavior : Behavior) (numbers : DurationNumbers)
     → IsDuration numbers
     → duration_answer order behavior (duration_text numbers) ≡ Ok numbers
 duration_text-reads IsoOrder.Strict behavior numbers valid = strict-reads behavior numbers valid
 duration_text-reads IsoOrder.Lax behavior numbers valid =
-    lax-reads _ _ numbers (duration-both IsoOrder.Strict behavior (duration_text numbers))
-    (strict-reads behavior numbers valid)
+    let both = duration-both IsoOrder.Strict behavior (duration_text numbers) in
+    lax-reads _ _ numbers both (strict-reads behavior numbers valid)
 
 -- so two durations with the same text are equal
 pub duration_text-distinct : (first second : DurationNumbers) → IsDuration first
     → IsDuration second → duration_text first ≡ duration_text second → first ≡ second
 duration_text-distinct first second one two =
-    text-distinct duration_text (duration_answer IsoOrder.Lax Behavior.Error) first second
-    (duration_text-reads IsoOrder.Lax Behavior.Error first one)
-    (duration_text-reads IsoOrder.Lax Behavior.Error second two)
+    let answer = duration_answer IsoOrder.Lax Behavior.Error in
+    let reads = duration_text-reads IsoOrder.Lax Behavior.Error in
+    text-distinct duration_text answer first second (reads first one) (reads second two)

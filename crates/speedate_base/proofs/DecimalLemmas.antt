@@ -87,19 +87,21 @@ decimal_microsecond-sum row decimal part is =
     let some = scale-some (length decimal.fraction) in
     let whole = digits_value decimal.whole in
     let rest = digits_value decimal.fraction in
-    let half = with_sign-only negative part
-    (halved negative (quotient negative (2 * (rest * worth)) scale))
-    (is ∙ nearest-halved negative (rest * worth) scale some) in
-    let sum : 2 * (decimal_digits decimal * worth)
-    ≡ 2 * (rest * worth) + 2 * (whole * worth) * scale =
-    ap (λ (n : ℕ). 2 * (n * worth)) (digits_value-append decimal.whole decimal.fraction)
-    ∙ grind arith in
-    nearest-halved negative (decimal_digits decimal * worth) scale some
-    ∙ ap (λ (n : ℕ). with_sign negative (halved negative n))
-    (ap (λ (n : ℕ). quotient negative n scale) sum
-    ∙ quotient-whole negative (2 * (whole * worth)) (2 * (rest * worth)) scale some)
-    ∙ ap (with_sign negative) (halved-whole negative (quotient negative (2 * (rest * worth)) scale)
-    (whole * worth) ∙ omega (arith, half))
+    let twice = 2 * (rest * worth) in
+    let rounded = quotient negative twice scale in
+    let nearest_part = is ∙ nearest-halved negative (rest * worth) scale some in
+    let half = with_sign-only negative part (halved negative rounded) nearest_part in
+    let joined = digits_value-append decimal.whole decimal.fraction in
+    let all = decimal_digits decimal in
+    let more = 2 * (whole * worth) in
+    let spread = ap (λ (n : ℕ). 2 * (n * worth)) joined in
+    let sum : 2 * (all * worth) ≡ twice + more * scale = spread ∙ grind arith in
+    let quotients = ap (λ (n : ℕ). quotient negative n scale) sum
+    ∙ quotient-whole negative more twice scale some in
+    let sizes = halved-whole negative rounded (whole * worth) ∙ omega (arith, half) in
+    nearest-halved negative (all * worth) scale some
+    ∙ ap (λ (n : ℕ). with_sign negative (halved negative n)) quotients
+    ∙ ap (with_sign negative) sizes
 
 -- an instant far from 1970 lies outside the years
 far-range : (negative : Bool) (size : ℕ) → 2 ^ 60 < size
@@ -119,12 +121,14 @@ decimal-far row decimal value size is product far =
     let scale = decimal_scale decimal in
     let rest = digits_value decimal.fraction * worth in
     let part = halved negative (quotient negative (2 * rest) scale) in
-    let sum = decimal_microsecond-sum row decimal part
-    (sym (nearest-halved negative rest scale (scale-some (length decimal.fraction)))) in
+    let some = scale-some (length decimal.fraction) in
+    let nearest_part = sym (nearest-halved negative rest scale some) in
+    let sum = decimal_microsecond-sum row decimal part nearest_part in
     let below : value ≤ digits_value decimal.whole = omega (arith, is) in
-    ap (λ (n : ℤ). range_answer (instant_at n)) sum
-    ∙ far-range negative (digits_value decimal.whole * worth + part)
-    (omega (arith, far, product, mul-le-mul_right worth below))
+    let larger = mul-le-mul_right worth below in
+    let total = digits_value decimal.whole * worth + part in
+    let far_total : 2 ^ 60 < total = omega (arith, far, product, larger) in
+    ap (λ (n : ℤ). range_answer (instant_at n)) sum ∙ far-range negative total far_total
 
 -- and one that is near is exact in them
 pub near : (digits : List ℕ) (worth value size : ℕ) → 0 < worth

@@ -141,19 +141,24 @@ pub nearest_filled : (negative : Bool) (worth places count value filled : ℕ) �
     → with_sign negative filled ≡ nearest (with_sign negative (value * worth)) (10 ^ count)
 nearest_filled negative worth places count value filled few is_worth is =
     let sum : (places - count) + count ≡ places = omega arith in
-    let power : 10 ^ (places - count) * 10 ^ count ≡ 10 ^ places =
-    sym (pow-add 10 (places - count) count) ∙ ap (λ (n : ℕ). 10 ^ n) sum in
+    let scales = sym (pow-add 10 (places - count) count) in
+    let zeros = 10 ^ (places - count) in
+    let power : zeros * 10 ^ count ≡ 10 ^ places = scales ∙ ap (λ (n : ℕ). 10 ^ n) sum in
     let product : value * worth ≡ filled * 10 ^ count = rw (is_worth, is) (grind (arith, power)) in
     rw product (sym (nearest-exact negative filled (10 ^ count) (scale-some count)))
 
 -- a larger number has no smaller quotient
 pub quotient-le : (up : Bool) (n m d : ℕ) → 0 < d → n ≤ m → quotient up n d ≤ quotient up m d
 quotient-le false n m d some less =
-    one-between d (m / d) (n / d)
-    (omega (arith, less, mul-div-le n d, lt-div-mul-add {a = m} some))
+    let before = mul-div-le n d in
+    let after = lt-div-mul-add {a = m} some in
+    one-between d (m / d) (n / d) (omega (arith, less, before, after))
 quotient-le true n m d some less =
-    one-between d ((m + (d - 1)) / d) ((n + (d - 1)) / d)
-    (omega (arith, less, mul-div-le (n + (d - 1)) d, lt-div-mul-add {a = m + (d - 1)} some))
+    let first = n + (d - 1) in
+    let second = m + (d - 1) in
+    let before = mul-div-le first d in
+    let after = lt-div-mul-add {a = second} some in
+    one-between d (second / d) (first / d) (omega (arith, less, before, after))
 
 -- nothing is rounded to nothing
 pub quotient-none : (up : Bool) (d : ℕ) → 0 < d → quotient up 0 d ≡ 0

@@ -35,26 +35,31 @@ pub decimal_parts-join : (text : List ℕ) → is_decimal text ≡ true
 decimal_parts-join text is =
     let start = sign_size text in
     let point = point_place text in
-    let first = and_parts ((slice_index text point == full_stop)
-    && (point + 1 + run_length text (point + 1) == length text)) _ is in
-    let tests = and_parts (slice_index text point == full_stop) _ first.0 in
+    let has_point = slice_index text point == full_stop in
+    let count = run_length text (point + 1) in
+    let first = and_parts (has_point && (point + 1 + count == length text)) _ is in
+    let tests = and_parts has_point _ first.0 in
     let dot = eqb-true (slice_index text point) full_stop tests.0 in
-    let ends = eqb-true (point + 1 + run_length text (point + 1)) (length text) tests.1 in
+    let ends = eqb-true (point + 1 + count) (length text) tests.1 in
     let within : point < length text = omega arith in
+    let sign = take start text in
+    let unsigned = drop start text in
     let rest = drop (point + 1) text in
     let whole = run_digits text start in
-    let fraction : run_digits text (point + 1) ≡ rest =
-    take_all (run_length text (point + 1)) rest (omega (arith, length-drop (point + 1) text)) in
-    let behind : drop (run_length text start) (drop start text) ≡ full_stop ∷ rest =
-    drop-drop (run_length text start) start text ∙ drop_more text point 0 within
-    ∙ ap (λ (byte : ℕ). byte ∷ rest) dot in
-    let digits = sym (take-append-drop (run_length text start) (drop start text))
-    ∙ ap (λ (bytes : List ℕ). whole ++ bytes)
-    (behind ∙ ap (λ (bytes : List ℕ). full_stop ∷ bytes) (sym fraction)) in
-    let joined =
-    sym (take-append-drop start text) ∙ ap (λ (bytes : List ℕ). take start text ++ bytes) digits
-    ∙ sym (append_assoc (take start text) whole (full_stop ∷ run_digits text (point + 1))) in
-    (take start text, sign-of_text text, joined)
+    let fraction = run_digits text (point + 1) in
+    let all : length rest ≤ count = omega (arith, length-drop (point + 1) text) in
+    let is_rest : fraction ≡ rest = take_all count rest all in
+    let pointed = ap (λ (byte : ℕ). byte ∷ rest) dot in
+    let behind = drop-drop (run_length text start) start text
+    ∙ drop_more text point 0 within
+    ∙ pointed
+    ∙ ap (λ (bytes : List ℕ). full_stop ∷ bytes) (sym is_rest) in
+    let digits = sym (take-append-drop (run_length text start) unsigned)
+    ∙ ap (λ (bytes : List ℕ). whole ++ bytes) behind in
+    let joined = sym (take-append-drop start text)
+    ∙ ap (λ (bytes : List ℕ). sign ++ bytes) digits
+    ∙ sym (append_assoc sign whole (full_stop ∷ fraction)) in
+    (sign, sign-of_text text, joined)
 
 tested : (d : DecimalParts) (text : List ℕ) (number : Option ℤ) (test : Bool)
     → is_decimal text ≡ test
@@ -85,8 +90,9 @@ run-passes : (text : List ℕ) (start place : ℕ) → start ≤ place
 run-passes text start place after before =
     let below : place - start < run_length text start = omega arith in
     let there : start + (place - start) ≡ place = omega arith in
-    sym (ap is_ascii_digit (get_or-drop start text (place - start) 0
-    ∙ ap (λ (n : ℕ). get_or text n 0) there))
+    let dropped = get_or-drop start text (place - start) 0 in
+    let same = dropped ∙ ap (λ (n : ℕ). get_or text n 0) there in
+    sym (ap is_ascii_digit same)
     ∙ prefix_len_passes is_ascii_digit (drop start text) (place - start) 0 below
 
 -- a text with another byte after its first is no whole number
@@ -94,10 +100,10 @@ whole_number-other : (text : List ℕ) (place : ℕ) → 1 ≤ place → place <
     → is_ascii_digit (get_or text place 0) ≡ false
     → whole_number text ≡ None
 whole_number-other text place after within other =
-    let small = sign_size-small text in
-    whole_number-none text
-    (λ same. false≢true (sym other ∙ run-passes text (sign_size text) place (omega (arith, small))
-    (omega (arith, same))))
+    let start = sign_size text in
+    let follows : start ≤ place = omega (arith, sign_size-small text) in
+    let passes = run-passes text start place follows in
+    whole_number-none text (λ same. false≢true (sym other ∙ passes (omega (arith, same))))
 
 -- nor is it a decimal, if that byte is no point
 is_decimal-other : (text : List ℕ) (place : ℕ) → 1 ≤ place → place < length text

@@ -63,16 +63,17 @@ pub filled-taken : (up : Bool) (unit : ℕ) (digits : List ℕ) (value : ℕ) �
     → quotient up (2 * (value * unit) + 0) 100000000
     ≡ quotient up (2 * (digits_value digits * unit)) (10 ^ length digits)
 filled-taken up unit digits value few is =
+    let size = 2 * (digits_value digits * unit) in
+    let scale = 10 ^ length digits in
     let zeros = 10 ^ (8 - length digits) in
     let count : 8 - length digits + length digits ≡ 8 = omega arith in
-    let power : zeros * 10 ^ length digits ≡ 100000000 =
-    sym (pow-add 10 (8 - length digits) (length digits)) ∙ ap (λ (n : ℕ). 10 ^ n) count in
-    let sum : 2 * (digits_value digits * unit) * zeros ≡ 2 * (value * unit) + 0 =
-    rw is (grind arith) in
-    ap (λ (size : ℕ). quotient up size 100000000) (sym sum)
-    ∙ ap (λ (scale : ℕ). quotient up (2 * (digits_value digits * unit) * zeros) scale) (sym power)
-    ∙ quotient-filled up (2 * (digits_value digits * unit)) (10 ^ length digits) zeros
-    (scale-some (length digits)) (scale-some (8 - length digits))
+    let product = sym (pow-add 10 (8 - length digits) (length digits)) in
+    let power : zeros * scale ≡ 100000000 = product ∙ ap (λ (n : ℕ). 10 ^ n) count in
+    let sum : size * zeros ≡ 2 * (value * unit) + 0 = rw is (grind arith) in
+    let has_zeros = scale-some (8 - length digits) in
+    ap (λ (number : ℕ). quotient up number 100000000) (sym sum)
+    ∙ ap (λ (whole : ℕ). quotient up (size * zeros) whole) (sym power)
+    ∙ quotient-filled up size scale zeros (scale-some (length digits)) has_zeros
 
 -- eight digits are taken as twice four
 pub halves-taken : (up : Bool) (value rest unit : ℕ)
@@ -82,11 +83,12 @@ pub halves-taken : (up : Bool) (value rest unit : ℕ)
 halves-taken up value rest unit =
     let high = value / 10000 in
     let low = value % 10000 in
+    let front = 2 * (high * unit) in
+    let back = 2 * (low * unit) + rest in
     let whole : value ≡ high * 10000 + low = omega arith in
-    let sum : 2 * (low * unit) + rest + 2 * (high * unit) * 10000 ≡ 2 * (value * unit) + rest =
-    grind (arith, ap (λ (n : ℕ). n * unit) whole) in
-    quotient-carried up (2 * (high * unit)) (2 * (low * unit) + rest) 10000 10000 (lit< tt)
-    (lit< tt)
+    let sizes = ap (λ (n : ℕ). n * unit) whole in
+    let sum : back + front * 10000 ≡ 2 * (value * unit) + rest = grind (arith, sizes) in
+    quotient-carried up front back 10000 10000 (lit< tt) (lit< tt)
     ∙ ap (λ (size : ℕ). quotient up size 100000000) sum
 
 -- a block before digits
@@ -103,35 +105,44 @@ block-taken up unit digits place value later twice some within is taken_later ta
     let rest : List ℕ = drop place digits in
     let scale = 10 ^ length rest in
     let there : place - 8 + 8 ≡ place = omega arith in
-    let behind : drop 8 all ≡ rest =
-    drop-drop 8 (place - 8) digits ∙ ap (λ (n : ℕ). drop n digits) there in
-    let whole : digits_value all ≡ value * scale + digits_value rest =
-    grind (arith, take-append-drop 8 all, behind, digits_value-append (take 8 all) rest) in
-    let long : length all ≡ length rest + 8 =
-    omega (arith, length-drop place digits, length-drop (place - 8) digits) in
-    let power : 10 ^ length all ≡ scale * 100000000 =
-    grind (arith, long, pow-add 10 (length rest) 8) in
-    let sum : 2 * (digits_value rest * unit) + 2 * (value * unit) * scale
-    ≡ 2 * (digits_value all * unit) = rw whole (grind arith) in
-    rw (power, ← sum, taken, taken_later)
-    (quotient-carried up (2 * (value * unit)) (2 * (digits_value rest * unit)) scale 100000000
-    (scale-some (length rest)) (lit< tt))
+    let both_dropped = drop-drop 8 (place - 8) digits in
+    let behind : drop 8 all ≡ rest = both_dropped ∙ ap (λ (n : ℕ). drop n digits) there in
+    let whole : digits_value all ≡ value * scale + digits_value rest = grind (
+      arith,
+      take-append-drop 8 all,
+      behind,
+      digits_value-append (take 8 all) rest,
+    ) in
+    let long : length all ≡ length rest + 8 = omega (
+      arith,
+      length-drop place digits,
+      length-drop (place - 8) digits,
+    ) in
+    let power : 10 ^ length all ≡ scale * 100000000 = grind (
+      arith,
+      long,
+      pow-add 10 (length rest) 8,
+    ) in
+    let block = 2 * (value * unit) in
+    let after = 2 * (digits_value rest * unit) in
+    let sum : after + block * scale ≡ 2 * (digits_value all * unit) = rw whole (grind arith) in
+    let has_scale = scale-some (length rest) in
+    let carried = quotient-carried up block after scale 100000000 has_scale (lit< tt) in
+    rw (power, ← sum, taken, taken_later) carried
 
 -- the microseconds of digits are at most those of a unit
 pub rest-within : (up : Bool) (unit : ℕ) (digits : List ℕ) → list_all is_ascii_digit digits ≡ true
     → quotient up (2 * (digits_value digits * unit)) (10 ^ length digits) ≤ 2 * unit
 rest-within false unit digits all =
-    let none : 2 * (digits_value digits * unit) + 0 ≡ 2 * (digits_value digits * unit) =
-    omega arith in
-    rw none at
-    (part_down (digits_value digits) unit 0 (10 ^ length digits) (digits_value-lt digits all)
-    (omega arith))
+    let size = 2 * (digits_value digits * unit) in
+    let none : size + 0 ≡ size = omega arith in
+    let small = digits_value-lt digits all in
+    rw none at (part_down (digits_value digits) unit 0 (10 ^ length digits) small (omega arith))
 rest-within true unit digits all =
-    let none : 2 * (digits_value digits * unit) + 0 ≡ 2 * (digits_value digits * unit) =
-    omega arith in
-    rw none at
-    (part_up (digits_value digits) unit 0 (10 ^ length digits) (digits_value-lt digits all)
-    (omega arith))
+    let size = 2 * (digits_value digits * unit) in
+    let none : size + 0 ≡ size = omega arith in
+    let small = digits_value-lt digits all in
+    rw none at (part_up (digits_value digits) unit 0 (10 ^ length digits) small (omega arith))
 
 pub rest-below : (unit : ℕ) (digits : List ℕ) → list_all is_ascii_digit digits ≡ true
     → quotient false (2 * (digits_value digits * unit)) (10 ^ length digits) ≤ 2 * unit - 1
@@ -204,21 +215,26 @@ sixteen-told up unit digits value smallest largest least most long is more less 
     let scale = 10 ^ length rest in
     let size = 2 * (value * unit) in
     let later = quotient up (2 * (digits_value rest * unit)) scale in
-    let whole : digits_value digits ≡ value * scale + digits_value rest =
-    grind (arith, is, take-append-drop 16 digits, digits_value-append (take 16 digits) rest) in
+    let whole : digits_value digits ≡ value * scale + digits_value rest = grind (
+      arith,
+      is,
+      take-append-drop 16 digits,
+      digits_value-append (take 16 digits) rest,
+    ) in
     let count : length digits ≡ length rest + 16 = omega (arith, length-drop 16 digits) in
-    let power : 10 ^ length digits ≡ scale * 10 ^ 16 =
-    rw (count, pow-add 10 (length rest) 16) refl in
-    let sum : 2 * (digits_value rest * unit) + size * scale ≡ 2 * (digits_value digits * unit) =
-    rw whole (grind arith) in
-    let exact : quotient up (size + later) (10 ^ 16)
-    ≡ quotient up (2 * (digits_value digits * unit)) (10 ^ length digits) =
-    rw (power, ← sum) (quotient-carried up size (2 * (digits_value rest * unit)) scale (10 ^ 16)
-    (scale-some (length rest)) (scale-some 16)) in
-    let low = quotient-le up (size + smallest) (size + later) (10 ^ 16) (scale-some 16)
-    (omega (arith, more)) in
-    let high = quotient-le up (size + later) (size + largest) (10 ^ 16) (scale-some 16)
-    (omega (arith, less)) in
+    let product = pow-add 10 (length rest) 16 in
+    let power : 10 ^ length digits ≡ scale * 10 ^ 16 = rw (count, product) refl in
+    let after = 2 * (digits_value rest * unit) in
+    let all = 2 * (digits_value digits * unit) in
+    let sum : after + size * scale ≡ all = rw whole (grind arith) in
+    let some = scale-some 16 in
+    let carried = quotient-carried up size after scale (10 ^ 16) (scale-some (length rest)) some in
+    let first = quotient up (size + later) (10 ^ 16) in
+    let exact : first ≡ quotient up all (10 ^ length digits) = rw (power, ← sum) carried in
+    let above : size + smallest ≤ size + later = omega (arith, more) in
+    let below : size + later ≤ size + largest = omega (arith, less) in
+    let low = quotient-le up (size + smallest) (size + later) (10 ^ 16) some above in
+    let high = quotient-le up (size + later) (size + largest) (10 ^ 16) some below in
     omega (arith, low, high, one, two, same, exact)
 
 -- so both bounds show whether sixteen digits tell it, and what

@@ -74,10 +74,14 @@ pub long-capped : (digits : List ℕ) → zeros_length digits ≤ length digits
 long-capped digits within ends many =
     let rest : List ℕ = drop (zeros_length digits) digits in
     let run = zeros-run digits within in
-    let all : list_all is_ascii_digit rest ≡ true =
-    grind (arith, nat_tests, run-whole rest, length-drop (zeros_length digits) digits) in
-    let large = large-digits rest all (zeros-none digits)
-    (omega (arith, length-drop (zeros_length digits) digits)) in
+    let left = length-drop (zeros_length digits) digits in
+    let all : list_all is_ascii_digit rest ≡ true = grind (
+      arith,
+      nat_tests,
+      run-whole rest,
+      left,
+    ) in
+    let large = large-digits rest all (zeros-none digits) (omega (arith, left)) in
     grind (arith, nat_tests, run, large, zeros-value digits)
 
 -- and few digits the same number with the zeros and without
@@ -119,8 +123,15 @@ zeros-whole [] all = refl
 zeros-whole (digit ∷ digits) all =
     let parts = and_parts (is_ascii_digit digit) _ all in
     let scale = 10 ^ length digits in
-    let more : 1 ≤ one_digit_value digit → 1 * scale ≤ one_digit_value digit * scale =
-    mul-le-mul_right scale in
-    grind (arith, nat_tests, parts.0, more, scale-some (length digits), zeros-whole digits parts.1)
+    let value = one_digit_value digit in
+    let more : 1 ≤ value → 1 * scale ≤ value * scale = mul-le-mul_right scale in
+    grind (
+      arith,
+      nat_tests,
+      parts.0,
+      more,
+      scale-some (length digits),
+      zeros-whole digits parts.1,
+    )
 
 pub ruleset zero_tests = (nat_tests, zeros-whole)

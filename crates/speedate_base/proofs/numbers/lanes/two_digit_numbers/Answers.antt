@@ -23,8 +23,13 @@ first-digits zero (form ∷ forms) (byte ∷ bytes) fits patterns small =
 first-digits (suc count) (form ∷ forms) (byte ∷ bytes) fits patterns small =
     let number : ℕ = number_l 256 (zip2 less (byte ∷ bytes) (form ∷ forms)) in
     let test = first-fits count (fit_length forms bytes) (fits_byte form byte) fits in
-    let first : less byte form ≡ byte - form =
-    grind (arith, nat_tests, test.0, patterns.0.fits, small.0.fits) in
+    let first : less byte form ≡ byte - form = grind (
+      arith,
+      nat_tests,
+      test.0,
+      patterns.0.fits,
+      small.0.fits,
+    ) in
     grind (
       arith,
       first,
@@ -74,8 +79,8 @@ mask-is count some few =
     let low = 2 ^ (64 - 8 * count) in
     let high = 2 ^ (8 * count) in
     let sum : 64 - 8 * count + 8 * count ≡ 64 = omega arith in
-    let all : low * high ≡ 18446744073709551616 =
-    sym (pow-add 2 (64 - 8 * count) (8 * count)) ∙ ap (λ (n : ℕ). 2 ^ n) sum in
+    let product = sym (pow-add 2 (64 - 8 * count) (8 * count)) in
+    let all : low * high ≡ 18446744073709551616 = product ∙ ap (λ (n : ℕ). 2 ^ n) sum in
     grind (
       arith,
       all,
@@ -99,13 +104,18 @@ computed : (count : ℕ) (forms lanes : List ℕ) (number : ℕ) → 1 ≤ count
     (bit_and number (18446744073709551615 / 2 ^ (64 - 8 * count)))
 computed count forms lanes number some fits long eight patterns small is =
     let few : count ≤ 8 = omega (arith, fit_length_le forms lanes) in
-    let whole = is ∙ from_le_bytes-number (zip2 less lanes forms)
-    (omega (arith, length-zip2 less lanes forms (omega arith))) in
-    let found = spells (fit_digits count forms lanes)
-    (omega (arith, digits-length count forms lanes (omega arith)))
-    (digits-small count forms lanes fits) in
-    rw (mask-is count some few, whole, and_mask, first-digits count forms lanes fits patterns small)
-    (record { fits = found.fits; are = found.are; small = small-at _ found.small })
+    let lessened = zip2 less lanes forms in
+    let digits = fit_digits count forms lanes in
+    let full : length lessened ≡ 8 = omega (arith, length-zip2 less lanes forms (omega arith)) in
+    let whole = is ∙ from_le_bytes-number lessened full in
+    let masked = first-digits count forms lanes fits patterns small in
+    let same = digits-length count forms lanes (omega arith) in
+    let found = spells digits (omega (arith, same)) (digits-small count forms lanes fits) in
+    rw (mask-is count some few, whole, and_mask, masked) (record {
+      fits = found.fits;
+      are = found.are;
+      small = small-at _ found.small;
+    })
 
 pub overflow_mul-digits : goal.overflow_mul-digits
 overflow_mul-digits c = grind (arith, fit_length_le)
@@ -115,22 +125,28 @@ overflow_sub-digits c = grind (arith, fit_length_le)
 
 pub overflow_mul-digits-2 : goal.overflow_mul-digits-2
 overflow_mul-digits-2 c =
-    let so_far =
-    computed _ _ _ _ c.requires.some c.requires.fits c.fits-pattern.0 c.fits-lanes.0
-    c.fits-pattern.1 c.fits-lanes.1 c.from_le_bytes-word.ensures in
-    record { fits = omega (arith, so_far.fits) }
+    let need = c.requires in
+    let forms = c.fits-pattern in
+    let lanes = c.fits-lanes in
+    let word = c.from_le_bytes-word.ensures in
+    let is = computed _ _ _ _ need.some need.fits forms.0 lanes.0 forms.1 lanes.1 word in
+    record { fits = omega (arith, is.fits) }
 
 pub overflow_add-digits : goal.overflow_add-digits
 overflow_add-digits c =
-    let so_far =
-    computed _ _ _ _ c.requires.some c.requires.fits c.fits-pattern.0 c.fits-lanes.0
-    c.fits-pattern.1 c.fits-lanes.1 c.from_le_bytes-word.ensures in
-    record { fits = so_far.fits }
+    let need = c.requires in
+    let forms = c.fits-pattern in
+    let lanes = c.fits-lanes in
+    let word = c.from_le_bytes-word.ensures in
+    let is = computed _ _ _ _ need.some need.fits forms.0 lanes.0 forms.1 lanes.1 word in
+    record { fits = is.fits }
 
 pub returns : goal.returns
 returns c =
-    let so_far =
-    computed _ _ _ _ c.requires.some c.requires.fits c.fits-pattern.0 c.fits-lanes.0
-    c.fits-pattern.1 c.fits-lanes.1 c.from_le_bytes-word.ensures in
-    let is = c.to_le_bytes.ensures ∙ so_far.are in
-    record { numbers = is; small = rw is so_far.small }
+    let need = c.requires in
+    let forms = c.fits-pattern in
+    let lanes = c.fits-lanes in
+    let word = c.from_le_bytes-word.ensures in
+    let is = computed _ _ _ _ need.some need.fits forms.0 lanes.0 forms.1 lanes.1 word in
+    let numbers = c.to_le_bytes.ensures ∙ is.are in
+    record { numbers = numbers; small = rw numbers is.small }

@@ -44,11 +44,8 @@ known text front place count from counted =
     let rest : List ℕ = drop place text in
     let are = from ∙ eight_at-drop place text ∙ eight-first rest in
     let run = counted ∙ ap (prefix_len is_ascii_digit) are ∙ first-run 8 rest in
-    record {
-      counted = run;
-      digits = ap (take count) are
-          ∙ first-digits count 8 rest (omega (arith, run)) (omega (arith, run));
-    }
+    let same = first-digits count 8 rest (omega (arith, run)) (omega (arith, run)) in
+    record { counted = run; digits = ap (take count) are ∙ same }
 
 -- so many digits lie within the text, and fit as many zeros of a pattern
 known-within : (text front : List ℕ) (place count : ℕ) → Known text front place count
@@ -77,35 +74,44 @@ run-longer (suc count) (byte ∷ bytes) enough = grind (arith, run-longer count 
 known-more : (text front : List ℕ) (place : ℕ) → Known text front place 8
     → run_length text place ≡ 8 + run_length text (place + 8)
 known-more text front place is =
-    run-longer 8 (drop place text) (omega (arith, is.counted))
-    ∙ ap (λ (rest : List ℕ). 8 + prefix_len is_ascii_digit rest) (drop-drop 8 place text)
+    let longer = run-longer 8 (drop place text) (omega (arith, is.counted)) in
+    longer ∙ ap (λ (rest : List ℕ). 8 + prefix_len is_ascii_digit rest) (drop-drop 8 place text)
 
 pub run_end-requires : goal.run_end-requires
 run_end-requires c =
-    let is = known c.args.bytes.now _ c.args.place 8 c.eight_bytes-front.ensures.bytes
-    (sym c.in-8.is ∙ c.digits_in_front.ensures.count) in
-    known-within c.args.bytes.now _ c.args.place 8 is c.requires
+    let text = c.args.bytes.now in
+    let count = sym c.in-8.is ∙ c.digits_in_front.ensures.count in
+    let is = known text _ c.args.place 8 c.eight_bytes-front.ensures.bytes count in
+    known-within text _ c.args.place 8 is c.requires
 
 pub six_places-requires-clause-digits : goal.six_places-requires-clause-digits
 six_places-requires-clause-digits c =
-    omega (arith, fit-run 8 c.eight_bytes-front.result, c.in-8.is, c.digits_in_front.ensures.count)
+    omega (
+      arith,
+      fit-run 8 c.eight_bytes-front.result,
+      c.in-8.is,
+      c.digits_in_front.ensures.count,
+    )
 
 pub returns-in-8-clause-length : goal.returns-in-8-clause-length
 returns-in-8-clause-length c =
-    let is = known c.args.bytes.now _ c.args.place 8 c.eight_bytes-front.ensures.bytes
-    (sym c.in-8.is ∙ c.digits_in_front.ensures.count) in
-    omega (arith, known-more c.args.bytes.now _ c.args.place is, c.run_end.ensures.end)
+    let text = c.args.bytes.now in
+    let count = sym c.in-8.is ∙ c.digits_in_front.ensures.count in
+    let is = known text _ c.args.place 8 c.eight_bytes-front.ensures.bytes count in
+    omega (arith, known-more text _ c.args.place is, c.run_end.ensures.end)
 
 pub returns-in_default-clause-within : goal.returns-in_default-clause-within
 returns-in_default-clause-within c =
-    let is = known c.args.bytes.now _ c.args.place _ c.eight_bytes-front.ensures.bytes
-    c.digits_in_front.ensures.count in
-    known-within c.args.bytes.now _ c.args.place _ is c.requires
+    let text = c.args.bytes.now in
+    let count = c.digits_in_front.ensures.count in
+    let is = known text _ c.args.place _ c.eight_bytes-front.ensures.bytes count in
+    known-within text _ c.args.place _ is c.requires
 
 pub returns-in-0-clause-length : goal.returns-in-0-clause-length
 returns-in-0-clause-length c =
-    let is = known c.args.bytes.now _ c.args.place 0 c.eight_bytes-front.ensures.bytes
-    (sym c.in-0.is ∙ c.digits_in_front.ensures.count) in
+    let text = c.args.bytes.now in
+    let count = sym c.in-0.is ∙ c.digits_in_front.ensures.count in
+    let is = known text _ c.args.place 0 c.eight_bytes-front.ensures.bytes count in
     omega (arith, is.counted)
 
 -- no digits mean 0
@@ -114,38 +120,41 @@ none-value text count none = rw (sym none) refl
 
 pub returns-in-0-clause-microsecond : goal.returns-in-0-clause-microsecond
 returns-in-0-clause-microsecond c =
-    let bytes = c.args.bytes.now in
+    let text = c.args.bytes.now in
     let place = c.args.place in
-    let is = known bytes _ place 0 c.eight_bytes-front.ensures.bytes
-    (sym c.in-0.is ∙ c.digits_in_front.ensures.count) in
-    none-value (drop place bytes) (run_length bytes place) (omega (arith, is.counted))
+    let count = sym c.in-0.is ∙ c.digits_in_front.ensures.count in
+    let is = known text _ place 0 c.eight_bytes-front.ensures.bytes count in
+    none-value (drop place text) (run_length text place) (omega (arith, is.counted))
 
 pub returns-in_default-clause-length : goal.returns-in_default-clause-length
 returns-in_default-clause-length c =
-    let is = known c.args.bytes.now _ c.args.place _ c.eight_bytes-front.ensures.bytes
-    c.digits_in_front.ensures.count in
+    let text = c.args.bytes.now in
+    let count = c.digits_in_front.ensures.count in
+    let is = known text _ c.args.place _ c.eight_bytes-front.ensures.bytes count in
     omega (arith, is.counted)
 
 pub returns-in_default-clause-microsecond : goal.returns-in_default-clause-microsecond
 returns-in_default-clause-microsecond c =
-    let bytes = c.args.bytes.now in
+    let text = c.args.bytes.now in
     let place = c.args.place in
-    let is = known bytes _ place _ c.eight_bytes-front.ensures.bytes
-    c.digits_in_front.ensures.count in
-    let count : c.digits_in_front.result ≡ run_length bytes place = omega (arith, is.counted) in
-    c.six_places-in_default.ensures.microsecond
-    ∙ ap (fraction_value 6) (is.digits ∙ ap (λ (n : ℕ). take n (drop place bytes)) count)
+    let count = c.digits_in_front.ensures.count in
+    let is = known text _ place _ c.eight_bytes-front.ensures.bytes count in
+    let run : c.digits_in_front.result ≡ run_length text place = omega (arith, is.counted) in
+    let digits = is.digits ∙ ap (λ (n : ℕ). take n (drop place text)) run in
+    c.six_places-in_default.ensures.microsecond ∙ ap (fraction_value 6) digits
 
 pub returns-in-8-clause-microsecond : goal.returns-in-8-clause-microsecond
 returns-in-8-clause-microsecond c =
-    let bytes = c.args.bytes.now in
+    let text = c.args.bytes.now in
     let place = c.args.place in
-    let rest : List ℕ = drop place bytes in
-    let is = known bytes _ place 8 c.eight_bytes-front.ensures.bytes
-    (sym c.in-8.is ∙ c.digits_in_front.ensures.count) in
-    let whole : 6 ≤ run_length bytes place = omega (arith, is.counted) in
-    c.six_places.ensures.microsecond ∙ ap (fraction_value 6) is.digits
+    let rest : List ℕ = drop place text in
+    let count = sym c.in-8.is ∙ c.digits_in_front.ensures.count in
+    let is = known text _ place 8 c.eight_bytes-front.ensures.bytes count in
+    let whole : 6 ≤ run_length text place = omega (arith, is.counted) in
+    let of_eight = take-take 6 8 rest (omega arith) in
+    let of_run = take-take 6 (run_length text place) rest whole in
+    c.six_places.ensures.microsecond
+    ∙ ap (fraction_value 6) is.digits
     ∙ sym (fraction_value-take 6 (take 8 rest))
-    ∙ ap (fraction_value 6)
-    (take-take 6 8 rest (omega arith) ∙ sym (take-take 6 (run_length bytes place) rest whole))
-    ∙ fraction_value-take 6 (run_digits bytes place)
+    ∙ ap (fraction_value 6) (of_eight ∙ sym of_run)
+    ∙ fraction_value-take 6 (run_digits text place)
