@@ -55,8 +55,8 @@ has_hours-of text ends other =
     search (rules, hours-run, passes_at_first, colon_place-run, eqb-true, hours-are_run)
 
 pub has_hours-run : (text : List ℕ)
-    → has_hours text ≡ ((get_or text (run_length text 0) 0 == colon)
-    && nat_le (run_length text 0) 10)
+    → has_hours text
+    ≡ ((get_or text (run_length text 0) 0 == colon) && nat_le (run_length text 0) 10)
 has_hours-run text = has_hours-of text _ refl
 
 -- what the reader of hours cites
@@ -79,14 +79,25 @@ clock-many refuse behavior text colon count read same more =
     let all = digits_value (hours text) in
     let held = refusal-value refuse (hours_table text) (colon_place text) colon (sym read) in
     let hours_there = hours-count text held.0 in
-    let range : nat_le all 2400000000 ≡ false =
-    grind (arith, nat_tests, same, more, hours_there) in
-    let rest = after_hours_or (shifted (colon_place text + 1) refuse) behavior all
-    (from_minute text) in
-    sym (refusal-all refuse (hours_table text) (first_refusal_or refuse (hours_range all) rest)
-    held.0
-    ∙ ap (λ (holds : Bool). if holds then rest
-    else Err (refuse ParseError.DurationHourValueTooLarge 0)) range)
+    let range : nat_le all 2400000000 ≡ false = grind (
+      arith,
+      nat_tests,
+      same,
+      more,
+      hours_there,
+    ) in
+    let inner = shifted (colon_place text + 1) refuse in
+    let rest = after_hours_or inner behavior all (from_minute text) in
+    let ranged = first_refusal_or refuse (hours_range all) rest in
+    let too_large = refuse ParseError.DurationHourValueTooLarge 0 in
+    sym (refusal-all refuse (hours_table text) ranged held.0
+    ∙ ap (λ (holds : Bool). if holds then rest else Err too_large) range)
+
+-- the answer to what follows the hours, by the place of the colon and by how many there are
+abbrev hours_rest : {E : Type 0} → (ParseError → ℕ → E) → Behavior → List ℕ → ℕ → ℕ
+    → Result UnsignedDuration E
+hours_rest refuse behavior text colon count =
+    after_hours_or (shifted (colon + 1) refuse) behavior count (drop (colon + 1) text)
 
 -- otherwise what follows them decides
 pub clock-rest : {E : Type 0} (refuse : ParseError → ℕ → E) (behavior : Behavior) (text : List ℕ)
@@ -100,17 +111,21 @@ clock-rest refuse behavior text colon count read same few =
     let all = digits_value (hours text) in
     let held = refusal-value refuse (hours_table text) (colon_place text) colon (sym read) in
     let hours_there = hours-count text held.0 in
-    let range : nat_le all 2400000000 ≡ true =
-    grind (arith, nat_tests, same, few, hours_there) in
+    let range : nat_le all 2400000000 ≡ true = grind (
+      arith,
+      nat_tests,
+      same,
+      few,
+      hours_there,
+    ) in
     let counted : count ≡ all = omega (arith, same, few, hours_there) in
-    let rest : ℕ → ℕ → Result UnsignedDuration _ =
-    λ colon count. after_hours_or (shifted (colon + 1) refuse) behavior count
-    (drop (colon + 1) text) in
-    ap (rest colon) counted ∙ ap (λ (colon : ℕ). rest colon all) (sym held.1)
-    ∙ sym (refusal-all refuse (hours_table text) (first_refusal_or refuse (hours_range all)
-    (rest (colon_place text) all)) held.0
-    ∙ ap (λ (holds : Bool). if holds then rest (colon_place text) all
-    else Err (refuse ParseError.DurationHourValueTooLarge 0)) range)
+    let rest = hours_rest refuse behavior text in
+    let last = rest (colon_place text) all in
+    let ranged = first_refusal_or refuse (hours_range all) last in
+    let too_large = refuse ParseError.DurationHourValueTooLarge 0 in
+    let whole = refusal-all refuse (hours_table text) ranged held.0
+    ∙ ap (λ (holds : Bool). if holds then last else Err too_large) range in
+    ap (rest colon) counted ∙ ap (λ (place : ℕ). rest place all) (sym held.1) ∙ sym whole
 
 digits-no_letter : (text : List ℕ) → list_all is_ascii_digit text ≡ true
     → list_any is_day_letter text ≡ false
@@ -133,11 +148,12 @@ pub ruleset letter_rules = (nat_tests, take_rest, letter-after_digits)
 
 -- digits that end a text, after a point
 after-point : (a b c d e p : ℕ) (last : List ℕ) (point : Bool) → ((p == 46) || (p == 44)) ≡ point
-    → ((if point then 6 + prefix_len is_ascii_digit last else 5) == length
-    (a ∷ b ∷ c ∷ d ∷ e ∷ p ∷ last)) ≡ true → list_any is_day_letter (p ∷ last) ≡ false
+    → ((if point then 6 + prefix_len is_ascii_digit last else 5)
+    == length (a ∷ b ∷ c ∷ d ∷ e ∷ p ∷ last)) ≡ true
+    → list_any is_day_letter (p ∷ last) ≡ false
 after-point a b c d e p last true is sized =
-    let whole : (prefix_len is_ascii_digit last == length last) ≡ true =
-    grind (arith, nat_tests, sized) in
+    let run = prefix_len is_ascii_digit last in
+    let whole : (run == length last) ≡ true = grind (arith, nat_tests, sized) in
     grind (arith, nat_tests, is, digits-no_letter last (sym (run-whole last) ∙ whole))
 after-point a b c d e p last false is sized = absurd (grind (arith, nat_tests, sized))
 
@@ -168,6 +184,12 @@ minute-no_letter (a ∷ b ∷ c ∷ more) minute asked sized =
 colon-no_letter : (byte : ℕ) → (byte == colon) ≡ true → is_day_letter byte ≡ false
 colon-no_letter byte same = grind (arith, nat_tests)
 
+-- the answer of a clock, from its minute on, that is to take all of a text
+abbrev clock_whole : {E : Type 0} → (ParseError → ℕ → E) → ℕ → List ℕ → Clock
+    → Result UnsignedDuration E
+clock_whole refuse count rest clock =
+    first_refusal_or refuse (clock_end clock rest) (Ok (clock_numbers count clock))
+
 -- no letter stands in a clock, and it has five bytes at least
 pub clock-no_letter : {E : Type 0} (refuse : ParseError → ℕ → E) (behavior : Behavior)
     (text : List ℕ) (value : UnsignedDuration) → clock_form_or refuse behavior text ≡ Ok value
@@ -178,30 +200,30 @@ clock-no_letter refuse behavior text value same =
     let rest : List ℕ = from_minute text in
     let inner = shifted (first + 1) refuse in
     let count = digits_value (hours text) in
-    let whole_clock : Clock → Result UnsignedDuration _ =
-    λ clock. first_refusal_or inner (clock_end clock rest) (Ok (clock_numbers count clock)) in
-    let clocks = result_and_then whole_clock (minute_front_or inner behavior rest) in
+    let whole_clock = clock_whole inner count rest in
+    let front_answer = minute_front_or inner behavior rest in
+    let clocks = result_and_then whole_clock front_answer in
     let after = first_refusal_or inner (rest_table behavior rest) clocks in
-    let front = refusal-ok refuse (hours_table text)
-    (first_refusal_or refuse (hours_range count) after) value same in
+    let ranged = first_refusal_or refuse (hours_range count) after in
+    let front = refusal-ok refuse (hours_table text) ranged value same in
     let range = refusal-ok refuse (hours_range count) after value front.1 in
     let ranges = refusal-ok inner (rest_table behavior rest) clocks value range.1 in
-    let read = and_then-ok whole_clock (minute_front_or inner behavior rest) value ranges.1 in
-    let minute =
-    refusal-ok inner (minute_digits rest) (clock_answer_or inner behavior rest) read.0 read.1 in
-    let clock = refusal-value inner (minute_table behavior rest) (minute_clock rest)
-    read.0 minute.1 in
-    let whole = refusal-ok inner (clock_end read.0 rest) (Ok (clock_numbers count read.0)) value
-    read.2 in
+    let read = and_then-ok whole_clock front_answer value ranges.1 in
+    let found = read.0 in
+    let second_answer = clock_answer_or inner behavior rest in
+    let minute = refusal-ok inner (minute_digits rest) second_answer found read.1 in
+    let table = minute_table behavior rest in
+    let clock = refusal-value inner table (minute_clock rest) found minute.1 in
+    let numbers : Result UnsignedDuration _ = Ok (clock_numbers count found) in
+    let whole = refusal-ok inner (clock_end found rest) numbers value read.2 in
     let sized = ap (λ (clock : Clock). clock.size == length rest) clock.1 ∙ whole.0.0 in
     let none = minute-no_letter rest minute.0.0 clock.0.1.0 sized in
     let within : first < length text = grind (arith, nat_tests, front.0.1.0) in
     let at_colon = passes_at_first (λ byte. byte == colon) text 0 within in
     let long : nat_lt (length text) 5 ≡ false = grind (arith, nat_tests, front.0.0) in
-    let letters =
-    sym (letter-after_digits text)
-    ∙ ap (λ (n : ℕ). list_any is_day_letter (drop n text))
-    (hours-run text front.0.1.0 front.0.1.1.1.0)
+    let hours_there = hours-run text front.0.1.0 front.0.1.1.1.0 in
+    let letters = sym (letter-after_digits text)
+    ∙ ap (λ (n : ℕ). list_any is_day_letter (drop n text)) hours_there
     ∙ ap (list_any is_day_letter) (drop_more text first 0 within)
     ∙ ap₂ (λ (one others : Bool). one || others) (colon-no_letter _ at_colon) none in
     ap₂ (λ (one others : Bool). one || others) long letters

@@ -39,16 +39,20 @@ overwritten-front {N = N} old new all room lines within few counted is =
     let cut : List N = take room old in
     let long : length cut ≡ room = length-take-le room old within in
     let fits : length new ≤ length cut = omega (arith, long, few, counted) in
-    let left : lines + (room - lines) ≡ room = omega (arith, few) in
-    ap (λ (list : List N). list ++ drop room old)
-    (is ∙ overwritten-rest cut new fits ∙ ap (λ (n : ℕ). new ++ drop n cut) (sym counted)
+    let more = room - lines in
+    let left : lines + more ≡ room = omega (arith, few) in
+    let after : List N = drop lines old in
+    let kept : List N = take more after in
+    let written = is
+    ∙ overwritten-rest cut new fits
+    ∙ ap (λ (n : ℕ). new ++ drop n cut) (sym counted)
     ∙ ap (λ (n : ℕ). new ++ drop lines (take n old)) (sym left)
-    ∙ ap (λ (list : List N). new ++ list) (drop-take lines (room - lines) old))
-    ∙ append_assoc new (take (room - lines) (drop lines old)) (drop room old)
-    ∙ ap (λ (n : ℕ). new ++ (take (room - lines) (drop lines old) ++ drop n old)) (sym left)
-    ∙ ap (λ (list : List N). new ++ (take (room - lines) (drop lines old) ++ list))
-    (sym (drop-drop (room - lines) lines old))
-    ∙ ap (λ (list : List N). new ++ list) (take-append-drop (room - lines) (drop lines old))
+    ∙ ap (λ (list : List N). new ++ list) (drop-take lines more old) in
+    ap (λ (list : List N). list ++ drop room old) written
+    ∙ append_assoc new kept (drop room old)
+    ∙ ap (λ (n : ℕ). new ++ (kept ++ drop n old)) (sym left)
+    ∙ ap (λ (list : List N). new ++ (kept ++ list)) (sym (drop-drop more lines old))
+    ∙ ap (λ (list : List N). new ++ list) (take-append-drop more after)
 
 -- what a column holds after some lines: the whole column, by what is written and by the column of
 -- what is left
@@ -56,10 +60,10 @@ pub record IsSoFar {N : Type 0} (whole left : Column N) (lines : ℕ) (out_old o
     (errors_old errors_new : List ℕ) : Type 0 where
   pub count : length whole.numbers ≡ lines + length left.numbers
   pub fault : whole.fault ≡ left.fault
-  pub numbers : overwritten out_old whole.numbers ≡ take lines out_new ++ overwritten
-      (drop lines out_new) left.numbers
-  pub errors : overwritten errors_old whole.errors ≡ take lines errors_new ++ overwritten
-      (drop lines errors_new) left.errors
+  pub numbers : overwritten out_old whole.numbers
+      ≡ take lines out_new ++ overwritten (drop lines out_new) left.numbers
+  pub errors : overwritten errors_old whole.errors
+      ≡ take lines errors_new ++ overwritten (drop lines errors_new) left.errors
 
 -- at the start
 pub IsSoFar-start : {N : Type 0} → (whole : Column N) (out : List N) (errors : List ℕ)
@@ -129,17 +133,19 @@ pub text_column-first : {N : Type 0}
     → (answer : List ℕ → Result N LineError) (config : LineConfig) (refused : Option N)
     (room more : ℕ) (text : List ℕ) (line : Line N)
     → IsFirstLine answer config text line → room ≡ more + 1
-    → text_column answer config refused room text ≡ onto_column (entry refused line.answer)
+    → text_column answer config refused room text
+    ≡ onto_column (entry refused line.answer)
     (text_column answer config refused more (drop line.size text))
 unfolding text_column
 text_column-first {N = N} answer config refused room more text line found one =
     let rest = text_column answer config refused more (drop line.size text) in
+    let of_line = line_answer answer config in
+    let of_lines = λ (all : List (List ℕ)). column of_line refused (take (suc more) all) in
+    let of_answer = λ (given : Result N LineError). onto_column (entry refused given) rest in
     ap (λ (n : ℕ). text_column answer config refused n text) (one ∙ add-one more)
-    ∙ ap (λ (all : List (List ℕ)). column (line_answer answer config) refused (take (suc more) all))
-    found.first.lines
-    ∙ ap (λ (read : List ℕ). onto_column (entry refused (answer read)) rest) found.first.is_read
-    ∙ ap (λ (given : Result N LineError). onto_column (entry refused given) rest)
-    (sym found.answered)
+    ∙ ap of_lines found.first.lines
+    ∙ ap (λ (read : List ℕ). of_answer (answer read)) found.first.is_read
+    ∙ ap of_answer (sym found.answered)
 
 -- the same from a place on, where the column holds something of that line
 pub text_column-more : {N : Type 0}
@@ -147,25 +153,23 @@ pub text_column-more : {N : Type 0}
     (room more bytes : ℕ) (text : List ℕ) (line : Line N) (held : N × ℕ)
     → IsFirstLine answer config (drop bytes text) line → room ≡ more + 1
     → entry refused line.answer ≡ Ok held
-    → text_column answer config refused room (drop bytes text) ≡ onto_column (Ok held)
-    (text_column answer config refused more (drop (bytes + line.size) text))
+    → text_column answer config refused room (drop bytes text)
+    ≡ onto_column (Ok held) (text_column answer config refused more (drop (bytes + line.size) text))
 text_column-more {N = N} answer config refused room more bytes text line held found one is =
+    let column_of = text_column answer config refused more in
+    let rest = column_of (drop line.size (drop bytes text)) in
+    let after = drop-drop line.size bytes text in
     text_column-first answer config refused room more (drop bytes text) line found one
-    ∙ ap (λ (kept : Result (N × ℕ) LineError). onto_column kept
-    (text_column answer config refused more (drop line.size (drop bytes text)))) is
-    ∙ ap (λ (rest : List ℕ). onto_column (Ok held) (text_column answer config refused more rest))
-    (drop-drop line.size bytes text)
+    ∙ ap (λ (kept : Result (N × ℕ) LineError). onto_column kept rest) is
+    ∙ ap (λ (left : List ℕ). onto_column (Ok held) (column_of left)) after
 
 -- without room, without a whole line, or with an error that ends it, it is empty
 pub text_column-full : {N : Type 0}
     → (answer : List ℕ → Result N LineError) (config : LineConfig) (refused : Option N) (room : ℕ)
     (text : List ℕ)
-    → room ≡ 0 → text_column answer config refused room text ≡ record {
-      numbers = [];
-      errors =
-          [];
-      fault = None;
-    }
+    → room ≡ 0
+    → text_column answer config refused room text
+    ≡ record { numbers = []; errors = []; fault = None }
 unfolding text_column
 text_column-full answer config refused room text none =
     ap (λ (n : ℕ). text_column answer config refused n text) none
@@ -174,8 +178,8 @@ pub text_column-none : {N : Type 0}
     → (answer : List ℕ → Result N LineError) (config : LineConfig) (refused : Option N) (room : ℕ)
     (text : List ℕ)
     → whole_lines config.at_end text ≡ []
-    → text_column answer config refused room text ≡ record
-    { numbers = []; errors = []; fault = None }
+    → text_column answer config refused room text
+    ≡ record { numbers = []; errors = []; fault = None }
 unfolding text_column
 text_column-none answer config refused room text none =
     ap (λ (all : List (List ℕ)). column (line_answer answer config) refused (take room all)) none
@@ -185,12 +189,12 @@ pub text_column-ended : {N : Type 0}
     → (answer : List ℕ → Result N LineError) (config : LineConfig) (refused : Option N)
     (room more : ℕ) (text : List ℕ) (line : Line N) (fault : LineError)
     → IsFirstLine answer config text line → room ≡ more + 1 → entry refused line.answer ≡ Err fault
-    → text_column answer config refused room text ≡ record
-    { numbers = []; errors = []; fault = Some fault }
+    → text_column answer config refused room text
+    ≡ record { numbers = []; errors = []; fault = Some fault }
 text_column-ended {N = N} answer config refused room more text line fault found one ended =
+    let rest = text_column answer config refused more (drop line.size text) in
     text_column-first answer config refused room more text line found one
-    ∙ ap (λ (held : Result (N × ℕ) LineError). onto_column held
-    (text_column answer config refused more (drop line.size text))) ended
+    ∙ ap (λ (held : Result (N × ℕ) LineError). onto_column held rest) ended
 
 -- it has no more lines than there is room for
 onto_column-short : {N : Type 0} → (held : Result (N × ℕ) LineError) (rest : Column N) (room : ℕ)
@@ -203,8 +207,9 @@ column-short : {N : Type 0}
     → length (column answer refused lines).numbers ≤ length lines
 column-short answer refused [] = omega arith
 column-short answer refused (line ∷ lines) =
-    onto_column-short (entry refused (answer line)) (column answer refused lines) (length lines)
-    (column-short answer refused lines)
+    let rest = column answer refused lines in
+    let short = column-short answer refused lines in
+    onto_column-short (entry refused (answer line)) rest (length lines) short
 
 pub text_column-short : {N : Type 0}
     → (answer : List ℕ → Result N LineError) (config : LineConfig) (refused : Option N) (room : ℕ)
@@ -213,12 +218,8 @@ pub text_column-short : {N : Type 0}
 unfolding text_column
 text_column-short answer config refused room text =
     let all : List (List ℕ) = whole_lines config.at_end text in
-    omega (
-      arith,
-      column-short (line_answer answer config) refused
-          (take room all),
-      length-take room all,
-    )
+    let short = column-short (line_answer answer config) refused (take room all) in
+    omega (arith, short, length-take room all)
 
 -- it has an error for each number
 onto_column-errors : {N : Type 0} → (held : Result (N × ℕ) LineError) (rest : Column N)
@@ -232,14 +233,14 @@ column-errors : {N : Type 0}
     → length (column answer refused lines).errors ≡ length (column answer refused lines).numbers
 column-errors answer refused [] = refl
 column-errors answer refused (line ∷ lines) =
-    onto_column-errors (entry refused (answer line)) (column answer refused lines)
-    (column-errors answer refused lines)
+    let same = column-errors answer refused lines in
+    onto_column-errors (entry refused (answer line)) (column answer refused lines) same
 
 pub text_column-errors : {N : Type 0}
     → (answer : List ℕ → Result N LineError) (config : LineConfig) (refused : Option N) (room : ℕ)
     (text : List ℕ)
-    → length (text_column answer config refused room text).errors ≡ length
-    (text_column answer config refused room text).numbers
+    → length (text_column answer config refused room text).errors
+    ≡ length (text_column answer config refused room text).numbers
 unfolding text_column
 text_column-errors answer config refused room text =
     column-errors (line_answer answer config) refused (take room (whole_lines config.at_end text))
@@ -256,8 +257,8 @@ column-goes_on : {N : Type 0}
     → (column answer (Some number) lines).fault ≡ None
 column-goes_on answer number [] = refl
 column-goes_on answer number (line ∷ lines) =
-    onto_column-goes_on (answer line) number (column answer (Some number) lines)
-    (column-goes_on answer number lines)
+    let rest = column answer (Some number) lines in
+    onto_column-goes_on (answer line) number rest (column-goes_on answer number lines)
 
 pub text_column-goes_on : {N : Type 0}
     → (answer : List ℕ → Result N LineError) (config : LineConfig) (number : N) (room : ℕ)
@@ -276,14 +277,15 @@ pub text_column-written : {N : Type 0}
     ≡ (text_column answer config refused (length old) text).numbers ++ drop lines old
 text_column-written {N = N} answer config refused old text lines counted =
     let new : List N = (text_column answer config refused (length old) text).numbers in
-    overwritten-rest old new (text_column-short answer config refused (length old) text)
-    ∙ ap (λ (n : ℕ). new ++ drop n old) (sym counted)
+    let short = text_column-short answer config refused (length old) text in
+    overwritten-rest old new short ∙ ap (λ (n : ℕ). new ++ drop n old) (sym counted)
 
 -- the rest of a text after one more whole line
 pub rest-more : (at_end : Bool) (text first : List ℕ) (bytes size lines next : ℕ)
     → whole_lines at_end (drop bytes text) ≡ drop lines (whole_lines at_end text)
-    → whole_lines at_end (drop bytes text) ≡ first ∷ whole_lines at_end
-    (drop size (drop bytes text)) → next ≡ lines + 1
+    → whole_lines at_end (drop bytes text)
+    ≡ first ∷ whole_lines at_end (drop size (drop bytes text))
+    → next ≡ lines + 1
     → whole_lines at_end (drop (bytes + size) text) ≡ drop next (whole_lines at_end text)
 rest-more at_end text first bytes size lines next before is counted =
     let all : List (List ℕ) = whole_lines at_end text in

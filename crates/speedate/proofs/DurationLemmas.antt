@@ -49,12 +49,12 @@ signed_amount-joined numbers = search rules
 
 -- the numbers of an amount have it
 pub signed_amount-kept : (amount : ℤ) → signed_amount (duration_of_amount amount) ≡ amount
-signed_amount-kept amount = search (rules)
+signed_amount-kept amount = search rules
 
 -- the duration of an amount with its sign: none has the positive one
 signed-kept : (positive : Bool) (size : ℕ)
     → duration_of_amount (with_sign (not positive) size) ≡ of_amount (positive || (size == 0)) size
-signed-kept positive size = search (rules)
+signed-kept positive size = search rules
 
 -- a duration comes back from its amount, but positive zero for negative zero
 amount-back : (numbers : DurationNumbers) → IsDuration numbers
@@ -123,17 +123,19 @@ pub date_time_later-exact : (amount : ℤ) (start end : DateAndTime) → IsDateA
     → end.time.offset ≡ start.time.offset
     → utc_microsecond end ≡ utc_microsecond start +ℤ amount → date_time_later amount start ≡ Ok end
 date_time_later-exact amount start end valid attached same =
-    let instant : Instant =
-    record { second = local_second end; microsecond = end.time.microsecond } in
-    let later = ap (λ (given : Option ℤ). pos 1000000
-    *ℤ (local_second end -ℤ unwrap_or given (pos 0)) +ℤ pos end.time.microsecond)
-    (sym attached) ∙ same in
-    ap (λ (n : ℤ). instant_date_time start.time.offset (instant_at n))
-    (unmoved (local_second end) (local_second start) (unwrap_or start.time.offset (pos 0))
-    amount end.time.microsecond start.time.microsecond later)
-    ∙ ap (instant_date_time start.time.offset)
+    let offset = start.time.offset in
+    let second = local_second end in
+    let own = end.time.microsecond in
+    let instant : Instant = record { second = second; microsecond = own } in
+    let given = unwrap_or offset (pos 0) in
+    let local = λ (one : Option ℤ). second -ℤ unwrap_or one (pos 0) in
+    let at_offset = λ (one : Option ℤ). pos 1000000 *ℤ local one +ℤ pos own in
+    let later = ap at_offset (sym attached) ∙ same in
+    let moved_by = unmoved second (local_second start) given amount own start.time.microsecond in
+    ap (λ (n : ℤ). instant_date_time offset (instant_at n)) (moved_by later)
+    ∙ ap (instant_date_time offset)
     (instant_at-is (local_microsecond end) instant valid.time.microsecond refl)
-    ∙ ap (λ (given : Option ℤ). instant_date_time given instant) (sym attached)
+    ∙ ap (λ (one : Option ℤ). instant_date_time one instant) (sym attached)
     ∙ instant_date_time-local end valid
 
 -- what lies as far apart is in the same order
@@ -152,9 +154,11 @@ pub ends-order : (start end : DateAndTime) (amount other one two : ℤ)
     → IfOk (date_time_later other start)
     (λ next. int_cmp (utc_microsecond end) (utc_microsecond next) ≡ int_cmp one two)
 ends-order start end amount other one two apart same =
-    IfOk-weaker (date_time_later other start) _ _
-    (λ next is. apart-order (utc_microsecond end) (utc_microsecond next) one two
-    (amounts-apart _ _ (utc_microsecond start) amount other one two same is apart))
+    let first = utc_microsecond end in
+    let from = utc_microsecond start in
+    IfOk-weaker (date_time_later other start) _ _ (λ next is.
+    let far = amounts-apart _ _ from amount other one two same is apart in
+    apart-order first (utc_microsecond next) one two far)
     (date_time_later-ends other start)
 
 -- after the duration between two date-times comes the instant of the second
@@ -162,8 +166,9 @@ pub between-ends : (earlier later : DateAndTime) (amount : ℤ)
     → amount ≡ utc_microsecond later -ℤ utc_microsecond earlier
     → IfOk (date_time_later amount earlier) (λ end. utc_microsecond end ≡ utc_microsecond later)
 between-ends earlier later amount same =
-    IfOk-weaker (date_time_later amount earlier) _ _
-    (λ end is. is ∙ sym (between-later _ _ amount same)) (date_time_later-ends amount earlier)
+    let instant = sym (between-later _ _ amount same) in
+    let ends = date_time_later-ends amount earlier in
+    IfOk-weaker (date_time_later amount earlier) _ _ (λ end is. is ∙ instant) ends
 
 -- and as much earlier than the end lies the start
 pub ends-back : (result : Result DateTime ParseError) (start : DateTime) (amount back : ℤ)
@@ -172,14 +177,16 @@ pub ends-back : (result : Result DateTime ParseError) (start : DateTime) (amount
     ≡ utc_microsecond (date_and_time start) +ℤ amount)
     → IfOk result (λ end. date_time_later back (date_and_time end) ≡ Ok (date_and_time start))
 ends-back (Ok end) start amount back attached turned same =
-    date_time_later-exact back (date_and_time end) (date_and_time start) (is_date_and_time start)
-    (sym attached) (opposite _ _ amount back turned same)
+    let value = date_and_time start in
+    let valid = is_date_and_time start in
+    let earlier = opposite _ _ amount back turned same in
+    date_time_later-exact back (date_and_time end) value valid (sym attached) earlier
 ends-back (Err fault) start amount back attached turned same = tt
 
 -- there are fewer than 3,652,427 days between two date-times
 few-days : (amount : ℤ) → unsigned_abs amount < 315569692800000000
     → (duration_of_amount amount).day ≤ 3652426
-few-days amount small = search (rules)
+few-days amount small = search rules
 
 apart : (one two : ℕ) (second seconds offset other : ℤ) → first_second ≤ℤ second
     → second ≤ℤ last_second → first_second ≤ℤ seconds → seconds ≤ℤ last_second
@@ -199,7 +206,7 @@ between-days earlier later valid other =
 days-back : (positive : Bool) (day start end : ℕ)
     → pos end -ℤ pos start ≡ with_sign (not positive) day
     → pos end +ℤ with_sign (not (not positive)) day ≡ pos start
-days-back positive day start end same = search (rules)
+days-back positive day start end same = search rules
 
 pub date-back : (numbers : DurationNumbers) (start : Date) (end : Ymd)
     → is_whole_days numbers ≡ true
@@ -207,14 +214,15 @@ pub date-back : (numbers : DurationNumbers) (start : Date) (end : Ymd)
     → date_later (negated numbers) end ≡ Ok (ymd start)
 date-back numbers start end whole moved =
     let date = ymd start in
-    let outside =
-    if not numbers.positive then ParseError.DateTooLarge else ParseError.DateTooSmall in
-    refusal-all fault_alone ((is_whole_days numbers else_fault ParseError.DateNotExact) ∷ []) _
-    (whole, tt)
-    ∙ ap (λ (n : ℤ). ok_or (date_counted n) outside)
-    (days-back numbers.positive numbers.day (day_number date) (day_number end) moved)
-    ∙ ap (λ (date : Option Ymd). ok_or date outside)
-    (date_numbered-is (day_number date) date (is_day start) start.year_in_range refl)
+    let first = day_number date in
+    let later = not numbers.positive in
+    let outside = if later then ParseError.DateTooLarge else ParseError.DateTooSmall in
+    let table = (is_whole_days numbers else_fault ParseError.DateNotExact) ∷ [] in
+    let back = days-back numbers.positive numbers.day first (day_number end) moved in
+    let numbered = date_numbered-is first date (is_day start) start.year_in_range refl in
+    refusal-all fault_alone table _ (whole, tt)
+    ∙ ap (λ (n : ℤ). ok_or (date_counted n) outside) back
+    ∙ ap (λ (date : Option Ymd). ok_or date outside) numbered
 
 -- days the other way are the negative ones
 pub turned : (positive : Bool) (day start end : ℕ)
@@ -237,14 +245,15 @@ later-order false two date other fault next order amounts same is = tt
 
 -- so the dates after two durations of days are in the order of the days
 pub date_later-order : (one two : DurationNumbers) (start : Ymd)
-    → IfOk (date_later one start) (λ end. IfOk (date_later two start) (λ next.
-    date_order end next ≡ int_cmp (signed_day one) (signed_day two)))
+    → IfOk (date_later one start) (λ end. IfOk (date_later two start)
+    (λ next. date_order end next ≡ int_cmp (signed_day one) (signed_day two)))
 date_later-order one two start =
     let days = pos (day_number start) in
-    later-order (is_whole_days one) (is_whole_days two) _ _ _ _ _ _
-    (apart-order (days +ℤ signed_day one) (days +ℤ signed_day two) (signed_day one) (signed_day two)
-    (omega (arith, ints)))
-    (counted-order (days +ℤ signed_day one) (days +ℤ signed_day two))
+    let first = days +ℤ signed_day one in
+    let second = days +ℤ signed_day two in
+    let same = apart-order first second (signed_day one) (signed_day two) (omega (arith, ints)) in
+    let follow = counted-order first second in
+    later-order (is_whole_days one) (is_whole_days two) _ _ _ _ _ _ same follow
 
 -- days the other way lie the other way apart
 days-apart : (one two : Bool) (day other : ℕ) (start : ℤ)
@@ -257,15 +266,16 @@ days-apart false false day other start = omega (arith, ints)
 
 -- and those before them in the other order
 pub date_earlier-order : (one two : DurationNumbers) (start : Ymd)
-    → IfOk (date_later (negated one) start) (λ end. IfOk (date_later (negated two) start) (λ next.
-    date_order end next ≡ int_cmp (signed_day two) (signed_day one)))
+    → IfOk (date_later (negated one) start) (λ end. IfOk (date_later (negated two) start)
+    (λ next. date_order end next ≡ int_cmp (signed_day two) (signed_day one)))
 date_earlier-order one two start =
     let days = pos (day_number start) in
-    later-order (is_whole_days one) (is_whole_days two) _ _ _ _ _ _
-    (apart-order (days +ℤ signed_day (negated one)) (days +ℤ signed_day (negated two))
-    (signed_day two) (signed_day one)
-    (days-apart one.positive two.positive one.day two.day days))
-    (counted-order (days +ℤ signed_day (negated one)) (days +ℤ signed_day (negated two)))
+    let first = days +ℤ signed_day (negated one) in
+    let second = days +ℤ signed_day (negated two) in
+    let apart_by = days-apart one.positive two.positive one.day two.day days in
+    let same = apart-order first second (signed_day two) (signed_day one) apart_by in
+    let follow = counted-order first second in
+    later-order (is_whole_days one) (is_whole_days two) _ _ _ _ _ _ same follow
 
 -- what holds of the numbers of a date that is returned
 pub of-date : (result : Result Date ParseError) (answer : Result Ymd ParseError)

@@ -27,7 +27,7 @@ IsFree sums = (sums.order ≡ IsoOrder.Lax) × (sums.next_units ≡ units sums.i
 -- in the lax order those after an item are such sums again
 component-free : (unit : Option IsoUnit) (component : ComponentText) (sums : IsoSums)
     → IsFree sums → IsFree (with_component unit component sums)
-component-free unit component sums free = search (rules)
+component-free unit component sums free = search rules
 
 item-free : (item : Item) (sums : IsoSums) → IsFree sums → IsFree (with_item item sums)
 item-free item sums free = search (rules, component-free)
@@ -43,7 +43,7 @@ fits sums component =
 two-rows : {A : Type 0} (number sums : Bool) (fault : ParseError) (next : Result A ParseError)
     → (if number then (if sums then next else Err fault) else Err fault)
     ≡ (if number && sums then next else Err fault)
-two-rows number sums fault next = search (rules)
+two-rows number sums fault next = search rules
 
 -- the table of a component that can be refused for its size alone is that test
 plain-table : {A : Type 0} (sums : IsoSums) (component : ComponentText) (next : Result A ParseError)
@@ -56,7 +56,7 @@ plain-table sums component next free plain = search rules
 component-grows : (unit : Option IsoUnit) (component : ComponentText) (sums : IsoSums)
     → (sums.day ≤ (with_component unit component sums).day)
     × (sums.second ≤ (with_component unit component sums).second)
-component-grows unit component sums = search (rules)
+component-grows unit component sums = search rules
 
 -- so the sums of two components do not depend on their order
 sums-exchanged : (first second : ComponentText) (sums : IsoSums) → IsFree sums
@@ -76,56 +76,72 @@ fits-exchanged : (sums : IsoSums) (first second : ComponentText) → IsFree sums
 fits-exchanged sums first second free =
     grind (arith, ints, nat_tests, sums-exchanged, component-grows)
 
+-- an answer, or that a number is too large
+abbrev fitting_or : Bool → Result UnsignedDuration ParseError → Result UnsignedDuration ParseError
+fitting_or fit answer = if fit then answer else Err ParseError.DurationValueTooLarge
+
+-- two components before a text
+abbrev pair_text : ComponentText → ComponentText → List ℕ → List ℕ
+pair_text first second rest =
+    item_text (Component first) ++ (item_text (Component second) ++ rest)
+
 -- the answer to two components and what follows: that after them where both fit
 pair-answer : (sums : IsoSums) (first second : ComponentText) (rest : List ℕ) → IsFree sums
     → IsPlain sums first → IsPlain sums second
-    → iso_from sums (item_text (Component first) ++ (item_text (Component second) ++ rest))
-    ≡ (if fits sums first && fits (with_item (Component first) sums) second
-    then iso_from (with_item (Component second) (with_item (Component first) sums)) rest
-    else Err ParseError.DurationValueTooLarge)
+    → iso_from sums (pair_text first second rest)
+    ≡ fitting_or (fits sums first && fits (with_item (Component first) sums) second)
+    (iso_from (with_item (Component second) (with_item (Component first) sums)) rest)
 pair-answer sums first second rest free one two =
-    let next = with_item (Component first) sums in
-    let last = iso_from (with_item (Component second) next) rest in
+    let first_item = Component first in
+    let second_item = Component second in
+    let next = with_item first_item sums in
+    let last = iso_from (with_item second_item next) rest in
     let plain = plain-next sums first second one two in
-    let later = iso_from-item next (Component second) rest
-    (item_at-whole next (Component second) rest plain.0)
-    ∙ plain-table next second last (item-free (Component first) sums free) plain in
-    iso_from-item sums (Component first) (item_text (Component second) ++ rest)
-    (item_at-whole sums (Component first) (item_text (Component second) ++ rest) one.0)
+    let free_next = item-free first_item sums free in
+    let second_is = item_at-whole next second_item rest plain.0 in
+    let or_too_large = fitting_or (fits sums first) in
+    let later = iso_from-item next second_item rest second_is
+    ∙ plain-table next second last free_next plain in
+    let after = item_text second_item ++ rest in
+    iso_from-item sums first_item after (item_at-whole sums first_item after one.0)
     ∙ plain-table sums first _ free one
-    ∙ ap (λ (next : Result UnsignedDuration ParseError). if fits sums first then next
-    else Err ParseError.DurationValueTooLarge) later
+    ∙ ap or_too_large later
     ∙ two-rows (fits sums first) (fits next second) ParseError.DurationValueTooLarge last
 
 -- it does not depend on their order
 pair-exchanged : (sums : IsoSums) (first second : ComponentText) (rest : List ℕ) → IsFree sums
     → IsPlain sums first → IsPlain sums second
-    → iso_from sums (item_text (Component first) ++ (item_text (Component second) ++ rest))
-    ≡ iso_from sums (item_text (Component second) ++ (item_text (Component first) ++ rest))
+    → iso_from sums (pair_text first second rest) ≡ iso_from sums (pair_text second first rest)
 pair-exchanged sums first second rest free one two =
     search (rules, pair-answer, fits-exchanged, sums-exchanged)
+
+-- an item before others is judged first
+item-first : (sums : IsoSums) (item : Item) (items : List Item) (text : List ℕ)
+    → IsWhole sums item
+    → iso_from sums (flat_map item_text (item ∷ items) ++ text)
+    ≡ first_fault_or (item_table sums item)
+    (iso_from (with_item item sums) (flat_map item_text items ++ text))
+item-first sums item items text whole =
+    let rest = flat_map item_text items ++ text in
+    ap (iso_from sums) (append_assoc (item_text item) (flat_map item_text items) text)
+    ∙ iso_from-item sums item rest (item_at-whole sums item rest whole)
 
 -- nor where they stand after items, whether these are refused or not
 after-exchanged : (sums : IsoSums) (items : List Item) (first second : ComponentText)
     (rest : List ℕ)
     → IsFree sums → AreWhole sums items
     → IsPlain (with_items items sums) first → IsPlain (with_items items sums) second
-    → iso_from sums (flat_map item_text items ++ (item_text (Component first)
-    ++ (item_text (Component second) ++ rest)))
-    ≡ iso_from sums (flat_map item_text items ++ (item_text (Component second)
-    ++ (item_text (Component first) ++ rest)))
+    → iso_from sums (flat_map item_text items ++ pair_text first second rest)
+    ≡ iso_from sums (flat_map item_text items ++ pair_text second first rest)
 after-exchanged sums [] first second rest free whole one two =
     pair-exchanged sums first second rest free one two
 after-exchanged sums (item ∷ items) first second rest free whole one two =
-    let read = λ (text : List ℕ). ap (iso_from sums)
-    (append_assoc (item_text item) (flat_map item_text items) text)
-    ∙ iso_from-item sums item (flat_map item_text items ++ text)
-    (item_at-whole sums item (flat_map item_text items ++ text) whole.0) in
-    read (item_text (Component first) ++ (item_text (Component second) ++ rest))
-    ∙ ap (first_fault_or (item_table sums item))
-    (after-exchanged (with_item item sums) items first second rest (item-free item sums free)
-    whole.1 one two)
-    ∙ sym (read (item_text (Component second) ++ (item_text (Component first) ++ rest)))
+    let later = with_item item sums in
+    let free_later = item-free item sums free in
+    let others = after-exchanged later items first second rest free_later whole.1 one two in
+    item-first sums item items (pair_text first second rest) whole.0
+    ∙ ap (first_fault_or (item_table sums item)) others
+    ∙ sym (item-first sums item items (pair_text second first rest) whole.0)
 
 -- texts that differ only in that order have the same answer
 pub duration_answer-exchanged : (asked : IsoOrder) (behavior : Behavior) (one two : List ℕ)
@@ -138,12 +154,13 @@ duration_answer-exchanged asked behavior one two answer is lax are =
     let second = item_text (Component are.second) in
     let body : List ℕ = items ++ (first ++ (second ++ are.rest)) in
     let exchanged : List ℕ = items ++ (second ++ (first ++ are.rest)) in
-    let same = after-exchanged (no_sums IsoOrder.Lax) are.items are.first are.second are.rest
-    (refl, refl) are.are_whole are.is_plain_first are.is_plain_second in
+    let after = after-exchanged (no_sums IsoOrder.Lax) are.items are.first are.second are.rest in
+    let same = after (refl, refl) are.are_whole are.is_plain_first are.is_plain_second in
     let read = λ (text : List ℕ). duration_answer IsoOrder.Lax behavior text in
-    is ∙ rw lax
-    (ap read are.is_one
-    ∙ duration_answer-iso IsoOrder.Lax behavior are.negative are.sign body are.is_sign
+    let form = duration_answer-iso IsoOrder.Lax behavior are.negative are.sign in
+    let first_read = ap read are.is_one ∙ form body are.is_sign in
+    let second_read = ap read are.is_two ∙ form exchanged are.is_sign in
+    let answers = first_read
     ∙ ap (result_and_then (signed_form (not are.negative))) same
-    ∙ sym (ap read are.is_two
-    ∙ duration_answer-iso IsoOrder.Lax behavior are.negative are.sign exchanged are.is_sign))
+    ∙ sym second_read in
+    is ∙ rw lax answers

@@ -69,9 +69,10 @@ pub date_number-of_date : (reader : DateReader) (line : List ℕ) (date : Ymd)
     → date_answer line ≡ Ok date → date_number reader line ≡ Ok (days_between epoch date)
 date_number-of_date DateReader.Rfc3339 line date read = ap (as_number (days_between epoch)) read
 date_number-of_date (DateReader.OrTimestamp config) line date read =
-    ap (λ (answer : Result Ymd ParseError). as_number (days_between epoch)
-    (or_number (option_map (date_timestamp_answer config.timestamp_unit true)
-    (whole_number line)) answer)) read
+    let timestamp = date_timestamp_answer config.timestamp_unit true in
+    let number = option_map timestamp (whole_number line) in
+    let counted = as_number (days_between epoch) in
+    ap (λ (answer : Result Ymd ParseError). counted (or_number number answer)) read
 
 date_of_line-longer : (reader : DateReader) (text : List ℕ) (count : ℕ) (front : Ymd × ℕ)
     → date_front text ≡ Ok front → front.1 < count → count ≤ length text
@@ -86,8 +87,8 @@ pub date_number-longer : (reader : DateReader) (text : List ℕ) (count : ℕ) (
     → date_front text ≡ Ok front → front.1 < count → count ≤ length text
     → date_number reader (take count text) ≡ Err (LineError.Parse ParseError.ExtraCharacters)
 date_number-longer reader text count front read more inside =
-    ap (as_number (days_between epoch))
-    (date_of_line-longer reader text count front read more inside)
+    let refused = date_of_line-longer reader text count front read more inside in
+    ap (as_number (days_between epoch)) refused
 
 -- Date-times.
 
@@ -96,18 +97,22 @@ abbrev number_of : DateTimeReader → Result DateAndTime ParseError → Result �
 number_of reader answer =
     as_number utc_microsecond (result_and_then (with_offset reader.assumes_utc) answer)
 
+-- a value whose text meets the rows of RFC 3339
+abbrev strict_value : List ℕ → DateAndTime → Result DateAndTime ParseError
+strict_value line found = first_fault_or (standard_date_time line) (Ok found)
+
 date_time_of_line-read : (parser : DateTimeParser) (line : List ℕ) (value : DateAndTime)
     → date_time_answer (text_behavior parser) line ≡ Ok value
     → date_time_of_line parser line ≡ first_fault_or (text_table parser line) (Ok value)
 date_time_of_line-read (DateTimeParser.Rfc3339 config) line value read = read
 date_time_of_line-read (DateTimeParser.OrTimestamp config) line value read =
     let time = config.time_config in
-    ap (or_number (date_time_number_answer config.timestamp_unit
-    time.microseconds_precision_overflow_behavior time.unix_timestamp_offset
-    (number_answer line))) read
+    let behavior = time.microseconds_precision_overflow_behavior in
+    let offset = time.unix_timestamp_offset in
+    let unit = config.timestamp_unit in
+    ap (or_number (date_time_number_answer unit behavior offset (number_answer line))) read
 date_time_of_line-read (DateTimeParser.Strict behavior) line value read =
-    ap (result_and_then (λ (found : DateAndTime).
-    first_fault_or (standard_date_time line) (Ok found))) read
+    ap (result_and_then (strict_value line)) read
 
 -- a date-time that is read is counted, if the parser takes it, and it has an offset or needs none
 pub date_time_number-of_date_time : (reader : DateTimeReader) (line : List ℕ) (value : DateAndTime)
@@ -116,16 +121,13 @@ pub date_time_number-of_date_time : (reader : DateTimeReader) (line : List ℕ) 
     → answer ≡ number_of reader (first_fault_or (text_table reader.parser line) (Ok value))
     → date_time_number reader line ≡ answer
 date_time_number-of_date_time reader line value answer read counted =
-    ap (number_of reader) (date_time_of_line-read reader.parser line value read)
-    ∙ sym counted
+    ap (number_of reader) (date_time_of_line-read reader.parser line value read) ∙ sym counted
 
 -- a text of RFC 3339 alone has the fault of the text
 strict-refused : (behavior : Behavior) (line : List ℕ) (fault : ParseError)
     → date_time_answer behavior line ≡ Err fault
     → strict_date_time_answer behavior line ≡ Err fault
-strict-refused behavior line fault read =
-    ap (result_and_then (λ (found : DateAndTime).
-    first_fault_or (standard_date_time line) (Ok found))) read
+strict-refused behavior line fault read = ap (result_and_then (strict_value line)) read
 
 date_time_of_line-longer : (parser : DateTimeParser) (text : List ℕ) (count : ℕ)
     (front : DateAndTime × ℕ)
@@ -137,8 +139,8 @@ date_time_of_line-longer (DateTimeParser.Rfc3339 config) text count front read m
 date_time_of_line-longer (DateTimeParser.OrTimestamp config) text count front read more inside =
     date_time_by_config-longer config text count front read more inside
 date_time_of_line-longer (DateTimeParser.Strict behavior) text count front read more inside =
-    strict-refused behavior (take count text) _
-    (date_time_answer-longer behavior text count front read more inside)
+    let refused = date_time_answer-longer behavior text count front read more inside in
+    strict-refused behavior (take count text) _ refused
 
 -- a line that goes on after a date-time is refused
 pub date_time_number-longer : (reader : DateTimeReader) (text : List ℕ) (count : ℕ)
@@ -148,8 +150,8 @@ pub date_time_number-longer : (reader : DateTimeReader) (text : List ℕ) (count
     → date_time_number reader (take count text)
     ≡ Err (LineError.Parse (end_fault front.0.time.offset))
 date_time_number-longer reader text count front read more inside =
-    ap (number_of reader)
-    (date_time_of_line-longer reader.parser text count front read more inside)
+    let refused = date_time_of_line-longer reader.parser text count front read more inside in
+    ap (number_of reader) refused
 
 date_time_of_line-refused : (parser : DateTimeParser) (text : List ℕ) (count size : ℕ)
     (fault : ParseError)
@@ -165,8 +167,8 @@ date_time_of_line-refused (DateTimeParser.OrTimestamp config) text count size fa
     date_time_by_config-refused config text count size fault read takes long inside
 date_time_of_line-refused (DateTimeParser.Strict behavior) text count size fault read takes long
     inside =
-    strict-refused behavior (take count text) fault
-    (date_time_answer-refused behavior text count size fault read takes long inside)
+    let refused = date_time_answer-refused behavior text count size fault read takes long inside in
+    strict-refused behavior (take count text) fault refused
 
 -- so is one whose first bytes are refused
 pub date_time_number-refused : (reader : DateTimeReader) (text : List ℕ) (count size : ℕ)
@@ -176,5 +178,5 @@ pub date_time_number-refused : (reader : DateTimeReader) (text : List ℕ) (coun
     → count ≤ length text
     → date_time_number reader (take count text) ≡ Err (LineError.Parse fault)
 date_time_number-refused reader text count size fault read takes long inside =
-    ap (number_of reader)
-    (date_time_of_line-refused reader.parser text count size fault read takes long inside)
+    let of_line = date_time_of_line-refused reader.parser text count size fault in
+    ap (number_of reader) (of_line read takes long inside)

@@ -33,7 +33,7 @@ as_strict next sums = record sums { order = IsoOrder.Strict; next_units = next }
 -- an item adds the same to both
 component-lax : (unit : Option IsoUnit) (component : ComponentText) (sums : IsoSums)
     → as_lax (with_component unit component sums) ≡ with_component unit component (as_lax sums)
-component-lax unit component sums = search (rules)
+component-lax unit component sums = search rules
 
 item-lax : (item : Item) (sums : IsoSums)
     → as_lax (with_item item sums) ≡ with_item item (as_lax sums)
@@ -42,7 +42,7 @@ item-lax item sums = search (rules, component-lax)
 -- a row that both tables have
 row-both : (test : Bool) (fault : ParseError) (lax answer : Answer) → IsLaxOrRefused lax answer
     → IsLaxOrRefused (if test then lax else Err fault) (if test then answer else Err fault)
-row-both test fault lax answer both = search (rules)
+row-both test fault lax answer both = search rules
 
 -- so the table of an item lets both through, refuses both alike, or refuses for the order
 table-both : (sums : IsoSums) (item : Item) (lax answer : Answer) → IsLaxOrRefused lax answer
@@ -59,20 +59,20 @@ iso-both skipped sums [] = inl refl
 iso-both zero sums (byte ∷ rest) =
     let item = item_at (byte ∷ rest) in
     let size = length (item_text item) - 1 in
-    table-both sums item _ _
-    (subst (λ (next : IsoSums). IsLaxOrRefused (iso_after size next rest)
-    (iso_after size (with_item item sums) rest))
-    (item-lax item sums) (iso-both size (with_item item sums) rest))
+    let later = with_item item sums in
+    let strict = iso_after size later rest in
+    let IsBoth = λ (next : IsoSums). IsLaxOrRefused (iso_after size next rest) strict in
+    table-both sums item _ _ (subst IsBoth (item-lax item sums) (iso-both size later rest))
 iso-both (suc skipped) sums (byte ∷ rest) = iso-both skipped sums rest
 
 both-signed : (positive : Bool) (lax answer : Answer) → IsLaxOrRefused lax answer
     → IsLaxOrRefused (result_and_then (signed_form positive) lax)
     (result_and_then (signed_form positive) answer)
-both-signed positive lax answer h0 = search (rules)
+both-signed positive lax answer both = search rules
 
 unsigned-both : (asked : IsoOrder) (behavior : Behavior) (text : List ℕ) (iso : Bool)
-    → IsLaxOrRefused (if iso then iso_form IsoOrder.Lax (drop 1 text)
-    else form_answer behavior text)
+    → IsLaxOrRefused
+    (if iso then iso_form IsoOrder.Lax (drop 1 text) else form_answer behavior text)
     (if iso then iso_form asked (drop 1 text) else form_answer behavior text)
 unsigned-both asked behavior text iso = search (rules, iso-both)
 
@@ -82,9 +82,10 @@ pub duration-both : (asked : IsoOrder) (behavior : Behavior) (text : List ℕ)
     (duration_answer asked behavior text)
 duration-both asked behavior text =
     let rest = drop (sign_size text) text in
-    rw (duration_answer-form IsoOrder.Lax behavior text, duration_answer-form asked behavior text)
-    (both-signed (not (has_minus text)) _ _
-    (unsigned-both asked behavior rest (slice_index rest 0 == capital_p)))
+    let lax_form = duration_answer-form IsoOrder.Lax behavior text in
+    let asked_form = duration_answer-form asked behavior text in
+    let unsigned = unsigned-both asked behavior rest (slice_index rest 0 == capital_p) in
+    rw (lax_form, asked_form) (both-signed (not (has_minus text)) _ _ unsigned)
 
 -- the unit of a designator has that designator
 unit-designator : (units : List IsoUnit) (designator : ℕ) (unit : IsoUnit)
@@ -98,8 +99,9 @@ unit-designator (one ∷ units) designator unit same =
 component-strict : (unit : Option IsoUnit) (component : ComponentText)
     (next : List IsoUnit) (sums : IsoSums)
     → unit_in (units sums.is_time) component.designator ≡ unit
-    → is_some unit ≡ true → as_strict (units_after component.designator next)
-    (with_component unit component sums) ≡ with_component unit component (as_strict next sums)
+    → is_some unit ≡ true
+    → as_strict (units_after component.designator next) (with_component unit component sums)
+    ≡ with_component unit component (as_strict next sums)
 component-strict unit component next sums is has = search (rules, false≢true)
 
 -- what good items add up to
@@ -109,18 +111,19 @@ lax_end sums = if sums.has_component then Ok (sums_amount sums) else Err ParseEr
 abbrev strict_end : Bool → IsoSums → Answer
 strict_end in_order sums = if in_order then lax_end sums else Err ParseError.DurationUnitOrder
 
+abbrev in_order_or : {A : Type 0} → Bool → Result A ParseError → Result A ParseError
+in_order_or in_order answer = if in_order then answer else Err ParseError.DurationUnitOrder
+
 -- the strict table of a component that meets the lax one asks for its order alone
 table-strict : (next : List IsoUnit) (sums : IsoSums) (component : ComponentText)
     (answer : Answer) → AllHold (item_table sums (Component component))
     → first_fault_or (item_table (as_strict next sums) (Component component)) answer
-    ≡ (if is_some (unit_in next component.designator) then answer
-    else Err ParseError.DurationUnitOrder)
+    ≡ in_order_or (is_some (unit_in next component.designator)) answer
 table-strict next sums component answer all = search rules
 
 strict-end : (comes in_order : Bool) (sums : IsoSums)
-    → (if comes then strict_end in_order sums else Err ParseError.DurationUnitOrder)
-    ≡ strict_end (comes && in_order) sums
-strict-end comes in_order sums = search (rules)
+    → in_order_or comes (strict_end in_order sums) ≡ strict_end (comes && in_order) sums
+strict-end comes in_order sums = search rules
 
 -- so good items are refused if and only if they are not in order
 items-strict : (next : List IsoUnit) (sums : IsoSums) (items : List Item) → AreGood sums items
@@ -137,14 +140,15 @@ items-strict next sums (Component component ∷ items) good =
     let rest = flat_map item_text items in
     let after = units_after component.designator next in
     let comes = is_some (unit_in next component.designator) in
-    let same = component-strict (unit_in (units sums.is_time) component.designator)
-    component next sums refl good.1.1.1.1.0 in
+    let unit = unit_in (units sums.is_time) component.designator in
+    let later = with_item item sums in
+    let same = component-strict unit component next sums refl good.1.1.1.1.0 in
+    let next_sums = ap (λ (sums : IsoSums). iso_from sums rest) (sym same) in
+    let others = next_sums ∙ items-strict after later items good.2 in
     iso_from-item (as_strict next sums) item rest (item_at-text sums item rest good.0 good.1)
     ∙ table-strict next sums component _ good.1
-    ∙ ap (λ (answer : Answer). if comes then answer else Err ParseError.DurationUnitOrder)
-    (ap (λ (sums : IsoSums). iso_from sums rest) (sym same)
-    ∙ items-strict after (with_item item sums) items good.2)
-    ∙ strict-end comes (are_in_order after items) (with_items items (with_item item sums))
+    ∙ ap (λ (answer : Answer). in_order_or comes answer) others
+    ∙ strict-end comes (are_in_order after items) (with_items items later)
 
 -- and without the order they are what they add up to
 items-lax : (sums : IsoSums) (items : List Item) → AreGood sums items
@@ -155,11 +159,9 @@ items-lax sums items good =
     (items, [], record { is_text = sym (append-nil text); are_good = good; ends = refl })
 
 chosen : (positive in_order : Bool) (lax : Answer)
-    → result_and_then (signed_form positive)
-    (if in_order then lax else Err ParseError.DurationUnitOrder)
-    ≡ (if in_order then result_and_then (signed_form positive) lax
-    else Err ParseError.DurationUnitOrder)
-chosen positive in_order lax = search (rules)
+    → result_and_then (signed_form positive) (in_order_or in_order lax)
+    ≡ in_order_or in_order (result_and_then (signed_form positive) lax)
+chosen positive in_order lax = search rules
 
 -- so a text of good items has what they add up to, with its sign
 pub answer-made : (behavior : Behavior) (text : List ℕ) (items : List Item)
@@ -168,30 +170,30 @@ pub answer-made : (behavior : Behavior) (text : List ℕ) (items : List Item)
     ≡ result_and_then (signed_form (not is.negative))
     (lax_end (with_items items (no_sums IsoOrder.Lax)))
 answer-made behavior text items is =
+    let body = flat_map item_text items in
+    let end = items-lax (no_sums IsoOrder.Lax) items is.are_good in
     ap (duration_answer IsoOrder.Lax behavior) is.is_text
-    ∙ duration_answer-iso IsoOrder.Lax behavior is.negative is.sign (flat_map item_text items)
-    is.is_sign
-    ∙ ap (result_and_then (signed_form (not is.negative)))
-    (items-lax (no_sums IsoOrder.Lax) items is.are_good)
+    ∙ duration_answer-iso IsoOrder.Lax behavior is.negative is.sign body is.is_sign
+    ∙ ap (result_and_then (signed_form (not is.negative))) end
 
 -- and is refused for its order if and only if they are not in order, and otherwise has the lax
 -- answer
 answer-strict : (asked : IsoOrder) (behavior : Behavior) (text : List ℕ) (items : List Item)
     → asked ≡ IsoOrder.Strict → IsMadeOf text items
     → duration_answer asked behavior text
-    ≡ (if are_in_order (units false) items then duration_answer IsoOrder.Lax behavior text
-    else Err ParseError.DurationUnitOrder)
+    ≡ in_order_or (are_in_order (units false) items) (duration_answer IsoOrder.Lax behavior text)
 answer-strict asked behavior text items strict is =
     let in_order = are_in_order (units false) items in
-    let read = λ (order : IsoOrder). ap (duration_answer order behavior) is.is_text
-    ∙ duration_answer-iso order behavior is.negative is.sign (flat_map item_text items)
-    is.is_sign in
-    ap (λ (asked : IsoOrder). duration_answer asked behavior text) strict ∙ read IsoOrder.Strict
-    ∙ ap (result_and_then (signed_form (not is.negative)))
-    (items-strict (units false) (no_sums IsoOrder.Lax) items is.are_good)
-    ∙ chosen (not is.negative) in_order (lax_end (with_items items (no_sums IsoOrder.Lax)))
-    ∙ ap (λ (lax : Result DurationNumbers ParseError). if in_order then lax
-    else Err ParseError.DurationUnitOrder) (sym (answer-made behavior text items is))
+    let body = flat_map item_text items in
+    let none = no_sums IsoOrder.Lax in
+    let end = items-strict (units false) none items is.are_good in
+    let lax = sym (answer-made behavior text items is) in
+    ap (λ (order : IsoOrder). duration_answer order behavior text) strict
+    ∙ ap (duration_answer IsoOrder.Strict behavior) is.is_text
+    ∙ duration_answer-iso IsoOrder.Strict behavior is.negative is.sign body is.is_sign
+    ∙ ap (result_and_then (signed_form (not is.negative))) end
+    ∙ chosen (not is.negative) in_order (lax_end (with_items items none))
+    ∙ ap (λ (answer : Result DurationNumbers ParseError). in_order_or in_order answer) lax
 
 -- a clock and days are not asked for an order
 answer-no_iso : (asked : IsoOrder) (behavior : Behavior) (text : List ℕ) → is_iso text ≡ false
@@ -209,7 +211,7 @@ ends-read : (positive : Bool) (sums : IsoSums) (rest : List ℕ) (form : Answer)
     (numbers : DurationNumbers) → Ends sums rest form
     → Ok numbers ≡ result_and_then (signed_form positive) form
     → (rest ≡ []) × (sums.has_component ≡ true)
-ends-read positive sums rest form numbers ends same = search (rules)
+ends-read positive sums rest form numbers ends same = search rules
 
 -- so an ISO 8601 duration that the lax order reads is made of good items
 answer-items : (behavior : Behavior) (text : List ℕ) (numbers : DurationNumbers)
@@ -221,17 +223,21 @@ answer-items behavior text numbers iso same =
     let rest = drop (sign_size text) text in
     let body : List ℕ = drop 1 rest in
     let is_sign = sign-of_text text in
-    let begins : text ≡ sign ++ capital_p ∷ body =
-    sym (take-append-drop (sign_size text) text)
-    ∙ ap (λ (rest : List ℕ). sign ++ rest) (first-byte rest iso) in
-    let read = sym same ∙ ap (duration_answer IsoOrder.Lax behavior) begins
-    ∙ duration_answer-iso IsoOrder.Lax behavior (has_minus text) sign body is_sign in
+    let signed = sym (take-append-drop (sign_size text) text) in
+    let unsigned = ap (λ (rest : List ℕ). sign ++ rest) (first-byte rest iso) in
+    let begins : text ≡ sign ++ capital_p ∷ body = signed ∙ unsigned in
+    let negative = has_minus text in
+    let read = sym same
+    ∙ ap (duration_answer IsoOrder.Lax behavior) begins
+    ∙ duration_answer-iso IsoOrder.Lax behavior negative sign body is_sign in
     let from = iso_after-is 0 (no_sums IsoOrder.Lax) body in
-    let ended = ends-read (not (has_minus text)) (with_items from.0 (no_sums IsoOrder.Lax)) from.1
-    (iso_form IsoOrder.Lax body) numbers from.2.ends read in
-    let is_body =
-    from.2.is_text ∙ ap (λ (end : List ℕ). flat_map item_text from.0 ++ end) ended.0
-    ∙ append-nil (flat_map item_text from.0) in
+    let sums = with_items from.0 (no_sums IsoOrder.Lax) in
+    let form = iso_form IsoOrder.Lax body in
+    let ended = ends-read (not negative) sums from.1 form numbers from.2.ends read in
+    let items_text = flat_map item_text from.0 in
+    let is_body = from.2.is_text
+    ∙ ap (λ (end : List ℕ). items_text ++ end) ended.0
+    ∙ append-nil items_text in
     let is_made : IsMadeOf text from.0 = record {
       negative = has_minus text;
       sign = sign;

@@ -10,7 +10,7 @@ use Rattle.speedate_base.specs.Timestamp.{seconds_per_day}
 use Rattle.speedate.specs.Duration.{duration_answer, duration_numbers, ◌gives◌, Duration}
 use Rattle.speedate.proofs.FractionLemmas.{fraction_amount, fraction_amount-is}
 use Rattle.speedate.specs.DurationNumbers.{DurationNumbers, amount_microseconds, of_amount}
-use Rattle.speedate.specs.DurationNumbers.{normal_table, signed_form}
+use Rattle.speedate.specs.DurationNumbers.{UnsignedDuration, normal_table, signed_form}
 use Rattle.speedate.specs.IsoForm.{IsoUnit, units, unit_in, ComponentText, Item, TimeDesignator}
 use Rattle.speedate.specs.IsoForm.{Component, IsoSums, no_sums, with_component, with_item}
 use Rattle.speedate.specs.IsoForm.{with_items, AreGood, sums_amount}
@@ -66,18 +66,11 @@ component-sum : (unit : Option IsoUnit) (component : ComponentText) (items : Lis
 component-sum None component items sums after is has adds = absurd (false≢true has)
 component-sum (Some unit) component items sums after is has adds =
     let amount = component_amount unit component in
-    let joined : total after ≡ total sums + (amount + adds.0) =
-    omega (arith, adds.2, component-adds unit component sums) in (
-      amount + adds.0,
-      (
-        amount,
-        adds.0,
-        component_amount-is unit component sums.is_time is,
-        adds.1,
-        refl,
-      ),
-      joined,
-    )
+    let sum = amount + adds.0 in
+    let more = component-adds unit component sums in
+    let joined : total after ≡ total sums + sum = omega (arith, adds.2, more) in
+    let one = component_amount-is unit component sums.is_time is in
+    (sum, (amount, adds.0, one, adds.1, refl), joined)
 
 -- so good items add the sum of their amounts
 items-sum : (sums : IsoSums) (items : List Item) → AreGood sums items
@@ -86,9 +79,10 @@ items-sum sums [] good = (0, refl, omega arith)
 items-sum sums (TimeDesignator ∷ items) good =
     items-sum (with_item TimeDesignator sums) items good.2
 items-sum sums (Component component ∷ items) good =
-    component-sum (unit_in (units sums.is_time) component.designator) component items sums
-    (with_items items (with_item (Component component) sums)) refl good.1.1.1.1.0
-    (items-sum (with_item (Component component) sums) items good.2)
+    let unit = unit_in (units sums.is_time) component.designator in
+    let later = with_item (Component component) sums in
+    let others = items-sum later items good.2 in
+    component-sum unit component items sums (with_items items later) refl good.1.1.1.1.0 others
 
 -- the numbers that have an amount have it
 amount-kept : (positive : Bool) (amount : ℕ)
@@ -100,6 +94,10 @@ minus-of_sign : (negative : Bool) (sign rest : List ℕ) → IsSign negative sig
     → has_minus (sign ++ capital_p ∷ rest) ≡ negative
 minus-of_sign negative sign rest is = search rules
 
+-- the answer to good items, by whether a component is among them
+abbrev end_answer : IsoSums → Bool → Result UnsignedDuration ParseError
+end_answer sums some = if some then Ok (sums_amount sums) else Err ParseError.TooShort
+
 -- so the numbers that are read of a text of good items have the sum of their amounts, and the sign
 -- of the text
 answer-amount : (asked : IsoOrder) (behavior : Behavior) (text : List ℕ) (items : List Item)
@@ -109,22 +107,21 @@ answer-amount : (asked : IsoOrder) (behavior : Behavior) (text : List ℕ) (item
 answer-amount asked behavior text items numbers same is =
     let sums = with_items items (no_sums IsoOrder.Lax) in
     let adds = items-sum (no_sums IsoOrder.Lax) items is.are_good in
-    let read = sym (answer-made behavior text items is)
-    ∙ lax-of_read asked behavior text numbers same in
-    let ended = ap (λ (some : Bool). result_and_then (signed_form (not is.negative))
-    (if some then Ok (sums_amount sums) else Err ParseError.TooShort)) (sym is.some) ∙ read in
-    let given : DurationNumbers =
-    record {
-      positive = not is.negative;
+    let positive = not is.negative in
+    let made = sym (answer-made behavior text items is) in
+    let read = made ∙ lax-of_read asked behavior text numbers same in
+    let answer = λ (some : Bool). result_and_then (signed_form positive) (end_answer sums some) in
+    let ended = ap answer (sym is.some) ∙ read in
+    let given : DurationNumbers = record {
+      positive = positive;
       day = sums.day;
       second = sums.second;
       microsecond = sums.microsecond;
     } in
-    let form = refusal-value fault_alone (normal_table given)
-    (of_amount (not is.negative) (amount_microseconds given)) numbers ended in
+    let normal = of_amount positive (amount_microseconds given) in
+    let form = refusal-value fault_alone (normal_table given) normal numbers ended in
     let sum : total sums ≡ adds.0 = omega (arith, adds.2) in
-    let amount =
-    ap amount_microseconds (sym form.1) ∙ amount-kept (not is.negative) (total sums) ∙ sum in
+    let amount = ap amount_microseconds (sym form.1) ∙ amount-kept positive (total sums) ∙ sum in
     record {
       amount = subst (IsSumOf false items) (sym amount) adds.1;
       sign = ap (λ (numbers : DurationNumbers). numbers.positive) (sym form.1)

@@ -52,19 +52,24 @@ front-same sums [] (item ∷ others) rest other first second same good goods one
 front-same sums (item ∷ items) [] rest other first second same good goods one two =
     absurd (end-no_front sums other second item items rest two (sym same) good)
 front-same sums (item ∷ items) (next ∷ others) rest other first second same good goods one two =
-    let later = flat_map item_text items ++ rest in
-    let others_after = flat_map item_text others ++ other in
-    let joined =
-    sym (append_assoc (item_text item) (flat_map item_text items) rest) ∙ same
-    ∙ append_assoc (item_text next) (flat_map item_text others) other in
-    let is : next ≡ item =
-    sym (item_at-text sums next others_after goods.0 goods.1) ∙ sym (ap item_at joined)
-    ∙ item_at-text sums item later good.0 good.1 in
-    let left = append_cancel_left (item_text item) later others_after
-    (joined ∙ ap (λ (item : Item). item_text item ++ others_after) is) in
-    let after = front-same (with_item item sums) items others rest other first second left good.2
-    (subst (λ (item : Item). AreGood (with_item item sums) others) is goods.2) one
-    (subst (λ (item : Item). Ends (with_items others (with_item item sums)) other second) is two) in
+    let items_text = flat_map item_text items in
+    let others_text = flat_map item_text others in
+    let later = items_text ++ rest in
+    let others_after = others_text ++ other in
+    let joined = sym (append_assoc (item_text item) items_text rest)
+    ∙ same
+    ∙ append_assoc (item_text next) others_text other in
+    let first_other = item_at-text sums next others_after goods.0 goods.1 in
+    let first_item = item_at-text sums item later good.0 good.1 in
+    let is : next ≡ item = sym first_other ∙ sym (ap item_at joined) ∙ first_item in
+    let with_same = joined ∙ ap (λ (item : Item). item_text item ++ others_after) is in
+    let left = append_cancel_left (item_text item) later others_after with_same in
+    let GoodAfter = λ (item : Item). AreGood (with_item item sums) others in
+    let EndsAfter = λ (item : Item). Ends (with_items others (with_item item sums)) other second in
+    let goods_after = subst GoodAfter is goods.2 in
+    let two_after = subst EndsAfter is two in
+    let same_from = front-same (with_item item sums) items others rest other first second in
+    let after = same_from left good.2 goods_after one two_after in
     (ap₂ (λ (item : Item) (items : List Item). item ∷ items) (sym is) after.0, after.1)
 
 pub front-only : (sums : IsoSums) (text : List ℕ) (items others : List Item) (rest other : List ℕ)
@@ -84,9 +89,9 @@ answer-with : (sums : IsoSums) (item : Item) (text : List ℕ) (answer : Answer)
     → IsAnswerFrom (with_item item sums) text answer
     → IsAnswerFrom sums (item_text item ++ text) answer
 answer-with sums item text answer is all from =
-    let joined =
-    ap (λ (text : List ℕ). item_text item ++ text) from.2.is_text
-    ∙ sym (append_assoc (item_text item) (flat_map item_text from.0) from.1) in (
+    let items_text = flat_map item_text from.0 in
+    let joined = ap (λ (text : List ℕ). item_text item ++ text) from.2.is_text
+    ∙ sym (append_assoc (item_text item) items_text from.1) in (
       item ∷ from.0,
       from.1,
       record {
@@ -106,12 +111,13 @@ from-step : (sums : IsoSums) (byte : ℕ) (rest : List ℕ) (met : Answer) (next
     (first_fault_or (item_table sums (item_at (byte ∷ rest))) next)
 from-step sums byte rest (Ok amount) next met from =
     let item = item_at (byte ∷ rest) in
-    let all = (refusal-value fault_alone (item_table sums item) (sums_amount sums) amount met).0 in
+    let table = item_table sums item in
+    let all = (refusal-value fault_alone table (sums_amount sums) amount met).0 in
     let front = item-front sums byte rest all in
-    subst (λ (text : List ℕ). IsAnswerFrom sums text (first_fault_or (item_table sums item) next))
-    (sym front.1)
-    (subst (IsAnswerFrom sums _) (sym (refusal-all fault_alone (item_table sums item) next all))
-    (answer-with sums item _ next front.0 all from))
+    let IsAnswer = λ (text : List ℕ). IsAnswerFrom sums text (first_fault_or table next) in
+    let met_all = sym (refusal-all fault_alone table next all) in
+    let answer = answer-with sums item _ next front.0 all from in
+    subst IsAnswer (sym front.1) (subst (IsAnswerFrom sums _) met_all answer)
 from-step sums byte rest (Err fault) next met from = (
   [],
   byte ∷ rest,
@@ -135,12 +141,13 @@ iso_after-is skipped sums [] =
     rw (drop-nil {A = ℕ} skipped) ([], [], record { is_text = refl; are_good = tt; ends = refl })
 iso_after-is zero sums (byte ∷ rest) =
     let item = item_at (byte ∷ rest) in
-    from-step sums byte rest _ _ refl
-    (iso_after-is (length (item_text item) - 1) (with_item item sums) rest)
+    let size = length (item_text item) - 1 in
+    from-step sums byte rest _ _ refl (iso_after-is size (with_item item sums) rest)
 iso_after-is (suc skipped) sums (byte ∷ rest) = iso_after-is skipped sums rest
 
 form-is : (order : IsoOrder) (behavior : Behavior) (text : List ℕ) (iso : Bool)
-    → MatchBool iso (IsAnswerFrom (no_sums order) (drop 1 text)
+    → MatchBool iso
+    (IsAnswerFrom (no_sums order) (drop 1 text)
     (if iso then iso_form order (drop 1 text) else form_answer behavior text))
     ((if iso then iso_form order (drop 1 text) else form_answer behavior text)
     ≡ form_answer behavior text)
@@ -163,11 +170,10 @@ duration_answer-grammar order behavior text answer same =
     let rest = drop (sign_size text) text in
     let iso = slice_index rest 0 == capital_p in
     let is = form-is order behavior rest iso in
+    let signed = result_and_then (signed_form (not (has_minus text))) in
+    let only = form-only order (drop 1 rest) iso (form_answer behavior rest) in
     record {
       is_allowed = (unsigned_answer order behavior rest, is, same);
-      is_only = λ other there. there.2
-          ∙ ap (result_and_then (signed_form (not (has_minus text))))
-          (form-only order (drop 1 rest) iso (form_answer behavior rest) there.0 _ there.1 is)
-          ∙ sym same;
+      is_only = λ other there. there.2 ∙ ap signed (only there.0 _ there.1 is) ∙ sym same;
       is_only_front = front-only (no_sums order) (drop 1 rest);
     }

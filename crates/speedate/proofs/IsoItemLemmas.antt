@@ -133,8 +133,8 @@ IsFront sums byte rest item =
 
 front-of : (sums : IsoSums) (byte : ℕ) (rest : List ℕ) (is_time : Bool)
     → (byte == capital_t) ≡ is_time
-    → IsFront sums byte rest (if is_time then TimeDesignator
-    else Component (component_at (byte ∷ rest)))
+    → IsFront sums byte rest
+    (if is_time then TimeDesignator else Component (component_at (byte ∷ rest)))
 front-of sums byte rest true same hold =
     (tt, ap (λ (byte : ℕ). byte ∷ rest) (eqb-true byte capital_t same))
 front-of sums byte rest false same hold =
@@ -143,12 +143,12 @@ front-of sums byte rest false same hold =
     let later = drop count text in
     let size = fraction_size later in
     let within = designator-within sums.is_time later size hold.1.1.1.0 in
-    let sized : count + size + 1 ≡ suc (length (item_text (Component (component_at text))) - 1) =
-    omega (arith, component-size text (omega (arith, within))) in (
-      (run-digits text, fraction-front later (is_decimal_mark (slice_index later 0)) refl),
-      parted text count size within
-          ∙ ap (λ (n : ℕ). item_text (Component (component_at text)) ++ drop n text) sized,
-    )
+    let bytes : List ℕ = item_text (Component (component_at text)) in
+    let long = component-size text (omega (arith, within)) in
+    let sized : count + size + 1 ≡ suc (length bytes - 1) = omega (arith, long) in
+    let fraction = fraction-front later (is_decimal_mark (slice_index later 0)) refl in
+    let parts = parted text count size within in
+    ((run-digits text, fraction), parts ∙ ap (λ (n : ℕ). bytes ++ drop n text) sized)
 
 pub item-front : (sums : IsoSums) (byte : ℕ) (rest : List ℕ)
     → IsFront sums byte rest (item_at (byte ∷ rest))

@@ -1,5 +1,5 @@
 -- The text by which a duration is printed is read as the duration.
-use Rattle.std.proofs.Common.{rules, arith, ap, sym, ◌∙◌, append_assoc, lit<, ◌≡◌, ℕ, ◌+◌, ◌*◌, ◌/◌, ◌%◌, ◌^◌, ◌<◌, ◌≤◌, Bool, true, false, not, ◌&&◌, ◌==◌, if◌then◌else◌, List, [], ◌∷◌, ◌++◌, length, drop, Some, Result, Ok, codes, refl, decimal, is_some}
+use Rattle.std.proofs.Common.{rules, arith, ap, sym, ◌∙◌, append_assoc, lit<, ◌≡◌, ℕ, ◌+◌, ◌*◌, ◌/◌, ◌%◌, ◌^◌, ◌<◌, ◌≤◌, Bool, true, false, not, ◌&&◌, ◌==◌, if◌then◌else◌, List, [], ◌∷◌, ◌++◌, length, drop, Option, Some, Result, Ok, codes, refl, decimal, is_some}
 use Rattle.speedate_civil.specs.Base.{Behavior, IsoOrder, ParseError}
 use Rattle.std.proofs.lemmas.Int.{ints}
 use Rattle.std.specs.Char.{is_ascii_digit}

@@ -18,12 +18,13 @@ IsFree text = All EndsNoLine text
 -- a line put before the first piece
 onto_first-nil : (lines : List (List ℕ)) (last : List ℕ)
     → onto_first [] lines last ≡ record { complete = lines; unfinished = last }
-onto_first-nil lines last = search (rules)
+onto_first-nil lines last = search rules
 
 onto_first-cons : (byte : ℕ) (front : List ℕ) (lines : List (List ℕ)) (last : List ℕ)
     → onto_first (byte ∷ []) (onto_first front lines last).complete
-    (onto_first front lines last).unfinished ≡ onto_first (byte ∷ front) lines last
-onto_first-cons byte front lines last = search (rules)
+    (onto_first front lines last).unfinished
+    ≡ onto_first (byte ∷ front) lines last
+onto_first-cons byte front lines last = search rules
 
 pub pieces-onto_first : (front more : List ℕ) → IsFree front
     → pieces (front ++ more) ≡ onto_first front (complete_lines more) (unfinished_line more)
@@ -32,8 +33,7 @@ pieces-onto_first (byte ∷ bytes) more free =
     rw (
       ne_eqb byte line_feed (All-head EndsNoLine byte bytes free),
       pieces-onto_first bytes more (All-tail EndsNoLine byte bytes free),
-    )
-    (onto_first-cons byte bytes (complete_lines more) (unfinished_line more))
+    ) (onto_first-cons byte bytes (complete_lines more) (unfinished_line more))
 
 -- a text without line feed is an unfinished line
 pieces-free : (text : List ℕ) → IsFree text
@@ -47,18 +47,23 @@ pieces-line : (line rest : List ℕ) → IsFree line
 pieces-line line rest free =
     rw (append-nil line) at (pieces-onto_first line (line_feed ∷ rest) free)
 
+-- a byte before pieces, which ends a line if it is a line feed
+abbrev fed : Bool → ℕ → List (List ℕ) → List ℕ → Pieces
+fed is_feed byte lines last =
+    if is_feed then record { complete = [] ∷ lines; unfinished = last }
+    else onto_first (byte ∷ []) lines last
+
 -- what stands after the last line feed holds none
 first-free : (byte : ℕ) (test : Bool) (lines : List (List ℕ)) (last : List ℕ)
     → (byte == line_feed) ≡ test → IsFree last
-    → IsFree (if test then record { complete = [] ∷ lines; unfinished = last }
-    else onto_first (byte ∷ []) lines last).unfinished
+    → IsFree (fed test byte lines last).unfinished
 first-free byte test lines last is free = search (rules, All-cons, eqb-false)
 
 pub unfinished-free : (text : List ℕ) → IsFree (unfinished_line text)
 unfinished-free [] = All-nil EndsNoLine
 unfinished-free (byte ∷ bytes) =
-    first-free byte (byte == line_feed) (complete_lines bytes) (unfinished_line bytes) refl
-    (unfinished-free bytes)
+    let free = unfinished-free bytes in
+    first-free byte (byte == line_feed) (complete_lines bytes) (unfinished_line bytes) refl free
 
 -- the pieces of a text after the pieces of what stands before it
 abbrev after : List (List ℕ) → Pieces → Pieces
@@ -66,25 +71,19 @@ after lines rest = record { complete = lines ++ rest.complete; unfinished = rest
 
 first-after : (byte : ℕ) (test : Bool) (lines : List (List ℕ)) (last more : List ℕ)
     → (byte == line_feed) ≡ test
-    → (if test then record {
-      complete = [] ∷ (lines ++ complete_lines (last ++ more));
-      unfinished = unfinished_line (last ++ more);
-    }
-    else onto_first (byte ∷ []) (lines ++ complete_lines (last ++ more))
-    (unfinished_line (last ++ more)))
-    ≡ after (if test then record { complete = [] ∷ lines; unfinished = last }
-    else onto_first (byte ∷ []) lines last).complete
-    (pieces ((if test then record { complete = [] ∷ lines; unfinished = last }
-    else onto_first (byte ∷ []) lines last).unfinished ++ more))
-first-after byte test lines last more is = search (rules)
+    → fed test byte (lines ++ complete_lines (last ++ more)) (unfinished_line (last ++ more))
+    ≡ after (fed test byte lines last).complete
+    (pieces ((fed test byte lines last).unfinished ++ more))
+first-after byte test lines last more is = search rules
 
 -- a text that goes on: its complete lines stay, and its unfinished one goes on
 pub pieces-append : (text more : List ℕ)
     → pieces (text ++ more) ≡ after (complete_lines text) (pieces (unfinished_line text ++ more))
 pieces-append [] more = refl
 pieces-append (byte ∷ bytes) more =
-    rw (pieces-append bytes more)
-    (first-after byte (byte == line_feed) (complete_lines bytes) (unfinished_line bytes) more refl)
+    let lines = complete_lines bytes in
+    let last = unfinished_line bytes in
+    rw (pieces-append bytes more) (first-after byte (byte == line_feed) lines last more refl)
 
 -- a part of a text without line feed, by its places
 pub part-free : (text : List ℕ) (from to : ℕ) → to ≤ length text → IsOneLine text from to
@@ -94,9 +93,9 @@ part-free text from to within one =
     let long : length part ≤ to - from = omega (arith, length-take (to - from) (drop from text)) in
     All-from_get_or EndsNoLine part 0 (λ k below same.
     let inside : k < to - from = omega arith in
-    one (from + k) (omega arith) (omega arith)
-    (sym (get_or-drop from text k 0) ∙ sym (get_or-take (to - from) (drop from text) k 0 inside)
-    ∙ same))
+    let of_rest = sym (get_or-take (to - from) (drop from text) k 0 inside) in
+    let of_text = sym (get_or-drop from text k 0) in
+    one (from + k) (omega arith) (omega arith) (of_text ∙ of_rest ∙ same))
 
 -- one after the other
 pub joined_one_line : (text : List ℕ) (start searched end : ℕ) → IsOneLine text start searched
@@ -108,30 +107,31 @@ pub pieces-from : (text : List ℕ) (start searched end : ℕ) → start ≤ sea
     → IsOneLine text start searched → IsLineEnd text searched end
     → pieces (drop start text)
     ≡ record {
-      complete = take (end - start) (drop start text)
-          ∷ complete_lines (drop (end + 1) text);
+      complete = take (end - start) (drop start text) ∷ complete_lines (drop (end + 1) text);
       unfinished = unfinished_line (drop (end + 1) text);
     }
 pieces-from text start searched end ordered one found =
-    let line = take (end - start) (drop start text) in
-    let free = part-free text start end (omega (arith, found.within))
-    (joined_one_line text start searched end one found.first) in
-    let place : start + (end - start) ≡ end = omega (arith, found.after) in
-    let tail = drop-drop (end - start) start text
+    let size = end - start in
+    let rest = drop start text in
+    let line = take size rest in
+    let next = drop (end + 1) text in
+    let one_line = joined_one_line text start searched end one found.first in
+    let free = part-free text start end (omega (arith, found.within)) one_line in
+    let place : start + size ≡ end = omega (arith, found.after) in
+    let tail = drop-drop size start text
     ∙ ap (λ (n : ℕ). drop n text) place
     ∙ drop_more text end 0 found.within
-    ∙ ap (λ (byte : ℕ). byte ∷ drop (end + 1) text) found.ends in
-    ap pieces (sym (take-append-drop (end - start) (drop start text))
-    ∙ ap (λ (rest : List ℕ). line ++ rest) tail)
-    ∙ pieces-line line (drop (end + 1) text) free
+    ∙ ap (λ (byte : ℕ). byte ∷ next) found.ends in
+    let parts = sym (take-append-drop size rest) ∙ ap (λ (left : List ℕ). line ++ left) tail in
+    ap pieces parts ∙ pieces-line line next free
 
 -- where there is none, the rest is unfinished
 pub pieces-rest : (text : List ℕ) (start searched : ℕ) → IsOneLine text start searched
     → IsOneLine text searched (length text)
     → pieces (drop start text) ≡ record { complete = []; unfinished = drop start text }
 pieces-rest text start searched one none =
-    let free = part-free text start (length text) (omega arith)
-    (joined_one_line text start searched (length text) one none) in
+    let one_line = joined_one_line text start searched (length text) one none in
+    let free = part-free text start (length text) (omega arith) one_line in
     pieces-free (drop start text) (subst IsFree (take_rest text start) free)
 
 -- a front without control characters is one line, and ends with no carriage return

@@ -28,10 +28,11 @@ whole-first false line rest = refl
 pub whole_lines-from : (at_end : Bool) (text : List ℕ) (end : ℕ) → IsLineEnd text 0 end
     → whole_lines at_end text ≡ take end text ∷ whole_lines at_end (drop (end + 1) text)
 whole_lines-from at_end text end found =
-    ap (whole at_end) (pieces-from text 0 0 end (omega arith)
-    (λ k after below same. absurd (omega arith)) found)
-    ∙ whole-first at_end (take (end - 0) text) (pieces (drop (end + 1) text))
-    ∙ ap (λ (n : ℕ). take n text ∷ whole_lines at_end (drop (end + 1) text)) (omega arith)
+    let none : IsOneLine text 0 0 = λ k after below same. absurd (omega arith) in
+    let rest = drop (end + 1) text in
+    ap (whole at_end) (pieces-from text 0 0 end (omega arith) none found)
+    ∙ whole-first at_end (take (end - 0) text) (pieces rest)
+    ∙ ap (λ (n : ℕ). take n text ∷ whole_lines at_end rest) (omega arith)
 
 -- where there is none, a text that is not empty is the one whole line, if it ends there
 last-is : (text : List ℕ) → 0 < length text → last_line text ≡ text ∷ []
@@ -43,18 +44,19 @@ pub whole_lines-last : (at_end : Bool) (text : List ℕ) → at_end ≡ true →
     → whole_lines at_end text ≡ text ∷ whole_lines at_end (drop (length text) text)
 whole_lines-last false text ends some one = absurd (false≢true ends)
 whole_lines-last true text ends some one =
-    ap (whole true) (pieces-rest text 0 0 (λ k after below same. absurd (omega arith)) one)
+    let none : IsOneLine text 0 0 = λ k after below same. absurd (omega arith) in
+    let nothing_left = drop_all (length text) text (omega arith) in
+    ap (whole true) (pieces-rest text 0 0 none one)
     ∙ last-is text some
-    ∙ ap (λ (rest : List ℕ). text ∷ whole_lines true rest)
-    (sym (drop_all (length text) text (omega arith)))
+    ∙ ap (λ (rest : List ℕ). text ∷ whole_lines true rest) (sym nothing_left)
 
 -- otherwise there is none
 pub whole_lines-none : (at_end : Bool) (text : List ℕ) → IsOneLine text 0 (length text)
     → at_end ≡ false → whole_lines at_end text ≡ []
 whole_lines-none at_end text one goes_on =
+    let none : IsOneLine text 0 0 = λ k after below same. absurd (omega arith) in
     ap (λ (ends : Bool). whole_lines ends text) goes_on
-    ∙ ap (λ (all : Pieces). all.complete)
-    (pieces-rest text 0 0 (λ k after below same. absurd (omega arith)) one)
+    ∙ ap (λ (all : Pieces). all.complete) (pieces-rest text 0 0 none one)
 
 pub whole_lines-empty : (at_end : Bool) (text : List ℕ) → length text ≡ 0
     → whole_lines at_end text ≡ []
@@ -71,7 +73,7 @@ without_return-kept drops line other = search (rules, ne_eqb)
 pub without_return-dropped : (drops : Bool) (line : List ℕ) (size : ℕ) → drops ≡ true
     → length line ≡ size + 1 → get_or line size 0 ≡ carriage_return
     → without_return drops line ≡ take size line
-without_return-dropped drops line size drop long last = search (rules)
+without_return-dropped drops line size drop long last = search rules
 
 -- what is read of a line that begins a text begins the text too
 front-cut : (drops : Bool) (text : List ℕ) (size last : ℕ) → last ≤ size → size ≤ length text
@@ -80,34 +82,35 @@ front-cut : (drops : Bool) (text : List ℕ) (size last : ℕ) → last ≤ size
     × (length (if drops then take last (take size text) else take size text) ≤ length text)
 front-cut true text size last before inside =
     let is : take last (take size text) ≡ take last text = take-take last size text before in
-    let long : length (take last (take size text)) ≡ last =
-    ap length is ∙ length-take-le last text (omega (arith, before, inside)) in (
-      ap (λ (n : ℕ). take n text) long ∙ sym is,
-      omega (arith, long, before, inside),
-    )
+    let last_is = length-take-le last text (omega (arith, before, inside)) in
+    let long : length (take last (take size text)) ≡ last = ap length is ∙ last_is in
+    (ap (λ (n : ℕ). take n text) long ∙ sym is, omega (arith, long, before, inside))
 front-cut false text size last before inside =
-    let long : length (take size text) ≡ size = length-take-le size text inside in (
-      ap (λ (n : ℕ). take n text) long,
-      omega (arith, long, inside),
-    )
+    let long : length (take size text) ≡ size = length-take-le size text inside in
+    (ap (λ (n : ℕ). take n text) long, omega (arith, long, inside))
 
 pub without_return-front : (drops : Bool) (text : List ℕ) (size : ℕ) → size ≤ length text
     → (take (length (without_return drops (take size text))) text
     ≡ without_return drops (take size text))
     × (length (without_return drops (take size text)) ≤ length text)
 without_return-front drops text size inside =
-    let last : ℕ = length (take size text) - 1 in
-    front-cut (drops && (slice_index (take size text) last == carriage_return)) text size last
-    (omega (arith, length-take size text)) inside
+    let line = take size text in
+    let last : ℕ = length line - 1 in
+    let before : last ≤ size = omega (arith, length-take size text) in
+    front-cut (drops && (slice_index line last == carriage_return)) text size last before inside
+
+-- a text begins with a line, without its return
+abbrev BeginsWith : Bool → List ℕ → List ℕ → Type 0
+BeginsWith drops text line =
+    (take (length (without_return drops line)) text ≡ without_return drops line)
+    × (length (without_return drops line) ≤ length text)
 
 pub without_return-whole : (drops : Bool) (text : List ℕ)
     → (take (length (without_return drops text)) text ≡ without_return drops text)
     × (length (without_return drops text) ≤ length text)
 without_return-whole drops text =
-    subst (λ (line : List ℕ). (take (length (without_return drops line)) text
-    ≡ without_return drops line) × (length (without_return drops line) ≤ length text))
-    (take_all (length text) text (omega arith))
-    (without_return-front drops text (length text) (omega arith))
+    let front = without_return-front drops text (length text) (omega arith) in
+    subst (BeginsWith drops text) (take_all (length text) text (omega arith)) front
 
 -- The first whole line of a text, whose bytes up to a place are no line feed and end with no
 -- carriage return.
@@ -118,14 +121,14 @@ pub IsFirstLineOf-last : (config : LineConfig) (text : List ℕ) (size : ℕ) �
     → get_or text (size - 1) 0 ≢ carriage_return → IsFirstLineOf config text (take size text) size
 IsFirstLineOf-last config text size ends all some one other =
     let whole_text : take size text ≡ text = take_all size text (omega (arith, all)) in
+    let one_line = subst (IsOneLine text 0) all one in
+    let no_return = subst (λ (n : ℕ). get_or text (n - 1) 0 ≢ carriage_return) all other in
     record {
       first = text;
       within = omega (arith, all);
-      lines = whole_lines-last config.at_end text ends (omega (arith, all, some))
-          (λ k after below. one k after (omega (arith, all, below)))
+      lines = whole_lines-last config.at_end text ends (omega (arith, all, some)) one_line
           ∙ ap (λ (n : ℕ). text ∷ whole_lines config.at_end (drop n text)) (sym all);
-      is_read = without_return-kept config.drops_returns text (λ same. other
-          (ap (λ (n : ℕ). get_or text (n - 1) 0) all ∙ same)) ∙ sym whole_text;
+      is_read = without_return-kept config.drops_returns text no_return ∙ sym whole_text;
     }
 
 -- a line feed follows
@@ -134,21 +137,34 @@ pub IsFirstLineOf-feed : (config : LineConfig) (text : List ℕ) (size : ℕ) �
     → get_or text (size - 1) 0 ≢ carriage_return → get_or text size 0 ≡ line_feed
     → IsFirstLineOf config text (take size text) (size + 1)
 IsFirstLineOf-feed config text size inside some one other ends =
-    let found : IsLineEnd text 0 size =
-    record { after = omega arith; within = inside; ends = ends; first = one } in
-    let long : length (take size text) ≡ size = omega (arith, inside, length-take size text) in
+    let found : IsLineEnd text 0 size = record {
+      after = omega arith;
+      within = inside;
+      ends = ends;
+      first = one;
+    } in
+    let line = take size text in
+    let long : length line ≡ size = omega (arith, inside, length-take size text) in
+    let of_text = get_or-take size text (size - 1) 0 (omega (arith, some)) in
+    let last = ap (λ (n : ℕ). get_or line (n - 1) 0) long ∙ of_text in
     record {
-      first = take size text;
+      first = line;
       within = omega (arith, inside);
       lines = whole_lines-from config.at_end text size found;
-      is_read = without_return-kept config.drops_returns (take size text) (λ same. other (
-          sym (get_or-take size text (size - 1) 0 (omega (arith, some)))
-          ∙ ap (λ (n : ℕ). get_or (take size text) (n - 1) 0) (sym long) ∙ same));
+      is_read = without_return-kept config.drops_returns line (λ same. other (sym last ∙ same));
     }
 
 -- a line feed stands within its text
 feed-within : (text : List ℕ) (place : ℕ) → get_or text place 0 ≡ line_feed → place < length text
 feed-within text place is = grind (arith, cases_lt, get_or_past)
+
+-- a carriage return is no line feed
+return-line : (text : List ℕ) (place : ℕ) → get_or text place 0 ≡ carriage_return
+    → IsOneLine text place (place + 1)
+return-line text place return k after below same =
+    let here : k ≡ place = omega (arith, after, below) in
+    let byte = sym return ∙ ap (λ (n : ℕ). get_or text n 0) (sym here) ∙ same in
+    absurd (omega (arith, byte))
 
 -- a carriage return follows, which is dropped, and then a line feed
 pub IsFirstLineOf-return : (config : LineConfig) (text : List ℕ) (size : ℕ)
@@ -161,19 +177,16 @@ IsFirstLineOf-return config text size drop_it one return ends =
       after = omega arith;
       within = inside;
       ends = ends;
-      first = joined_one_line text 0 size (size + 1) one (λ k after below same.
-          let here : k ≡ size = omega (arith, after, below) in
-          absurd (omega (arith, sym return ∙ ap (λ (n : ℕ). get_or text n 0) (sym here) ∙ same)));
+      first = joined_one_line text 0 size (size + 1) one (return-line text size return);
     } in
-    let long : length (take (size + 1) text) ≡ size + 1 =
-    omega (arith, inside, length-take (size + 1) text) in
+    let line = take (size + 1) text in
+    let long : length line ≡ size + 1 = omega (arith, inside, length-take (size + 1) text) in
+    let last = get_or-take (size + 1) text size 0 (omega arith) ∙ return in
     record {
-      first = take (size + 1) text;
+      first = line;
       within = omega (arith, inside);
       lines = whole_lines-from config.at_end text (size + 1) found
-          ∙ ap (λ (n : ℕ). take (size + 1) text ∷ whole_lines config.at_end (drop n text))
-          (omega arith);
-      is_read = without_return-dropped config.drops_returns (take (size + 1) text) size drop_it long
-          (get_or-take (size + 1) text size 0 (omega arith) ∙ return)
+          ∙ ap (λ (n : ℕ). line ∷ whole_lines config.at_end (drop n text)) (omega arith);
+      is_read = without_return-dropped config.drops_returns line size drop_it long last
           ∙ take-take size (size + 1) text (omega arith);
     }

@@ -25,7 +25,8 @@ begins-none rest = search rules
 
 second-ends : (behavior : Behavior) (hour minute second : ℕ) (rest : List ℕ) (clock : Clock)
     → clock_front behavior (two_digit_text hour ++ colon ∷ minute_text minute second ++ rest)
-    ≡ Ok clock → clock.size ≤ 8
+    ≡ Ok clock
+    → clock.size ≤ 8
     → (is_decimal_mark (slice_index rest 0) ≡ false) × (clock.size ≡ 8)
 second-ends behavior hour minute second rest clock read small = grind (arith, nat_tests)
 
@@ -34,11 +35,16 @@ no-digit rest none = grind (arith, common_steps)
 
 fraction-ends : (behavior : Behavior) (hour minute second microsecond : ℕ) (rest : List ℕ)
     (clock : Clock) → microsecond < 1000000
-    → clock_front behavior (two_digit_text hour ++ colon ∷ minute_text minute second ++ full_stop
-    ∷ six_digit_text microsecond ++ rest) ≡ Ok clock
+    → clock_front behavior (two_digit_text hour ++ colon ∷ minute_text minute second
+    ++ full_stop ∷ six_digit_text microsecond ++ rest) ≡ Ok clock
     → clock.size ≤ 15 → (is_ascii_digit (slice_index rest 0) ≡ false) × (clock.size ≡ 15)
 fraction-ends behavior hour minute second microsecond rest clock few read small =
     grind (arith, common_steps, no-digit)
+
+-- if a time is what was read, what follows it is no part of it
+abbrev EndsThere : TimeOfDay → List ℕ → TimeOfDay × ℕ → Type 0
+EndsThere time rest found =
+    ◌≡◌ {A = TimeOfDay × ℕ} found (time, length (time_text time)) → is_after_time time rest ≡ true
 
 -- so what follows a time without an offset, that was read as itself, is no part of it
 ends-at : (behavior : Behavior) (time : TimeOfDay) (rest text : List ℕ) (size : ℕ)
@@ -50,11 +56,10 @@ ends-at : (behavior : Behavior) (time : TimeOfDay) (rest text : List ℕ) (size 
     → is_after_time time rest ≡ true
 ends-at behavior time rest text size text_is long left without stops read =
     let front : TimeOfDay × ℕ = (time, length (time_text time)) in
-    read-value (λ (found : TimeOfDay × ℕ). ◌≡◌ {A = TimeOfDay × ℕ} found front
-    → is_after_time time rest ≡ true) (time_front behavior text) front
-    (ap (time_front behavior) (sym text_is) ∙ read)
-    (read-then _ _ (clock_front behavior text)
-    (λ clock clocked. read-then _ _ (offset_front (drop clock.size text)) (λ offset after is.
+    let fronted = ap (time_front behavior) (sym text_is) ∙ read in
+    read-value (EndsThere time rest) (time_front behavior text) front fronted
+    (read-then _ _ (clock_front behavior text) (λ clock clocked.
+    read-then _ _ (offset_front (drop clock.size text)) (λ offset after is.
     let stopped = stops clock clocked (search rules) in
     let here : offset_front rest ≡ Ok offset = search rules in
     let begins = read-value _ (offset_front rest) offset here (begins-none rest) (search rules) in
@@ -65,17 +70,19 @@ ends : (behavior : Behavior) (time : TimeOfDay) (rest : List ℕ) (none : Bool) 
     → time_front behavior (time_text time ++ rest) ≡ Ok (time, length (time_text time))
     → is_after_time time rest ≡ true
 ends behavior time rest true valid none without =
-    ends-at behavior time rest (clock_text time ++ rest) 8 (rw (none, without) refl)
-    (rw (none, without) refl) refl without
-    (λ clock is small. let stopped = second-ends behavior time.hour time.minute time.second rest
-    clock is small in (rw none stopped.0, stopped.1))
+    let text = clock_text time ++ rest in
+    let of_clock = second-ends behavior time.hour time.minute time.second rest in
+    ends-at behavior time rest text 8 (rw (none, without) refl) (rw (none, without) refl) refl
+    without (λ clock is small.
+    let stopped = of_clock clock is small in
+    (rw none stopped.0, stopped.1))
 ends behavior time rest false valid some without =
-    ends-at behavior time rest (clock_text time ++ full_stop ∷ six_digit_text time.microsecond
-    ++ rest) 15 (rw (some, without) refl) (rw (some, without) refl) refl without
-    (λ clock is small.
-    let stopped =
-    fraction-ends behavior time.hour time.minute time.second time.microsecond rest clock
-    (omega (arith, valid.microsecond)) is small in
+    let text = clock_text time ++ full_stop ∷ six_digit_text time.microsecond ++ rest in
+    let of_clock = fraction-ends behavior time.hour time.minute time.second time.microsecond rest in
+    let few : time.microsecond < 1000000 = omega (arith, valid.microsecond) in
+    ends-at behavior time rest text 15 (rw (some, without) refl) (rw (some, without) refl) refl
+    without (λ clock is small.
+    let stopped = of_clock clock few is small in
     (rw some stopped.0, stopped.1))
 
 -- where its offset is whole minutes, that is the one condition
@@ -84,6 +91,12 @@ pub time_text-front-iff : (behavior : Behavior) (time : TimeOfDay) (rest : List 
     → (is_after_time time rest ≡ true)
     ↔ (time_front behavior (time_text time ++ rest) ≡ Ok (time, length (time_text time)))
 time_text-front-iff behavior time rest valid whole = grind (arith, time_text-front, ends)
+
+-- if a date-time is what was read, what follows it is no part of it
+abbrev AllEndsThere : DateAndTime → List ℕ → DateAndTime × ℕ → Type 0
+AllEndsThere value rest found =
+    ◌≡◌ {A = DateAndTime × ℕ} found (value, length (date_time_text value))
+    → is_after_time value.time rest ≡ true
 
 pub date_time_text-front-iff : (behavior : Behavior) (value : DateAndTime) (rest : List ℕ)
     → IsDateAndTime value
@@ -96,11 +109,10 @@ date_time_text-front-iff behavior value rest valid whole = (
   λ read.
       let text : List ℕ = date_time_text value ++ rest in
       let front : DateAndTime × ℕ = (value, length (date_time_text value)) in
-      let Is = λ (found : DateAndTime × ℕ). ◌≡◌ {A = DateAndTime × ℕ} found front
-      → is_after_time value.time rest ≡ true in
-      read-value Is (date_time_front behavior text) front read (read-then Is _ (date_front text)
-      (λ date dated. read-then Is _
-      (first_fault_or (separator_table text) (time_front behavior (drop 11 text)))
-      (λ time timed is.
-      (time_text-front-iff behavior value.time rest valid.time whole).1 (search rules)))) refl,
+      let Is = AllEndsThere value rest in
+      let answer = first_fault_or (separator_table text) (time_front behavior (drop 11 text)) in
+      let of_time = time_text-front-iff behavior value.time rest valid.time whole in
+      read-value Is (date_time_front behavior text) front read
+      (read-then Is _ (date_front text) (λ date dated.
+      read-then Is _ answer (λ time timed is. of_time.1 (search rules)))) refl,
 )

@@ -106,8 +106,10 @@ pub date_order-number : (first second : Ymd) → IsDay first → IsDay second
     (65536 * second.year + 256 * second.month + second.day)
     ≡ date_order first second
 date_order-number first second one two =
-    fields-order first second (omega (arith, one.month.1)) (day-small first one)
-    (omega (arith, two.month.1)) (day-small second two)
+    let month : first.month < 256 = omega (arith, one.month.1) in
+    let other_month : second.month < 256 = omega (arith, two.month.1) in
+    let day = day-small first one in
+    fields-order first second month day other_month (day-small second two)
 
 -- as many steps as its day number counts lead to a date
 pub date_of_number-day_number : (date : Ymd) → IsDay date → date_of_number (day_number date) ≡ date
@@ -136,14 +138,16 @@ number-order first second = search rules
 
 -- dates that are counted are in the order of their counts
 numbered-order : (first second : ℕ) (one two : Bool)
-    → IfSome (if one then Some (date_of_number first) else None) (λ date.
-    IfSome (if two then Some (date_of_number second) else None) (λ other.
-    date_order date other ≡ int_cmp (pos first) (pos second)))
+    → IfSome (if one then Some (date_of_number first) else None)
+    (λ date. IfSome (if two then Some (date_of_number second) else None)
+    (λ other. date_order date other ≡ int_cmp (pos first) (pos second)))
 numbered-order first second true true =
-    date_order-day_number (date_of_number first) (date_of_number second)
-    (date_of_number-IsDay first) (date_of_number-IsDay second)
-    ∙ rw (day_number-date_of_number first, day_number-date_of_number second)
-    (number-order first second)
+    let date = date_of_number first in
+    let other = date_of_number second in
+    let first_is = day_number-date_of_number first in
+    let second_is = day_number-date_of_number second in
+    date_order-day_number date other (date_of_number-IsDay first) (date_of_number-IsDay second)
+    ∙ rw (first_is, second_is) (number-order first second)
 numbered-order first second true false = tt
 numbered-order first second false two = tt
 
@@ -152,8 +156,8 @@ none-after (Some date) = tt
 none-after None = tt
 
 pub counted-order : (first second : ℤ)
-    → IfSome (date_counted first) (λ date. IfSome (date_counted second) (λ other.
-    date_order date other ≡ int_cmp first second))
+    → IfSome (date_counted first)
+    (λ date. IfSome (date_counted second) (λ other. date_order date other ≡ int_cmp first second))
 counted-order (pos first) (pos second) =
     numbered-order first second (nat_le first 3652424) (nat_le second 3652424)
 counted-order (pos first) (negsuc second) = none-after (date_numbered first)

@@ -50,14 +50,13 @@ pub date_timestamp-leads_back : (number : ℕ) (date : Ymd) (at : ℤ) (exact : 
 date_timestamp-leads_back number date at exact numbered is =
     let there = counted number date numbered in
     let day : day_at at ≡ number = day-of at number 0 (omega arith) (omega (arith, ints, is)) in
-    let midnight : second_at at ≡ 0 =
-    second-of at number 0 (omega arith) (omega (arith, ints, is)) in
+    let midnight = second-of at number 0 (omega arith) (omega (arith, ints, is)) in
     let instant : Instant = record { second = at; microsecond = 0 } in
-    ap (λ (read : Instant). result_and_then (instant_date exact) (range_answer read))
-    (instant_of_seconds at)
-    ∙ ap (result_and_then (instant_date exact))
-    (refusal-all fault_alone (range_table instant) (Ok instant)
-    (midnight-within number at there.0 is))
+    let dated = result_and_then (instant_date exact) in
+    let within = midnight-within number at there.0 is in
+    let ranged = refusal-all fault_alone (range_table instant) (Ok instant) within in
+    ap (λ (read : Instant). dated (range_answer read)) (instant_of_seconds at)
+    ∙ ap dated ranged
     ∙ midnight-date exact at number date midnight day there.1
 
 -- the seconds from 0000-01-01T00:00:00 to a second, in 64 bits
@@ -86,8 +85,8 @@ since-counted second per_day after before same =
     let is = since-is second after before in
     let day = since second / seconds_per_day in
     let rest = since second % seconds_per_day in
-    let sum : second ≡ (pos day -ℤ pos epoch_day) *ℤ pos seconds_per_day +ℤ pos rest =
-    omega (arith, ints, is.0) in
+    let days = pos day -ℤ pos epoch_day in
+    let sum : second ≡ days *ℤ pos seconds_per_day +ℤ pos rest = omega (arith, ints, is.0) in
     let counted : Since second seconds_per_day = record {
       day = sym (day-of second day rest (omega arith) sum);
       number = day_number-of second day rest (omega arith) sum;

@@ -50,9 +50,9 @@ date_front-read refuse text date same =
 pub date_answer-view : {E D : Type 0} (view : E → D) (refuse : ParseError → ℕ → E) (text : List ℕ)
     → refusal_map view (date_answer_or refuse text) ≡ date_answer_or (through view refuse) text
 date_answer-view view refuse text =
-    then-view view _ _ _ _ (whole-view view refuse (λ (read : Ymd). ParseError.ExtraCharacters)
-    text)
-    (date_front-view view refuse text)
+    let front = date_front-view view refuse text in
+    let whole = whole-view view refuse (λ (read : Ymd). ParseError.ExtraCharacters) text in
+    then-view view _ _ _ _ whole front
 
 clock_front-view : {E D : Type 0} (view : E → D) (refuse : ParseError → ℕ → E)
     (behavior : Behavior) (text : List ℕ)
@@ -61,16 +61,16 @@ clock_front-view : {E D : Type 0} (view : E → D) (refuse : ParseError → ℕ 
 clock_front-view view refuse behavior text =
     let rest = drop 3 text in
     let seen = through view refuse in
-    let later = minute_table behavior rest in
-    let hour = two_digit_value text 0 in
+    let inner = shifted 3 refuse in
+    let table = minute_table behavior rest in
+    let with_hour = at_hour (two_digit_value text 0) in
+    let clock = minute_clock rest in
+    let met = chain-view view inner table (Ok clock) (Ok clock) refl in
+    let hour = map-view view with_hour (first_refusal_or inner table (Ok clock)) in
+    let clocked = hour ∙ ap (result_map with_hour) met in
     chain-view view refuse (hour_table text) _ _
-    (chain-view view (shifted 3 refuse) (minute_digits rest) _ _
-    (chain-view view refuse (hour_range text) _ _
-    (map-view view (at_hour hour) (first_refusal_or (shifted 3 refuse) later
-    (Ok (minute_clock rest)))
-    ∙ ap (result_map (at_hour hour))
-    (chain-view view (shifted 3 refuse) later (Ok (minute_clock rest)) (Ok (minute_clock rest))
-    refl))))
+    (chain-view view inner (minute_digits rest) _ _
+    (chain-view view refuse (hour_range text) _ _ clocked))
 
 offset_front-view : {E D : Type 0} (view : E → D) (refuse : ParseError → ℕ → E) (rest : List ℕ)
     → refusal_map view (offset_front_or refuse rest) ≡ offset_front_or (through view refuse) rest
@@ -81,73 +81,73 @@ pub time_front-view : {E D : Type 0} (view : E → D) (refuse : ParseError → �
     → refusal_map view (time_front_or refuse behavior text)
     ≡ time_front_or (through view refuse) behavior text
 time_front-view view refuse behavior text =
-    then-view view _ _ _ _
-    (λ (clock : Clock). then-view view
-    (λ (offset : Option ℤ × ℕ). Ok (clock_with_offset clock offset.0, clock.size + offset.1)) _ _ _
-    (λ (offset : Option ℤ × ℕ). refl)
-    (offset_front-view view (shifted clock.size refuse) (drop clock.size text)))
-    (clock_front-view view refuse behavior text)
+    let front = clock_front-view view refuse behavior text in
+    then-view view _ _ _ _ (λ (clock : Clock).
+    let offset = offset_front-view view (shifted clock.size refuse) (drop clock.size text) in
+    then-view view
+    (λ (read : Option ℤ × ℕ). Ok (clock_with_offset clock read.0, clock.size + read.1))
+    _ _ _ (λ read. refl) offset) front
 
 pub time_answer-view : {E D : Type 0} (view : E → D) (refuse : ParseError → ℕ → E)
     (behavior : Behavior) (text : List ℕ)
     → refusal_map view (time_answer_or refuse behavior text)
     ≡ time_answer_or (through view refuse) behavior text
 time_answer-view view refuse behavior text =
-    then-view view _ _ _ _ (whole-view view refuse (λ (read : TimeOfDay). end_fault read.offset)
-    text)
-    (time_front-view view refuse behavior text)
+    let front = time_front-view view refuse behavior text in
+    let whole = whole-view view refuse (λ (read : TimeOfDay). end_fault read.offset) text in
+    then-view view _ _ _ _ whole front
 
 pub strict_time_answer-view : {E D : Type 0} (view : E → D) (refuse : ParseError → ℕ → E)
     (behavior : Behavior) (text : List ℕ)
     → refusal_map view (strict_time_answer_or refuse behavior text)
     ≡ strict_time_answer_or (through view refuse) behavior text
 strict_time_answer-view view refuse behavior text =
-    then-view view _ _ _ _
-    (λ (time : TimeOfDay). first_refusal_or-view view refuse (standard_time text) (Ok time))
-    (time_answer-view view refuse behavior text)
+    let answer = time_answer-view view refuse behavior text in
+    let table = standard_time text in
+    then-view view _ _ _ _ (λ time. first_refusal_or-view view refuse table (Ok time)) answer
 
 pub date_time_front-view : {E D : Type 0} (view : E → D) (refuse : ParseError → ℕ → E)
     (behavior : Behavior) (text : List ℕ)
     → refusal_map view (date_time_front_or refuse behavior text)
     ≡ date_time_front_or (through view refuse) behavior text
 date_time_front-view view refuse behavior text =
-    let time = drop 11 text in
-    then-view view _ _ _ _
-    (λ (date : Ymd × ℕ). then-view view
-    (λ (time : TimeOfDay × ℕ). Ok (record { date = date.0; time = time.0 }, 11 + time.1)) _ _ _
-    (λ (time : TimeOfDay × ℕ). refl)
-    (first_refusal_or-view view refuse (separator_table text)
-    (time_front_or (shifted 11 refuse) behavior time)
-    ∙ ap (first_refusal_or (through view refuse) (separator_table text))
-    (time_front-view view (shifted 11 refuse) behavior time)))
-    (date_front-view view refuse text)
+    let rest = drop 11 text in
+    let inner = shifted 11 refuse in
+    let table = separator_table text in
+    let front = date_front-view view refuse text in
+    let time = time_front-view view inner behavior rest in
+    let parted = first_refusal_or-view view refuse table (time_front_or inner behavior rest) in
+    let timed = parted ∙ ap (first_refusal_or (through view refuse) table) time in
+    then-view view _ _ _ _ (λ (date : Ymd × ℕ). then-view view
+    (λ (read : TimeOfDay × ℕ). Ok (record { date = date.0; time = read.0 }, 11 + read.1))
+    _ _ _ (λ read. refl) timed) front
 
 pub date_time_answer-view : {E D : Type 0} (view : E → D) (refuse : ParseError → ℕ → E)
     (behavior : Behavior) (text : List ℕ)
     → refusal_map view (date_time_answer_or refuse behavior text)
     ≡ date_time_answer_or (through view refuse) behavior text
 date_time_answer-view view refuse behavior text =
-    then-view view _ _ _ _
-    (whole-view view refuse (λ (read : DateAndTime). end_fault read.time.offset) text)
-    (date_time_front-view view refuse behavior text)
+    let front = date_time_front-view view refuse behavior text in
+    let whole = whole-view view refuse (λ (read : DateAndTime). end_fault read.time.offset) text in
+    then-view view _ _ _ _ whole front
 
 pub strict_date_time_answer-view : {E D : Type 0} (view : E → D) (refuse : ParseError → ℕ → E)
     (behavior : Behavior) (text : List ℕ)
     → refusal_map view (strict_date_time_answer_or refuse behavior text)
     ≡ strict_date_time_answer_or (through view refuse) behavior text
 strict_date_time_answer-view view refuse behavior text =
-    then-view view _ _ _ _
-    (λ (value : DateAndTime). first_refusal_or-view view refuse (standard_date_time text)
-    (Ok value))
-    (date_time_answer-view view refuse behavior text)
+    let answer = date_time_answer-view view refuse behavior text in
+    let table = standard_date_time text in
+    then-view view _ _ _ _ (λ value. first_refusal_or-view view refuse table (Ok value)) answer
 
 pub date_or_timestamp-is_some : (unit : TimestampUnit) (text : List ℕ)
     → is_some (date_or_timestamp_place unit text) ≡ is_err (date_or_timestamp unit text)
 date_or_timestamp-is_some unit text =
-    or_number-is_some (option_map (date_timestamp_answer unit true) (whole_number text))
-    (option_map (λ number. fault_at_byte 0 (date_timestamp_answer unit true number))
-    (whole_number text))
-    (date_answer text) (refused_place (date_answer_or placed text))
-    (fault_at_byte-is_some (date_timestamp_answer unit true) 0 (whole_number text))
-    (refused-is_some (date_answer_or placed text) _
-    (date_answer-view (λ (refused : Refused). refused.fault) placed text))
+    let number = whole_number text in
+    let answer = date_timestamp_answer unit true in
+    let date = date_answer_or placed text in
+    let seen = date_answer-view (λ (refused : Refused). refused.fault) placed text in
+    or_number-is_some (option_map answer number)
+    (option_map (λ one. fault_at_byte 0 (answer one)) number)
+    (date_answer text) (refused_place date)
+    (fault_at_byte-is_some answer 0 number) (refused-is_some date _ seen)

@@ -35,8 +35,9 @@ pub bytes-taken : (count place number : ℕ) (text : List ℕ) → place + numbe
     → bytes_from place number (take count text) ≡ bytes_from place number text
 bytes-taken count place zero text within = refl
 bytes-taken count place (suc number) text within =
-    ap₂ (λ (byte : ℕ) (rest : List ℕ). byte ∷ rest) (get_or-take count text place 0 (omega arith))
-    (bytes-taken count (place + 1) number text (omega arith))
+    let first = get_or-take count text place 0 (omega arith) in
+    let others = bytes-taken count (place + 1) number text (omega arith) in
+    ap₂ (λ (byte : ℕ) (rest : List ℕ). byte ∷ rest) first others
 
 -- a byte of the front of a text is that of the text, or 0 after its end
 cut : (text : List ℕ) (count place : ℕ) (test : ℕ → Bool) → test 0 ≡ false
@@ -49,6 +50,13 @@ run-taken : (count : ℕ) (text : List ℕ) → prefix_len is_ascii_digit text �
 run-taken zero text within = omega (arith, within)
 run-taken (suc count) [] within = refl
 run-taken (suc count) (byte ∷ text) within = grind (arith, run-taken count text)
+
+-- a front, from a place within it on
+pub dropped-front : (place count : ℕ) (text : List ℕ) → place ≤ count
+    → drop place (take count text) ≡ take (count - place) (drop place text)
+dropped-front place count text within =
+    let left : place + (count - place) ≡ count = omega (arith, within) in
+    ap (λ (n : ℕ). drop place (take n text)) (sym left) ∙ drop-take place (count - place) text
 
 -- how many bytes a clock takes from its minute on
 abbrev pub minute_size : Bool → Bool → ℕ → ℕ
@@ -64,18 +72,19 @@ minute-taken behavior rest count false point none is two =
     rw (none, cut rest count 2 (λ byte. byte == colon) refl none) cc
 minute-taken behavior rest count true false there none five =
     let bytes = bytes-taken count 0 5 rest five in
-    let too = ap (λ (byte : ℕ). byte == colon) (get_or-take count rest 2 0 (omega (arith, five)))
-    ∙ there in
+    let byte = get_or-take count rest 2 0 (omega (arith, five)) in
+    let too = ap (λ (byte : ℕ). byte == colon) byte ∙ there in
     rw (there, too, none, cut rest count 5 is_decimal_mark refl none) cc
 minute-taken behavior rest count true true there point long =
-    let left : 6 + (count - 6) ≡ count = omega (arith, long) in
-    let few : run_length rest 6 ≤ count - 6 = omega (arith, long) in
-    let dropped = ap (λ (n : ℕ). drop 6 (take n rest)) (sym left) ∙ drop-take 6 (count - 6) rest in
-    let run : run_length (take count rest) 6 ≡ run_length rest 6 =
-    ap (prefix_len is_ascii_digit) dropped ∙ run-taken (count - 6) (drop 6 rest) few in
-    let digits : run_digits (take count rest) 6 ≡ run_digits rest 6 =
-    ap (λ (n : ℕ). take n (drop 6 (take count rest))) run ∙ ap (take (run_length rest 6)) dropped
-    ∙ take-take (run_length rest 6) (count - 6) (drop 6 rest) few in
+    let line = take count rest in
+    let size = run_length rest 6 in
+    let few : size ≤ count - 6 = omega (arith, long) in
+    let dropped = dropped-front 6 count rest (omega (arith, long)) in
+    let same = run-taken (count - 6) (drop 6 rest) few in
+    let run : run_length line 6 ≡ size = ap (prefix_len is_ascii_digit) dropped ∙ same in
+    let counted = ap (λ (n : ℕ). take n (drop 6 line)) run in
+    let taken = ap (take size) dropped ∙ take-take size (count - 6) (drop 6 rest) few in
+    let digits : run_digits line 6 ≡ run_digits rest 6 = counted ∙ taken in
     let bytes = bytes-taken count 0 6 rest (omega (arith, long)) in
     cc
 
@@ -96,10 +105,13 @@ digits-taken : (west : Bool) (sign count : ℕ) (numbers : List ℕ) (there : Bo
 digits-taken west sign count numbers there is within =
     grind (arith, nat_tests, bytes-taken, get_or-take)
 
+-- what is read of an offset is read of each front that has its bytes
+abbrev IsTaken : List ℕ → Option ℤ × ℕ → Type 0
+IsTaken rest front = (count : ℕ) → front.1 ≤ count → offset_front (take count rest) ≡ Ok front
+
 -- the offset, by what it begins with
 abbrev OffsetTaken : List ℕ → Result (Option ℤ × ℕ) ParseError → Type 0
-OffsetTaken rest answer = IfOk answer
-    (λ front. (count : ℕ) → front.1 ≤ count → offset_front (take count rest) ≡ Ok front)
+OffsetTaken rest answer = IfOk answer (IsTaken rest)
 
 signed-taken : (west : Bool) (sign : ℕ) (rest : List ℕ)
     → ((count : ℕ) → sign + offset_digits_size (drop sign rest) ≤ count
@@ -107,14 +119,9 @@ signed-taken : (west : Bool) (sign : ℕ) (rest : List ℕ)
     → OffsetTaken rest (signed_front west sign (drop sign rest))
 signed-taken west sign rest is =
     let numbers : List ℕ = drop sign rest in
-    read-rows (λ (front : Option ℤ × ℕ). (count : ℕ) → front.1 ≤ count
-    → offset_front (take count rest) ≡ Ok front) (offset_digits numbers) _
-    (λ digits. read-rows (λ (front : Option ℤ × ℕ). (count : ℕ) → front.1 ≤ count
-    → offset_front (take count rest) ≡ Ok front) (offset_ranges numbers) _
-    (λ ranges count within.
-    let left : sign + (count - sign) ≡ count = omega (arith, within) in
-    let dropped = ap (λ (n : ℕ). drop sign (take n rest)) (sym left)
-    ∙ drop-take sign (count - sign) rest in
+    read-rows (IsTaken rest) (offset_digits numbers) _ (λ digits.
+    read-rows (IsTaken rest) (offset_ranges numbers) _ (λ ranges count within.
+    let dropped = dropped-front sign count rest (omega (arith, within)) in
     is count within
     ∙ ap (signed_front west sign) dropped
     ∙ digits-taken west sign (count - sign) numbers _ refl (omega (arith, within))
@@ -139,10 +146,10 @@ none-taken rest count plus utc minus =
 offset-taken : (rest : List ℕ) → OffsetTaken rest (offset_front rest)
 offset-taken rest =
     offset-cases (OffsetTaken rest) rest
-    (λ some. signed-taken (slice_index rest 0 == hyphen) 1 rest
-    (λ count within. rw (get_or-take count rest 0 0 (omega (arith, within)), some) refl))
-    (λ none utc count within. rw (get_or-take count rest 0 0 (omega (arith, within)), none, utc)
-    refl)
+    (λ some. signed-taken (slice_index rest 0 == hyphen) 1 rest (λ count within.
+    rw (get_or-take count rest 0 0 (omega (arith, within)), some) refl))
+    (λ none utc count within.
+    rw (get_or-take count rest 0 0 (omega (arith, within)), none, utc) refl)
     (λ none other there. signed-taken true 3 rest (λ count within.
     rw (
       get_or-take count rest 0 0 (omega (arith, within)),
@@ -167,15 +174,15 @@ pub clock-read : (behavior : Behavior) (text : List ℕ) (clock : Clock)
     → ClockRead behavior text clock
 clock-read behavior text clock read =
     let rest : List ℕ = drop 3 text in
+    let with_hour = at_hour (two_digit_value text 0) in
     let Is = ClockRead behavior text in
+    let IsMinute = λ (minute : Clock). Is (with_hour minute) in
     read-value Is (clock_front behavior text) clock read
-    (read-rows Is (hour_table text) _
-    (λ hour. read-rows Is (minute_digits rest) _
-    (λ digits. read-rows Is (hour_range text) _ (λ range.
-    read-map Is (at_hour (two_digit_value text 0)) _
-    (read-rows (λ minute. Is (at_hour (two_digit_value text 0) minute))
-    (minute_table behavior rest) _
-    (λ minute. record {
+    (read-rows Is (hour_table text) _ (λ hour.
+    read-rows Is (minute_digits rest) _ (λ digits.
+    read-rows Is (hour_range text) _ (λ range.
+    read-map Is with_hour _
+    (read-rows IsMinute (minute_table behavior rest) _ (λ minute. record {
       hour = hour;
       digits = digits;
       range = range;
@@ -201,18 +208,17 @@ time_front-taken : (behavior : Behavior) (text : List ℕ)
     → IfOk (time_front behavior text) (λ front. (count : ℕ) → front.1 ≤ count → count ≤ length text
     → time_front behavior (take count text) ≡ Ok front)
 time_front-taken behavior text =
-    read-then _ _ (clock_front behavior text)
-    (λ clock read. read-then _ _ (offset_front (drop clock.size text))
-    (λ offset after count within inside.
-    let left : clock.size + (count - clock.size) ≡ count = omega (arith, within) in
-    let minute : 3 + (minute_clock (drop 3 text)).size ≤ count =
-    omega (arith, within, clock-size behavior text clock read) in
-    time_front-is behavior (take count text) clock offset
-    (clock-taken behavior text count minute inside ∙ read)
-    (ap (λ (n : ℕ). offset_front (drop clock.size (take n text))) (sym left)
-    ∙ ap offset_front (drop-take clock.size (count - clock.size) text)
-    ∙ read-value _ _ offset after (offset-taken (drop clock.size text)) (count - clock.size)
-    (omega (arith, within)))))
+    read-then _ _ (clock_front behavior text) (λ clock read.
+    read-then _ _ (offset_front (drop clock.size text)) (λ offset after count within inside.
+    let less = count - clock.size in
+    let rest : List ℕ = drop clock.size text in
+    let same = clock-size behavior text clock read in
+    let minute : 3 + (minute_clock (drop 3 text)).size ≤ count = omega (arith, within, same) in
+    let clock_is = clock-taken behavior text count minute inside ∙ read in
+    let cut_rest = dropped-front clock.size count text (omega (arith, within)) in
+    let offset_is = read-value (IsTaken rest) _ offset after (offset-taken rest) in
+    time_front-is behavior (take count text) clock offset clock_is
+    (ap offset_front cut_rest ∙ offset_is less (omega (arith, within)))))
 
 -- what is read of the bytes that it takes takes them all
 taken-alone : {A : Type 0} (fault : A → ParseError) (text : List ℕ)
@@ -225,10 +231,10 @@ pub time_front-alone : (behavior : Behavior) (text : List ℕ) (front : TimeOfDa
     → time_front behavior text ≡ Ok front → front.1 ≤ length text
     → time_answer behavior (take front.1 text) ≡ Ok front.0
 time_front-alone behavior text front read inside =
-    taken-alone (λ (time : TimeOfDay). end_fault time.offset) text
-    (time_front behavior (take front.1 text)) front inside
-    (read-value _ (time_front behavior text) front read (time_front-taken behavior text) front.1
-    (omega arith) inside)
+    let fault = λ (time : TimeOfDay). end_fault time.offset in
+    let answer = time_front behavior (take front.1 text) in
+    let taken = read-value _ _ front read (time_front-taken behavior text) in
+    taken-alone fault text answer front inside (taken front.1 (omega arith) inside)
 
 -- a date at the front of a text is that of its bytes alone, and of any more
 pub date-taken : (text : List ℕ) (count : ℕ) → 10 ≤ count → count ≤ length text
@@ -238,21 +244,21 @@ date-taken text count ten inside = grind (arith, common_steps)
 -- so a date that was read ends within its text, and is that of its bytes alone
 pub date_front-within : (text : List ℕ) → IfOk (date_front text) (λ front. front.1 ≤ length text)
 date_front-within text =
-    read-rows (λ (front : Ymd × ℕ). front.1 ≤ length text) (date_table text)
-    (Ok (date_numbers text, 10)) (λ rows. leb-true 10 (length text) rows.0)
+    let answer : Result (Ymd × ℕ) ParseError = Ok (date_numbers text, 10) in
+    let Within = λ (front : Ymd × ℕ). front.1 ≤ length text in
+    read-rows Within (date_table text) answer (λ rows. leb-true 10 (length text) rows.0)
 
 pub date_front-alone : (text : List ℕ)
     → IfOk (date_front text) (λ front. date_answer (take front.1 text) ≡ Ok front.0)
 date_front-alone text =
-    read-rows (λ (front : Ymd × ℕ). date_answer (take front.1 text) ≡ Ok front.0) (date_table text)
-    (Ok (date_numbers text, 10))
-    (λ rows.
     let front : Ymd × ℕ = (date_numbers text, 10) in
+    let answer = date_front (take 10 text) in
+    let fault = λ (date : Ymd). ParseError.ExtraCharacters in
+    let Alone = λ (read : Ymd × ℕ). date_answer (take read.1 text) ≡ Ok read.0 in
+    read-rows Alone (date_table text) (Ok front) (λ rows.
     let inside : 10 ≤ length text = leb-true 10 (length text) rows.0 in
-    taken-alone (λ (date : Ymd). ParseError.ExtraCharacters) text (date_front (take 10 text))
-    front inside
-    (date-taken text 10 (omega arith) inside
-    ∙ refusal-all fault_alone (date_table text) (Ok front) rows))
+    let met = refusal-all fault_alone (date_table text) (Ok front) rows in
+    taken-alone fault text answer front inside (date-taken text 10 (omega arith) inside ∙ met))
 
 -- a date, a separator and a time are a date-time
 pub date_time_front-is : (behavior : Behavior) (text : List ℕ) (date : Ymd × ℕ)
@@ -268,35 +274,38 @@ pub date_time_front-taken : (behavior : Behavior) (text : List ℕ)
     (λ front. (count : ℕ) → front.1 ≤ count → count ≤ length text
     → date_time_front behavior (take count text) ≡ Ok front)
 date_time_front-taken behavior text =
-    read-then _ _ (date_front text)
-    (λ date dated. read-then _ _ (first_fault_or (separator_table text)
-    (time_front behavior (drop 11 text))) (λ time read count within inside.
-    let after = refusal-ok fault_alone (separator_table text) _ time read in
-    let left : 11 + (count - 11) ≡ count = omega (arith, within) in
+    let rest : List ℕ = drop 11 text in
+    let table = separator_table text in
+    let answer = time_front behavior rest in
+    read-then _ _ (date_front text) (λ date dated.
+    read-then _ _ (first_fault_or table answer) (λ time read count within inside.
+    let after = refusal-ok fault_alone table answer time read in
+    let less = count - 11 in
+    let date_is = date-taken text count (omega (arith, within)) inside ∙ dated in
+    let byte = get_or-take count text 10 0 (omega (arith, within)) in
+    let cut_rest = dropped-front 11 count text (omega (arith, within)) in
+    let taken = read-value _ answer time after.1 (time_front-taken behavior rest) in
+    let few : less ≤ length rest = omega (arith, inside, length-drop 11 text) in
+    let time_is = taken less (omega (arith, within)) few in
     date_time_front-is behavior (take count text) date time
-    (date-taken text count (omega (arith, within)) inside ∙ dated)
-    (rw (get_or-take count text 10 0 (omega (arith, within))) after.0)
-    (ap (λ (n : ℕ). time_front behavior (drop 11 (take n text))) (sym left)
-    ∙ ap (time_front behavior) (drop-take 11 (count - 11) text)
-    ∙ read-value _ _ time after.1 (time_front-taken behavior (drop 11 text)) (count - 11)
-    (omega (arith, within)) (omega (arith, inside, length-drop 11 text)))))
+    date_is (rw byte after.0) (ap (time_front behavior) cut_rest ∙ time_is)))
 
 pub date_time_front-alone : (behavior : Behavior) (text : List ℕ) (front : DateAndTime × ℕ)
     → date_time_front behavior text ≡ Ok front → front.1 ≤ length text
     → date_time_answer behavior (take front.1 text) ≡ Ok front.0
 date_time_front-alone behavior text front read inside =
-    taken-alone (λ (value : DateAndTime). end_fault value.time.offset) text
-    (date_time_front behavior (take front.1 text)) front inside
-    (read-value _ (date_time_front behavior text) front read (date_time_front-taken behavior text)
-    front.1 (omega arith) inside)
+    let fault = λ (value : DateAndTime). end_fault value.time.offset in
+    let answer = date_time_front behavior (take front.1 text) in
+    let taken = read-value _ _ front read (date_time_front-taken behavior text) in
+    taken-alone fault text answer front inside (taken front.1 (omega arith) inside)
 
 -- so it is of what a call returns
 pub date_time_read-alone : (behavior : Behavior) (text : List ℕ)
     (result : Result (DateTime × ℕ) ParseError)
     → result_map (with_size date_and_time) result ≡ date_time_front behavior text
     → IfOk result (λ front. front.1 ≤ length text)
-    → IfOk result (λ front. date_time_answer behavior (take front.1 text)
-    ≡ Ok (date_and_time front.0))
+    → IfOk result
+    (λ front. date_time_answer behavior (take front.1 text) ≡ Ok (date_and_time front.0))
 date_time_read-alone behavior text (Ok front) is within =
     date_time_front-alone behavior text (date_and_time front.0, front.1) (sym is) within
 date_time_read-alone behavior text (Err fault) is within = tt

@@ -44,12 +44,20 @@ date_time_instant-order : (first second : DateAndTime) → IsDateAndTime first �
     ≡ ordering_then (date_order first.date second.date)
     (on (time_instant false) instant_order first.time second.time)
 date_time_instant-order first second one two =
-    let small : second_of_day first.time < seconds_per_day =
-    omega (arith, one.time.hour, one.time.minute, one.time.second) in
-    let little : second_of_day second.time < seconds_per_day =
-    omega (arith, two.time.hour, two.time.minute, two.time.second) in
-    rw (date_order-day_number first.date second.date one.date.day two.date.day)
-    (grind (arith, ints, nat_tests))
+    let small : second_of_day first.time < seconds_per_day = omega (
+      arith,
+      one.time.hour,
+      one.time.minute,
+      one.time.second,
+    ) in
+    let little : second_of_day second.time < seconds_per_day = omega (
+      arith,
+      two.time.hour,
+      two.time.minute,
+      two.time.second,
+    ) in
+    let dates = date_order-day_number first.date second.date one.date.day two.date.day in
+    rw dates (grind (arith, ints, nat_tests))
 
 -- two printed fractions are ordered as the microseconds
 fractions-order : (first second : ℕ) (one two : Bool) → (first == 0) ≡ one → (second == 0) ≡ two
@@ -69,18 +77,17 @@ pub date_time_text-order : (first second : DateAndTime) → IsDateAndTime first
     → date_time_instant_order first second
     ≡ slice_cmp nat_cmp (date_time_text first) (date_time_text second)
 date_time_text-order first second one two none nothing =
-    let texts : Ordering = slice_cmp nat_cmp (time_text first.time) (time_text second.time) in
-    let times : time_instant_order first.time second.time ≡ texts =
-    time_text-order first.time second.time one.time two.time none nothing in
-    let shown : time_instant_order first.time second.time
-    ≡ on (time_instant false) instant_order first.time second.time = rw (none) refl in
-    let all : date_time_instant_order first second
-    ≡ on (date_time_instant false) instant_order first second = rw (none) refl in
+    let text = capital_t ∷ time_text first.time in
+    let other = capital_t ∷ time_text second.time in
+    let times = time_text-order first.time second.time one.time two.time none nothing in
+    let own_times = on (time_instant false) instant_order first.time second.time in
+    let own = on (date_time_instant false) instant_order first second in
+    let shown : time_instant_order first.time second.time ≡ own_times = rw none refl in
+    let all : date_time_instant_order first second ≡ own = rw none refl in
     all
     ∙ date_time_instant-order first second one two
     ∙ ap (ordering_then (date_order first.date second.date)) (sym shown ∙ times)
-    ∙ sym (date_text-front-order first.date second.date (capital_t ∷ time_text first.time)
-    (capital_t ∷ time_text second.time))
+    ∙ sym (date_text-front-order first.date second.date text other)
 
 -- "not after" is transitive in a total order
 chain : {K : Type 0} {order : K → K → Ordering} → IsTotalOrder order → (first second third : K)
@@ -98,9 +105,10 @@ module _ {K : Type 0} (offset : K → Option ℤ) (instant : Bool → K → Inst
       → by_instant offset instant second first
       ≡ ordering_reverse (by_instant offset instant first second)
   by_instant-reversed first second =
-      ap (λ (is_utc : Bool). on (instant is_utc) instant_order second first)
-      (and_comm (is_some (offset second)) (is_some (offset first)))
-      ∙ (total (is_some (offset first) && is_some (offset second))).antisymm second first
+      let one = is_some (offset first) in
+      let two = is_some (offset second) in
+      ap (λ (is_utc : Bool). on (instant is_utc) instant_order second first) (and_comm two one)
+      ∙ (total (one && two)).antisymm second first
 
   -- and of three values that are alike the first is not after the last, where it is not after the
   -- next, and that not after the last

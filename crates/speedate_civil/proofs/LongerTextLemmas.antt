@@ -2,7 +2,6 @@
 use Rattle.std.proofs.Common.{◌≡◌, ◌∙◌, ap, sym, subst, refl, ℕ, ◌+◌, ◌-◌, ◌<◌, ◌≤◌, Bool, true, false, ◌&&◌, nat_le, nat_lt, if◌then◌else◌, List, [], ◌∷◌, length, take, drop, Option, None, Some, zero, suc, min, Result, Ok, Err, rules, arith, get_or-take, length-drop, length-take-le}
 use Rattle.std.proofs.lemmas.Bool.Decides.{nat_tests}
 use Rattle.std.proofs.lemmas.Grind.{common_steps}
-use Rattle.std.proofs.lemmas.List.{drop-take}
 use Rattle.std.specs.Char.{is_ascii_digit}
 use Rattle.std.specs.List.{prefix_len}
 use Rattle.speedate_civil.specs.Base.{Behavior, DateTimeConfig, ParseError, TimestampUnit}
@@ -23,7 +22,7 @@ use Rattle.speedate_civil.specs.Time.{Clock, TimeOfDay, at_hour, clock_answer, c
 use Rattle.speedate_civil.specs.Time.{end_fault, has_fraction, has_second, hour_range, hour_table}
 use Rattle.speedate_civil.specs.Time.{minute_clock, minute_digits, offset_digits, offset_front}
 use Rattle.speedate_civil.specs.Time.{offset_ranges, signed_front, time_front}
-use Rattle.speedate_civil.proofs.FrontLemmas.{date-taken, date_time_front-taken}
+use Rattle.speedate_civil.proofs.FrontLemmas.{date-taken, date_time_front-taken, dropped-front}
 use Rattle.speedate_civil.proofs.NumberTextLemmas.{number_answer-date, number_answer-refused}
 use Rattle.speedate_civil.proofs.NumberTextLemmas.{whole_number-none}
 use Rattle.speedate_civil.proofs.OffsetLemmas.{offset-cases}
@@ -84,8 +83,8 @@ takes-rows : {Place A : Type 0} (size : Option ℕ) (rows : List (Requirement Pl
     → AllTake size rows → Takes size next → Takes size (first_fault_or rows next)
 takes-rows size [] next takes after = after
 takes-rows size (row ∷ rows) next takes after =
-    takes-row size row.holds row.fault (first_fault_or rows next) takes.0
-    (takes-rows size rows next takes.1 after)
+    let others = takes-rows size rows next takes.1 after in
+    takes-row size row.holds row.fault (first_fault_or rows next) takes.0 others
 
 keeps-row : {A : Type 0} (count : ℕ) (test : Bool) (fault : ParseError)
     (next other : Result A ParseError)
@@ -100,8 +99,10 @@ keeps-rows : {Place A : Type 0} (count : ℕ) (rows : List (Requirement Place))
     → Keeps count (first_fault_or rows next) (first_fault_or rows other)
 keeps-rows count [] next other kept = kept
 keeps-rows count (row ∷ rows) next other kept =
-    keeps-row count row.holds row.fault (first_fault_or rows next) (first_fault_or rows other)
-    (keeps-rows count rows next other kept)
+    let others = keeps-rows count rows next other kept in
+    let next_answer = first_fault_or rows next in
+    let other_answer = first_fault_or rows other in
+    keeps-row count row.holds row.fault next_answer other_answer others
 
 -- a step after it
 keeps-then : {A B : Type 0} (count : ℕ) (next more : A → Result B ParseError)
@@ -122,8 +123,8 @@ keeps-map count view (Err fault) other kept = λ shown. ap (result_map view) (ke
 late-signed : (west : Bool) (sign : ℕ) (numbers : List ℕ)
     → Takes None (signed_front west sign numbers)
 late-signed west sign numbers =
-    takes-rows None (offset_digits numbers) _ (refl, (refl, tt))
-    (takes-rows None (offset_ranges numbers) _ (refl, (refl, tt)) tt)
+    let ranges = takes-rows None (offset_ranges numbers) _ (refl, (refl, tt)) tt in
+    takes-rows None (offset_digits numbers) _ (refl, (refl, tt)) ranges
 
 late-offset : (rest : List ℕ) → Takes None (offset_front rest)
 late-offset rest =
@@ -148,14 +149,17 @@ second_rows rest =
     else_fault ParseError.OutOfRangeSecond)
     ∷ []
 
--- what its fraction has to meet
+-- what its fraction has to meet: a point, whether digits follow it, and whether at most six do
+abbrev fraction_rows_by : Behavior → Bool → Bool → Bool → List NumberRow
+fraction_rows_by behavior point some few =
+    ((point implies some) else_fault ParseError.SecondFractionMissing)
+    ∷ (((point && refuses_digits behavior) implies few) else_fault ParseError.SecondFractionTooLong)
+    ∷ []
+
 abbrev fraction_rows : Behavior → List ℕ → List NumberRow
 fraction_rows behavior rest =
-    ((has_fraction rest implies nat_lt 0 (run_length rest 6))
-    else_fault ParseError.SecondFractionMissing)
-    ∷ (((has_fraction rest && refuses_digits behavior) implies nat_le (run_length rest 6) 6)
-    else_fault ParseError.SecondFractionTooLong)
-    ∷ []
+    let run = run_length rest 6 in
+    fraction_rows_by behavior (has_fraction rest) (nat_lt 0 run) (nat_le run 6)
 
 abbrev fraction_answer : Behavior → List ℕ → Result Clock ParseError
 fraction_answer behavior rest =
@@ -186,42 +190,39 @@ few-cut count run seven = grind (arith, nat_tests)
 fraction_rows-taken : (behavior : Behavior) (rest : List ℕ) (count : ℕ) → 13 ≤ count
     → fraction_rows behavior (take count rest) ≡ fraction_rows behavior rest
 fraction_rows-taken behavior rest count long =
-    let left : 6 + (count - 6) ≡ count = omega (arith, long) in
     let seven : 7 ≤ count - 6 = omega (arith, long) in
-    let run : run_length (take count rest) 6 ≡ min (count - 6) (run_length rest 6) =
-    ap (λ (n : ℕ). run_length (take n rest) 6) (sym left)
-    ∙ ap (prefix_len is_ascii_digit) (drop-take 6 (count - 6) rest)
-    ∙ run-cut (count - 6) (drop 6 rest) in
-    let point : has_fraction (take count rest) ≡ has_fraction rest =
-    grind (arith, get_or-take) in
+    let dropped = dropped-front 6 count rest (omega (arith, long)) in
+    let run = ap (prefix_len is_ascii_digit) dropped ∙ run-cut (count - 6) (drop 6 rest) in
+    let point : has_fraction (take count rest) ≡ has_fraction rest = grind (arith, get_or-take) in
     let some = ap (nat_lt 0) run ∙ some-cut (count - 6) (run_length rest 6) seven in
     let few = ap (λ (n : ℕ). nat_le n 6) run ∙ few-cut (count - 6) (run_length rest 6) seven in
-    λ i. ((point i implies some i) else_fault ParseError.SecondFractionMissing)
-    ∷ (((point i && refuses_digits behavior) implies few i)
-    else_fault ParseError.SecondFractionTooLong)
-    ∷ []
+    λ i. fraction_rows_by behavior (point i) (some i) (few i)
 
 keeps-fraction : (behavior : Behavior) (rest : List ℕ) (count : ℕ)
     → Keeps (14 + count) (fraction_answer behavior rest)
     (fraction_answer behavior (take count rest))
 keeps-fraction behavior rest count =
-    let line : List ℕ = take count rest in
-    keeps-taken (14 + count) (Some 27) _ _ (takes-fraction behavior rest) (λ shown.
-    subst (Keeps (14 + count) (fraction_answer behavior rest))
-    (sym (ap (λ (rows : List NumberRow). first_fault_or rows (Ok (minute_clock line)))
-    (fraction_rows-taken behavior rest count (omega (arith, shown)))))
-    (keeps-rows (14 + count) (fraction_rows behavior rest) _ (Ok (minute_clock line)) tt))
+    let size = 14 + count in
+    let clock : Result Clock ParseError = Ok (minute_clock (take count rest)) in
+    let answer = λ (rows : List NumberRow). first_fault_or rows clock in
+    let IsKept = Keeps size (fraction_answer behavior rest) in
+    let kept = keeps-rows size (fraction_rows behavior rest) (Ok (minute_clock rest)) clock tt in
+    keeps-taken size (Some 27) _ _ (takes-fraction behavior rest) (λ shown.
+    let rows = fraction_rows-taken behavior rest count (omega (arith, shown)) in
+    subst IsKept (sym (ap answer rows)) kept)
 
 -- a clock from its minute on, before which stand 14 bytes of the text
 keeps-minute : (behavior : Behavior) (rest : List ℕ) (count : ℕ) → 5 ≤ count
     → Keeps (14 + count) (clock_answer behavior rest) (clock_answer behavior (take count rest))
 keeps-minute behavior rest count five =
+    let size = 14 + count in
+    let fraction = fraction_answer behavior rest in
     let other : Result Clock ParseError = fraction_answer behavior (take count rest) in
-    subst (Keeps (14 + count) (clock_answer behavior rest))
-    (sym (ap (λ (rows : List NumberRow). first_fault_or rows other)
-    (second_rows-taken rest count five)))
-    (keeps-rows (14 + count) (second_rows rest) (fraction_answer behavior rest) other
-    (keeps-fraction behavior rest count))
+    let answer = λ (rows : List NumberRow). first_fault_or rows other in
+    let rows = ap answer (second_rows-taken rest count five) in
+    let IsKept = Keeps size (clock_answer behavior rest) in
+    let kept = keeps-fraction behavior rest count in
+    subst IsKept (sym rows) (keeps-rows size (second_rows rest) fraction other kept)
 
 -- a clock whose tables are given
 abbrev clock_by : List NumberRow → List NumberRow → List NumberRow → ℕ
@@ -234,39 +235,49 @@ clock_by hours minutes range hour clock =
 keeps-clock : (behavior : Behavior) (text : List ℕ) (count : ℕ) → 8 ≤ count → count ≤ length text
     → Keeps (11 + count) (clock_front behavior text) (clock_front behavior (take count text))
 keeps-clock behavior text count eight inside =
+    let front : List ℕ = take count text in
+    let size = 11 + count in
     let less : ℕ = count - 3 in
-    let left : 3 + less ≡ count = omega (arith, eight) in
-    let all : 14 + less ≡ 11 + count = omega (arith, eight) in
+    let all : 14 + less ≡ size = omega (arith, eight) in
     let rest : List ℕ = drop 3 text in
-    let after : drop 3 (take count text) ≡ take less rest =
-    ap (λ (n : ℕ). drop 3 (take n text)) (sym left) ∙ drop-take 3 less text in
-    let hour : unplaced (hour_table (take count text)) ≡ unplaced (hour_table text) =
-    grind (arith, common_steps) in
-    let line : List ℕ = drop 3 (take count text) in
-    let digits : unplaced (minute_digits line) ≡ unplaced (minute_digits rest) =
-    grind (arith, common_steps) in
-    let range : unplaced (hour_range (take count text)) ≡ unplaced (hour_range text) =
-    grind (arith, common_steps) in
-    let value : two_digit_value (take count text) 0 ≡ two_digit_value text 0 =
-    grind (arith, get_or-take) in
+    let line : List ℕ = drop 3 front in
+    let after : line ≡ take less rest = dropped-front 3 count text (omega (arith, eight)) in
+    let hour : unplaced (hour_table front) ≡ unplaced (hour_table text) = grind (
+      arith,
+      common_steps,
+    ) in
+    let digits : unplaced (minute_digits line) ≡ unplaced (minute_digits rest) = grind (
+      arith,
+      common_steps,
+    ) in
+    let range : unplaced (hour_range front) ≡ unplaced (hour_range text) = grind (
+      arith,
+      common_steps,
+    ) in
+    let value : two_digit_value front 0 ≡ two_digit_value text 0 = grind (arith, get_or-take) in
+    let clock = clock_answer behavior rest in
     let other : Result Clock ParseError = clock_answer behavior (take less rest) in
-    subst (Keeps (11 + count) (clock_front behavior text))
+    let five : 5 ≤ less = omega (arith, eight) in
+    let from_minute = keeps-minute behavior rest less five in
+    let minute = subst (λ (n : ℕ). Keeps n clock other) all from_minute in
+    let kept = keeps-map size (at_hour (two_digit_value text 0)) clock other minute in
+    let IsKept = Keeps size (clock_front behavior text) in
+    subst IsKept
     (sym (λ i. clock_by (hour i) (digits i) (range i) (value i) (clock_answer behavior (after i))))
-    (keeps-rows (11 + count) (hour_table text) _ _
-    (keeps-rows (11 + count) (minute_digits rest) _ _
-    (keeps-rows (11 + count) (hour_range text) _ _
-    (keeps-map (11 + count) (at_hour (two_digit_value text 0)) (clock_answer behavior rest) other
-    (subst (λ (n : ℕ). Keeps n (clock_answer behavior rest) other) all
-    (keeps-minute behavior rest less (omega (arith, eight))))))))
+    (keeps-rows size (hour_table text) _ _
+    (keeps-rows size (minute_digits rest) _ _
+    (keeps-rows size (hour_range text) _ _ kept)))
 
 keeps-time : (behavior : Behavior) (text : List ℕ) (count : ℕ) → 8 ≤ count → count ≤ length text
     → Keeps (11 + count) (time_front behavior text) (time_front behavior (take count text))
 keeps-time behavior text count eight inside =
-    keeps-then (11 + count) _ _ (clock_front behavior text) (clock_front behavior (take count text))
-    (keeps-clock behavior text count eight inside)
-    (λ clock read. keeps-late (11 + count) _ _
-    (late-then _ (offset_front (drop clock.size text)) (late-offset (drop clock.size text))
-    (λ offset. tt)))
+    let size = 11 + count in
+    let answer = clock_front behavior text in
+    let other = clock_front behavior (take count text) in
+    let kept = keeps-clock behavior text count eight inside in
+    keeps-then size _ _ answer other kept (λ clock read.
+    let rest = drop clock.size text in
+    keeps-late size _ _ (late-then _ (offset_front rest) (late-offset rest) (λ offset. tt)))
 
 -- the time after a date and a separator
 abbrev time_after : Behavior → List ℕ → Result (TimeOfDay × ℕ) ParseError
@@ -276,20 +287,21 @@ time_after behavior text =
 keeps-after : (behavior : Behavior) (text : List ℕ) (count : ℕ) → 19 ≤ count → count ≤ length text
     → Keeps count (time_after behavior text) (time_after behavior (take count text))
 keeps-after behavior text count long inside =
+    let front : List ℕ = take count text in
     let less : ℕ = count - 11 in
     let left : 11 + less ≡ count = omega (arith, long) in
     let rest : List ℕ = drop 11 text in
-    let after : drop 11 (take count text) ≡ take less rest =
-    ap (λ (n : ℕ). drop 11 (take n text)) (sym left) ∙ drop-take 11 less text in
-    let parted : separator_table (take count text) ≡ separator_table text =
-    grind (arith, get_or-take) in
-    subst (Keeps count (time_after behavior text))
-    (sym (λ i. first_fault_or (parted i) (time_front behavior (after i))))
-    (keeps-rows count (separator_table text) _ _
-    (subst (λ (n : ℕ). Keeps n (time_front behavior rest) (time_front behavior (take less rest)))
-    left
-    (keeps-time behavior rest less (omega (arith, long))
-    (omega (arith, inside, length-drop 11 text)))))
+    let eleven : 11 ≤ count = omega (arith, long) in
+    let after : drop 11 front ≡ take less rest = dropped-front 11 count text eleven in
+    let parted : separator_table front ≡ separator_table text = grind (arith, get_or-take) in
+    let answer = time_front behavior rest in
+    let other = time_front behavior (take less rest) in
+    let few : less ≤ length rest = omega (arith, inside, length-drop 11 text) in
+    let timed = keeps-time behavior rest less (omega (arith, long)) few in
+    let kept = subst (λ (n : ℕ). Keeps n answer other) left timed in
+    let IsKept = Keeps count (time_after behavior text) in
+    subst IsKept (sym (λ i. first_fault_or (parted i) (time_front behavior (after i))))
+    (keeps-rows count (separator_table text) _ _ kept)
 
 -- the date-time of a date and what follows it
 abbrev after_date : Behavior → List ℕ → Ymd × ℕ → Result (DateAndTime × ℕ) ParseError
@@ -302,14 +314,17 @@ keeps-date-time : (behavior : Behavior) (text : List ℕ) (count : ℕ) → 19 �
     → Keeps count (date_time_front behavior text) (date_time_front behavior (take count text))
 keeps-date-time behavior text count long inside =
     let line : List ℕ = take count text in
-    let same : date_front line ≡ date_front text =
-    date-taken text count (omega (arith, long)) inside in
-    keeps-then count (after_date behavior text) (after_date behavior line) (date_front text)
-    (date_front line) (keeps-same count _ _ same)
-    (λ date read. subst (Keeps count (after_date behavior text date))
-    (sym (ap (result_and_then (after_date behavior line)) (same ∙ read)))
-    (keeps-then count _ _ (time_after behavior text) (time_after behavior line)
-    (keeps-after behavior text count long inside) (λ time timed. tt)))
+    let same = date-taken text count (omega (arith, long)) inside in
+    let dated = keeps-same count (date_front text) (date_front line) same in
+    let next = after_date behavior text in
+    let more = after_date behavior line in
+    let timed = keeps-after behavior text count long inside in
+    let answer = time_after behavior text in
+    let other = time_after behavior line in
+    keeps-then count next more (date_front text) (date_front line) dated (λ date read.
+    let is = ap (result_and_then more) (same ∙ read) in
+    let kept = keeps-then count _ _ answer other timed (λ time is_time. tt) in
+    subst (Keeps count (next date)) (sym is) kept)
 
 -- A text that is as long as its fault takes, or longer than what is read at its front.
 
@@ -322,8 +337,8 @@ kept : {A : Type 0} (count size : ℕ) (answer other : Result A ParseError) (fau
     → Keeps count answer other → answer ≡ Err fault → refusal_size fault ≡ Some size → size ≤ count
     → other ≡ Err fault
 kept {A = A} count size answer other fault keeps is takes long =
-    subst (λ (given : Result A ParseError). Keeps count given other) is keeps
-    (subst (Shown count) (sym takes) long)
+    let shown = subst (Shown count) (sym takes) long in
+    subst (λ (given : Result A ParseError). Keeps count given other) is keeps shown
 
 pub date_time_answer-refused : (behavior : Behavior) (text : List ℕ) (count size : ℕ)
     (fault : ParseError)
@@ -331,10 +346,11 @@ pub date_time_answer-refused : (behavior : Behavior) (text : List ℕ) (count si
     → count ≤ length text
     → date_time_answer behavior (take count text) ≡ Err fault
 date_time_answer-refused behavior text count size fault read takes long inside =
-    ap (result_and_then (whole_or_fault (λ (value : DateAndTime). end_fault value.time.offset)
-    (take count text)))
-    (kept count size _ _ fault (keeps-date-time behavior text count
-    (long-shown fault size count takes long) inside) read takes long)
+    let end = λ (value : DateAndTime). end_fault value.time.offset in
+    let shown = long-shown fault size count takes long in
+    let keeps = keeps-date-time behavior text count shown inside in
+    let refused = kept count size _ _ fault keeps read takes long in
+    ap (result_and_then (whole_or_fault end (take count text))) refused
 
 -- a text that goes on after what it begins with
 longer : {A : Type 0} (fault : A → ParseError) (text : List ℕ) (count : ℕ) (front : A × ℕ)
@@ -342,38 +358,39 @@ longer : {A : Type 0} (fault : A → ParseError) (text : List ℕ) (count : ℕ)
     → answer ≡ Ok front → front.1 < count → count ≤ length text
     → result_and_then (whole_or_fault fault (take count text)) answer ≡ Err (fault front.0)
 longer fault text count front answer read more inside =
-    ap (result_and_then (whole_or_fault fault (take count text))) read
-    ∙ refusal-longer fault_alone fault (take count text) front.0 front.1 (λ same.
-    absurd (omega (arith, more, same, length-take-le count text inside)))
+    let line = take count text in
+    let size = length-take-le count text inside in
+    let other = λ (same : length line ≡ front.1). absurd (omega (arith, more, same, size)) in
+    ap (result_and_then (whole_or_fault fault line)) read
+    ∙ refusal-longer fault_alone fault line front.0 front.1 other
 
 -- a date at the front of a text is one of any front that is as long
 date_front-taken : (text : List ℕ) (count : ℕ) (front : Ymd × ℕ)
     → date_front text ≡ Ok front → front.1 ≤ count → count ≤ length text
     → date_front (take count text) ≡ Ok front
 date_front-taken text count front read long inside =
-    let ten : front.1 ≡ 10 =
-    read-value (λ (found : Ymd × ℕ). found.1 ≡ 10) (date_front text) front read
-    (read-rows (λ (found : Ymd × ℕ). found.1 ≡ 10) (date_table text) (Ok (date_numbers text, 10))
-    (λ rows. refl)) in
+    let IsTen = λ (found : Ymd × ℕ). found.1 ≡ 10 in
+    let rows = read-rows IsTen (date_table text) (Ok (date_numbers text, 10)) (λ rows. refl) in
+    let ten : front.1 ≡ 10 = read-value IsTen (date_front text) front read rows in
     date-taken text count (omega (arith, ten, long)) inside ∙ read
 
 pub date_answer-longer : (text : List ℕ) (count : ℕ) (front : Ymd × ℕ)
     → date_front text ≡ Ok front → front.1 < count → count ≤ length text
     → date_answer (take count text) ≡ Err ParseError.ExtraCharacters
 date_answer-longer text count front read more inside =
-    longer (λ (date : Ymd). ParseError.ExtraCharacters) text count front
-    (date_front (take count text))
-    (date_front-taken text count front read (omega (arith, more)) inside) more inside
+    let fault = λ (date : Ymd). ParseError.ExtraCharacters in
+    let taken = date_front-taken text count front read (omega (arith, more)) inside in
+    longer fault text count front (date_front (take count text)) taken more inside
 
 pub date_time_answer-longer : (behavior : Behavior) (text : List ℕ) (count : ℕ)
     (front : DateAndTime × ℕ)
     → date_time_front behavior text ≡ Ok front → front.1 < count → count ≤ length text
     → date_time_answer behavior (take count text) ≡ Err (end_fault front.0.time.offset)
 date_time_answer-longer behavior text count front read more inside =
-    longer (λ (value : DateAndTime). end_fault value.time.offset) text count front
-    (date_time_front behavior (take count text))
-    (read-value _ (date_time_front behavior text) front read (date_time_front-taken behavior text)
-    count (omega (arith, more)) inside) more inside
+    let fault = λ (value : DateAndTime). end_fault value.time.offset in
+    let is_front = read-value _ _ front read (date_time_front-taken behavior text) in
+    let taken = is_front count (omega (arith, more)) inside in
+    longer fault text count front (date_time_front behavior (take count text)) taken more inside
 
 -- Beside timestamps its fault is the same: such a text is no number.
 
@@ -388,10 +405,10 @@ pub date_or_timestamp-longer : (unit : TimestampUnit) (text : List ℕ) (count :
     → date_or_timestamp unit (take count text) ≡ Err ParseError.ExtraCharacters
 date_or_timestamp-longer unit text count front read more inside =
     let line : List ℕ = take count text in
-    no_timestamp unit line ParseError.ExtraCharacters
-    (date_answer-longer text count front read more inside)
-    (whole_number-none line (number_answer-date line front
-    (date_front-taken text count front read (omega (arith, more)) inside)))
+    let refused = date_answer-longer text count front read more inside in
+    let taken = date_front-taken text count front read (omega (arith, more)) inside in
+    let none = whole_number-none line (number_answer-date line front taken) in
+    no_timestamp unit line ParseError.ExtraCharacters refused none
 
 no_number : (config : DateTimeConfig) (text : List ℕ) (fault : ParseError)
     → date_time_answer config.time_config.microseconds_precision_overflow_behavior text ≡ Err fault
@@ -411,9 +428,11 @@ pub date_time_by_config-refused : (config : DateTimeConfig) (text : List ℕ) (c
 date_time_by_config-refused config text count size fault read takes long inside =
     let line : List ℕ = take count text in
     let behavior = config.time_config.microseconds_precision_overflow_behavior in
+    let answer = date_time_answer behavior line in
     let refused = date_time_answer-refused behavior text count size fault read takes long inside in
-    no_number config line fault refused (number_answer-refused line (date_time_answer behavior line)
-    fault (λ other is. rw is refl) refused (no_number-shown fault size takes))
+    let shown = no_number-shown fault size takes in
+    no_number config line fault refused
+    (number_answer-refused line answer fault (λ other is. rw is refl) refused shown)
 
 pub date_time_by_config-longer : (config : DateTimeConfig) (text : List ℕ) (count : ℕ)
     (front : DateAndTime × ℕ)
@@ -423,10 +442,9 @@ pub date_time_by_config-longer : (config : DateTimeConfig) (text : List ℕ) (co
 date_time_by_config-longer config text count front read more inside =
     let line : List ℕ = take count text in
     let behavior = config.time_config.microseconds_precision_overflow_behavior in
-    let taken : date_time_front behavior line ≡ Ok front =
-    read-value _ (date_time_front behavior text) front read (date_time_front-taken behavior text)
-    count (omega (arith, more)) inside in
+    let is_front = read-value _ _ front read (date_time_front-taken behavior text) in
+    let taken = is_front count (omega (arith, more)) inside in
     let dated = and_then-ok (after_date behavior line) (date_front line) front taken in
-    no_number config line (end_fault front.0.time.offset)
-    (date_time_answer-longer behavior text count front read more inside)
-    (number_answer-date line dated.0 dated.1)
+    let refused = date_time_answer-longer behavior text count front read more inside in
+    let none = number_answer-date line dated.0 dated.1 in
+    no_number config line (end_fault front.0.time.offset) refused none

@@ -40,8 +40,7 @@ joined first second text before after k below = elim (cases_lt k first) [
   | inl small ↦ before k small
   | inr large ↦
       let place : first + (k - first) ≡ k = omega (arith, large) in
-      let there : slice_index (drop first text) (k - first) ≡ slice_index text k =
-      get_or-drop first text (k - first) 0 ∙ ap (slice_index text) place in
+      let there = get_or-drop first text (k - first) 0 ∙ ap (slice_index text) place in
       subst (λ (byte : ℕ). space ≤ byte) there (after (k - first) (omega (arith, below, large)))
 ]
 
@@ -63,9 +62,18 @@ mark byte is = grind (arith, nat_tests)
 is_colon : (byte : ℕ) → (byte == colon) ≡ true → space ≤ byte
 is_colon byte is = grind (arith, nat_tests)
 
+-- two digits after bytes
+digits_after : (place : ℕ) (text : List ℕ) → HasNoControl place text
+    → two_digits_at text place ≡ true → HasNoControl (place + 2) text
+digits_after place text before are =
+    let one : suc place ≡ place + 1 = omega arith in
+    let two : suc (suc place) ≡ place + 2 = omega arith in
+    let first = more place text before (first_digit text place are) in
+    let second : space ≤ slice_index text (suc place) = rw one (second_digit text place are) in
+    subst (λ (count : ℕ). HasNoControl count text) two (more (suc place) text first second)
+
 two_digits : (text : List ℕ) → two_digits_at text 0 ≡ true → HasNoControl 2 text
-two_digits text are = more 1 text (more 0 text (none text)
-    (first_digit text 0 are)) (second_digit text 0 are)
+two_digits text are = digits_after 0 text (none text) are
 
 run : (text : List ℕ) (place : ℕ) → HasNoControl (run_length text place) (drop place text)
 run text place k below = digit _ (prefix_len_passes is_ascii_digit (drop place text) k 0 below)
@@ -74,30 +82,27 @@ run text place k below = digit _ (prefix_len_passes is_ascii_digit (drop place t
 year : (text : List ℕ) → four_digits_at text 0 ≡ true → HasNoControl 4 text
 year text are =
     let both = and_parts (two_digits_at text 0) (two_digits_at text 2) are in
-    more 3 text (more 2 text (two_digits text both.0) (first_digit text 2 both.1))
-    (second_digit text 2 both.1)
+    digits_after 2 text (two_digits text both.0) both.1
 
 date_rows : (text : List ℕ) → AllHold (date_table text) → HasNoControl 10 text
 date_rows text rows =
-    more 9 text (more 8 text (more 7 text
-    (more 6 text (more 5 text (more 4 text (year text rows.1.0)
-    (grind (arith, nat_tests)))
-    (first_digit text 5 rows.1.1.1.0)) (second_digit text 5 rows.1.1.1.0))
-    (grind (arith, nat_tests)))
-    (first_digit text 8 rows.1.1.1.1.1.0)) (second_digit text 8 rows.1.1.1.1.1.0)
+    let to_hyphen = more 4 text (year text rows.1.0) (grind (arith, nat_tests)) in
+    let to_month = digits_after 5 text to_hyphen rows.1.1.1.0 in
+    let to_second_hyphen = more 7 text to_month (grind (arith, nat_tests)) in
+    digits_after 8 text to_second_hyphen rows.1.1.1.1.1.0
 
 pub date_front-no_control : (text : List ℕ)
     → IfOk (date_front text) (λ front. HasNoControl front.1 text)
 date_front-no_control text =
-    read-rows (λ (front : Ymd × ℕ). HasNoControl front.1 text) (date_table text)
-    (Ok (date_numbers text, 10)) (date_rows text)
+    let IsPrinted = λ (front : Ymd × ℕ). HasNoControl front.1 text in
+    read-rows IsPrinted (date_table text) (Ok (date_numbers text, 10)) (date_rows text)
 
 -- a clock, from its minute on
 to_second : (rest : List ℕ) → has_second rest ≡ true → two_digits_at rest 0 ≡ true
     → two_digits_at rest 3 ≡ true → HasNoControl 5 rest
 to_second rest there digits seconds =
-    more 4 rest (more 3 rest (more 2 rest (two_digits rest digits) (is_colon _ there))
-    (first_digit rest 3 seconds)) (second_digit rest 3 seconds)
+    let to_colon = more 2 rest (two_digits rest digits) (is_colon _ there) in
+    digits_after 3 rest to_colon seconds
 
 minute : (rest : List ℕ) (second point : Bool) → has_second rest ≡ second
     → has_decimal_mark rest ≡ point
@@ -106,20 +111,20 @@ minute : (rest : List ℕ) (second point : Bool) → has_second rest ≡ second
 minute rest false point other unread digits seconds = two_digits rest digits
 minute rest true false there unread digits seconds = to_second rest there digits seconds
 minute rest true true there point digits seconds =
-    joined 6 (run_length rest 6) rest
-    (more 5 rest (to_second rest there digits seconds) (mark _ point)) (run rest 6)
+    let to_point = more 5 rest (to_second rest there digits seconds) (mark _ point) in
+    joined 6 (run_length rest 6) rest to_point (run rest 6)
 
 -- a clock, from its hour on
-clock-no_control : (behavior : Behavior) (text : List ℕ)
-    (clock : Clock) → clock_front behavior text ≡ Ok clock
-    → HasNoControl clock.size text
+clock-no_control : (behavior : Behavior) (text : List ℕ) (clock : Clock)
+    → clock_front behavior text ≡ Ok clock → HasNoControl clock.size text
 clock-no_control behavior text clock read =
     let rows = clock-read behavior text clock read in
     let rest : List ℕ = drop 3 text in
-    subst (λ (size : ℕ). HasNoControl size text) (clock-size behavior text clock read)
-    (joined 3 (minute_clock rest).size text
-    (more 2 text (two_digits text rows.hour.1.0) (is_colon _ rows.hour.1.1.0))
-    (minute rest (has_second rest) (has_decimal_mark rest) refl refl rows.digits.0 rows.minute.1.0))
+    let to_colon = more 2 text (two_digits text rows.hour.1.0) (is_colon _ rows.hour.1.1.0) in
+    let after = minute rest (has_second rest) (has_decimal_mark rest) refl refl in
+    let from_minute = after rows.digits.0 rows.minute.1.0 in
+    let printed = joined 3 (minute_clock rest).size text to_colon from_minute in
+    subst (λ (size : ℕ). HasNoControl size text) (clock-size behavior text clock read) printed
 
 -- an offset, after its sign
 offset_numbers : (numbers : List ℕ) (there : Bool) → (slice_index numbers 2 == colon) ≡ there
@@ -127,24 +132,21 @@ offset_numbers : (numbers : List ℕ) (there : Bool) → (slice_index numbers 2 
     → HasNoControl (offset_digits_size numbers) numbers
 offset_numbers numbers true there rows =
     let digits : two_digits_at numbers 3 ≡ true = rw there at rows.1.0 in
-    rw there (more 4 numbers (more 3 numbers
-    (more 2 numbers (two_digits numbers rows.0) (is_colon _ there))
-    (first_digit numbers 3 digits)) (second_digit numbers 3 digits))
+    let to_colon = more 2 numbers (two_digits numbers rows.0) (is_colon _ there) in
+    rw there (digits_after 3 numbers to_colon digits)
 offset_numbers numbers false other rows =
     let digits : two_digits_at numbers 2 ≡ true = rw other at rows.1.0 in
-    rw other (more 3 numbers (more 2 numbers (two_digits numbers rows.0)
-    (first_digit numbers 2 digits)) (second_digit numbers 2 digits))
+    rw other (digits_after 2 numbers (two_digits numbers rows.0) digits)
 
 signed : (west : Bool) (sign : ℕ) (rest : List ℕ) → HasNoControl sign rest
     → IfOk (signed_front west sign (drop sign rest)) (λ front. HasNoControl front.1 rest)
 signed west sign rest before =
     let numbers : List ℕ = drop sign rest in
-    read-rows (λ (front : Option ℤ × ℕ). HasNoControl front.1 rest) (offset_digits numbers) _
-    (λ digits.
-    read-rows (λ (front : Option ℤ × ℕ). HasNoControl front.1 rest) (offset_ranges numbers) _
-    (λ ranges.
-    joined sign (offset_digits_size numbers) rest before
-    (offset_numbers numbers (slice_index numbers 2 == colon) refl digits)))
+    let IsPrinted = λ (front : Option ℤ × ℕ). HasNoControl front.1 rest in
+    read-rows IsPrinted (offset_digits numbers) _ (λ digits.
+    let after = offset_numbers numbers (slice_index numbers 2 == colon) refl digits in
+    let printed = joined sign (offset_digits_size numbers) rest before after in
+    read-rows IsPrinted (offset_ranges numbers) _ (λ ranges. printed))
 
 -- an offset, by what it begins with
 sign_byte : (byte : ℕ) → is_plus_or_minus byte ≡ true → space ≤ byte
@@ -155,16 +157,17 @@ utc_byte byte is = grind (arith, nat_tests)
 
 minus_sign : (rest : List ℕ) → has_minus_sign rest ≡ true → HasNoControl 3 rest
 minus_sign rest there =
-    more 2 rest (more 1 rest (more 0 rest (none rest) (grind (arith, nat_tests)))
-    (grind (arith, nat_tests))) (grind (arith, nat_tests))
+    let first = more 0 rest (none rest) (grind (arith, nat_tests)) in
+    let second = more 1 rest first (grind (arith, nat_tests)) in
+    more 2 rest second (grind (arith, nat_tests))
 
 offset : (rest : List ℕ) → IfOk (offset_front rest) (λ front. HasNoControl front.1 rest)
 offset rest =
-    offset-cases (λ (answer : Result (Option ℤ × ℕ) ParseError). IfOk answer
-    (λ front. HasNoControl front.1 rest)) rest
-    (λ some. signed (slice_index rest 0 == hyphen) 1 rest
-    (more 0 rest (none rest) (sign_byte _ some)))
-    (λ other utc. more 0 rest (none rest) (utc_byte _ utc))
+    let IsPrinted = λ (front : Option ℤ × ℕ). HasNoControl front.1 rest in
+    let first = more 0 rest (none rest) in
+    offset-cases (λ answer. IfOk answer IsPrinted) rest
+    (λ some. signed (slice_index rest 0 == hyphen) 1 rest (first (sign_byte _ some)))
+    (λ other utc. first (utc_byte _ utc))
     (λ other unread there. signed true 3 rest (minus_sign rest there))
     (λ other unread nothing. none rest)
 
@@ -172,11 +175,12 @@ offset rest =
 pub time_front-no_control : (behavior : Behavior) (text : List ℕ)
     → IfOk (time_front behavior text) (λ front. HasNoControl front.1 text)
 time_front-no_control behavior text =
-    read-then _ _ (clock_front behavior text)
-    (λ clock read. read-then _ _ (offset_front (drop clock.size text)) (λ front after.
-    joined clock.size front.1 text (clock-no_control behavior text clock read)
-    (read-value _ (offset_front (drop clock.size text)) front after
-    (offset (drop clock.size text)))))
+    read-then _ _ (clock_front behavior text) (λ clock read.
+    let rest : List ℕ = drop clock.size text in
+    let before = clock-no_control behavior text clock read in
+    read-then _ _ (offset_front rest) (λ front after.
+    let printed = read-value _ (offset_front rest) front after (offset rest) in
+    joined clock.size front.1 text before printed))
 
 -- a date-time: a date, a separator and a time
 separator : (byte : ℕ) → is_separator byte ≡ true → space ≤ byte
@@ -186,12 +190,13 @@ pub date_time_front-no_control : (behavior : Behavior) (text : List ℕ)
     → IfOk (date_time_front behavior text) (λ front. HasNoControl front.1 text)
 date_time_front-no_control behavior text =
     let rest : List ℕ = drop 11 text in
-    read-then _ _ (date_front text)
-    (λ date dated. read-then _ _ (first_fault_or (separator_table text) (time_front behavior rest))
-    (λ time read.
-    let after = refusal-ok fault_alone (separator_table text) (time_front behavior rest) time
-    read in
-    let rows = (refusal-ok fault_alone (date_table text) (Ok (date_numbers text, 10)) date
-    dated).0 in
-    joined 11 time.1 text (more 10 text (date_rows text rows) (separator _ after.0.0))
-    (read-value _ (time_front behavior rest) time after.1 (time_front-no_control behavior rest))))
+    let answer = time_front behavior rest in
+    let table = separator_table text in
+    let value : Result (Ymd × ℕ) ParseError = Ok (date_numbers text, 10) in
+    read-then _ _ (date_front text) (λ date dated.
+    let rows = (refusal-ok fault_alone (date_table text) value date dated).0 in
+    read-then _ _ (first_fault_or table answer) (λ time read.
+    let after = refusal-ok fault_alone table answer time read in
+    let before = more 10 text (date_rows text rows) (separator _ after.0.0) in
+    let printed = read-value _ answer time after.1 (time_front-no_control behavior rest) in
+    joined 11 time.1 text before printed))

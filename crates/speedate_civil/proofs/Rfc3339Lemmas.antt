@@ -53,16 +53,17 @@ bytes-are : (count place : ℕ) (text : List ℕ) → place + count ≤ length t
     → take count (drop place text) ≡ bytes_from place count text
 bytes-are zero place text within = refl
 bytes-are (suc count) place text within =
+    let others = bytes-are count (place + 1) text (omega arith) in
     ap (take (suc count)) (drop_more text place 0 (omega arith))
-    ∙ ap (λ (rest : List ℕ). slice_index text place ∷ rest)
-    (bytes-are count (place + 1) text (omega arith))
+    ∙ ap (λ (rest : List ℕ). slice_index text place ∷ rest) others
 
 -- a text by its first bytes and the rest
 split : (P : List ℕ → Type 0) (count : ℕ) (text : List ℕ) → count ≤ length text
     → P (bytes_from 0 count text ++ drop count text) → P text
 split P count text within =
-    subst P (ap (λ (front : List ℕ). front ++ drop count text)
-    (sym (bytes-are count 0 text (omega (arith, within)))) ∙ take-append-drop count text)
+    let front_is = sym (bytes-are count 0 text (omega (arith, within))) in
+    let front = ap (λ (bytes : List ℕ). bytes ++ drop count text) front_is in
+    subst P (front ∙ take-append-drop count text)
 
 -- they are the text of the number that they spell
 spelled : (text : List ℕ) (place : ℕ) → two_digits_at text place ≡ true
@@ -113,28 +114,27 @@ clock-parts : (behavior : Behavior) (a b c d e f g h : ℕ) (more : List ℕ) (c
 clock-parts behavior a b c d e f g h more clock false none read second plain =
     let text : List ℕ = a ∷ b ∷ c ∷ d ∷ e ∷ f ∷ g ∷ h ∷ more in
     let rows = clock-read behavior text clock read in
-    let size : 8 ≡ clock.size =
-    rw (second, none, plain) at (ap (λ (found : Clock). found.size) rows.is) in (
-      subst (λ (n : ℕ). IsPartialTime behavior (take n text)) size
-          (clock-of behavior a b c d e f g h more [] clock rows second (inl refl)),
-      rw none (sym size),
-    )
+    let size_of = ap (λ (found : Clock). found.size) rows.is in
+    let size : 8 ≡ clock.size = rw (second, none, plain) at size_of in
+    let time = clock-of behavior a b c d e f g h more [] clock rows second (inl refl) in
+    (subst (λ (n : ℕ). IsPartialTime behavior (take n text)) size time, rw none (sym size))
 clock-parts behavior a b c d e f g h [] clock true there read second plain = absurd (cc)
 clock-parts behavior a b c d e f g h (mark ∷ digits) clock true there read second plain =
     let text : List ℕ = a ∷ b ∷ c ∷ d ∷ e ∷ f ∷ g ∷ h ∷ mark ∷ digits in
     let run = prefix_len is_ascii_digit digits in
     let rows = clock-read behavior text clock read in
-    let size : 3 + (6 + run) ≡ clock.size =
-    rw (second, there) at (ap (λ (found : Clock). found.size) rows.is) in
-    let long : suc (suc (suc (suc (suc (suc (suc (suc (suc run)))))))) ≡ clock.size =
-    omega (arith, size) in
-    let part = subst (λ (byte : ℕ). IsSecfrac behavior (byte ∷ take run digits))
-    (sym (eqb-true mark full_stop there))
-    (secfrac-of behavior digits (search rules) (search rules)) in (
-      subst (λ (n : ℕ). IsPartialTime behavior (take n text)) long
-          (clock-of behavior a b c d e f g h (mark ∷ digits) (mark ∷ take run digits)
-          clock rows second
-          (inr part)),
+    let size_of = ap (λ (found : Clock). found.size) rows.is in
+    let size : 3 + (6 + run) ≡ clock.size = rw (second, there) at size_of in
+    let nine_more = suc (suc (suc (suc (suc (suc (suc (suc (suc run)))))))) in
+    let long : nine_more ≡ clock.size = omega (arith, size) in
+    let more : List ℕ = mark ∷ digits in
+    let fraction : List ℕ = mark ∷ take run digits in
+    let point = sym (eqb-true mark full_stop there) in
+    let pointed = secfrac-of behavior digits (search rules) (search rules) in
+    let IsPart = λ (byte : ℕ). IsSecfrac behavior (byte ∷ take run digits) in
+    let part = subst IsPart point pointed in
+    let time = clock-of behavior a b c d e f g h more fraction clock rows second (inr part) in (
+      subst (λ (n : ℕ). IsPartialTime behavior (take n text)) long time,
       rw there (omega (arith, size)),
     )
 
@@ -144,13 +144,12 @@ numoffset : (byte : ℕ) (numbers : List ℕ) → is_plus_or_minus byte ≡ true
     → IfOk (signed_front (byte == hyphen) 1 numbers)
     (λ front. front.1 ≡ length (byte ∷ numbers) → IsTimeOffset (byte ∷ numbers))
 numoffset byte numbers some there =
-    read-rows _ (offset_digits numbers) _
-    (λ digits. read-rows _ (offset_ranges numbers) _ (λ ranges whole.
+    read-rows _ (offset_digits numbers) _ (λ digits.
+    read-rows _ (offset_ranges numbers) _ (λ ranges whole.
     let five : length numbers ≡ 5 = search rules in
-    inr (inr (subst (λ (text : List ℕ). IsNumoffset (byte ∷ text))
-    (sym (bytes-are 5 0 numbers (omega (arith, five)))
-    ∙ take_all 5 numbers (omega (arith, five)))
-    (record {
+    let front_is = sym (bytes-are 5 0 numbers (omega (arith, five))) in
+    let bytes = front_is ∙ take_all 5 numbers (omega (arith, five)) in
+    let numbered : IsNumoffset (byte ∷ bytes_from 0 5 numbers) = record {
       sign = byte;
       hour = bytes_from 0 2 numbers;
       minute = bytes_from 3 2 numbers;
@@ -158,22 +157,30 @@ numoffset byte numbers some there =
       is_hour = two-digits 23 numbers 0 digits.0 (search rules);
       is_minute = two-digits 59 numbers 3 (search rules) (search rules);
       together = search rules;
-    })))))
+    } in
+    inr (inr (subst (λ (text : List ℕ). IsNumoffset (byte ∷ text)) bytes numbered))))
 
 -- an offset of the rules, by what it begins with
 offset-all : (rest : List ℕ) → AllHold (standard_offset rest)
     → IfOk (offset_front rest) (λ front. front.1 ≡ length rest → IsTimeOffset rest)
 offset-all [] rows = absurd (cc)
 offset-all (byte ∷ numbers) rows =
-    offset-cases (λ answer. IfOk answer (λ front. front.1 ≡ length (byte ∷ numbers)
-    → IsTimeOffset (byte ∷ numbers))) (byte ∷ numbers)
+    let text : List ℕ = byte ∷ numbers in
+    let Whole = λ (front : Option ℤ × ℕ). front.1 ≡ length text → IsTimeOffset text in
+    let IsOne = λ (left : List ℕ). IsTimeOffset (byte ∷ left) in
+    offset-cases (λ answer. IfOk answer Whole) text
     (λ some. numoffset byte numbers some (search rules))
     (λ none utc one.
     let ended : numbers ≡ [] = nil_from_length numbers (omega (arith, one)) in
-    subst (λ (left : List ℕ). IsTimeOffset (byte ∷ left)) (sym ended)
-    (search rules))
+    subst IsOne (sym ended) (search rules))
     (λ none other there. let not_there = not-true _ rows.1.0 in absurd (cc))
     (λ none other nothing one. absurd (omega (arith, one)))
+
+-- a text whose clock is read with a second and no comma begins with a partial time
+abbrev IsParted : Behavior → Clock → List ℕ → Type 0
+IsParted behavior clock text = clock_front behavior text ≡ Ok clock
+    → (slice_index text 5 == colon) ≡ true → (slice_index text 8 == comma) ≡ false
+    → IsPartialTime behavior (take clock.size text) × (clock.size ≡ offset_place text)
 
 partial-time-of : (behavior : Behavior) (text : List ℕ) (clock : Clock)
     → clock_front behavior text ≡ Ok clock
@@ -181,34 +188,33 @@ partial-time-of : (behavior : Behavior) (text : List ℕ) (clock : Clock)
     → (slice_index text 8 == comma) ≡ false
     → IsPartialTime behavior (take clock.size text) × (clock.size ≡ offset_place text)
 partial-time-of behavior text clock read inside second plain =
-    let there : has_second (drop 3 text) ≡ true =
-    ap (λ (byte : ℕ). byte == colon) (get_or-drop 3 text 2 0) ∙ second in
+    let rest = drop 3 text in
+    let colon_is = ap (λ (byte : ℕ). byte == colon) (get_or-drop 3 text 2 0) in
+    let there : has_second rest ≡ true = colon_is ∙ second in
     let size = rw there at (clock-size behavior text clock read) in
-    let five : 5 ≤ minute_size true (has_decimal_mark (drop 3 text)) (run_length (drop 3 text) 6) =
-    search rules in
-    split (λ (bytes : List ℕ). clock_front behavior bytes ≡ Ok clock
-    → (slice_index bytes 5 == colon) ≡ true → (slice_index bytes 8 == comma) ≡ false
-    → IsPartialTime behavior (take clock.size bytes) × (clock.size ≡ offset_place bytes)) 8 text
-    (omega arith)
-    (λ same there none. clock-parts behavior _ _ _ _ _ _ _ _ (drop 8 text)
-    clock _ refl same there none) read second plain
+    let five : 5 ≤ minute_size true (has_decimal_mark rest) (run_length rest 6) = search rules in
+    split (IsParted behavior clock) 8 text (omega arith) (λ same there none.
+    clock-parts behavior _ _ _ _ _ _ _ _ (drop 8 text) clock _ refl same there none)
+    read second plain
 
 -- what the strict reader takes as a time is one by the rules
 full-time-of : (behavior : Behavior) (text : List ℕ) → AllHold (standard_time text)
     → IfOk (time_front behavior text) (λ front. front.1 ≡ length text → IsFullTime behavior text)
 full-time-of behavior text rows =
-    read-then _ _ (clock_front behavior text)
-    (λ clock read. read-then _ _ (offset_front (drop clock.size text)) (λ offset after whole.
-    let parts = partial-time-of behavior text clock read (omega (arith, whole)) rows.0
-    (not-true (slice_index text 8 == comma) rows.1.0) in
-    let standard =
-    subst (λ (place : ℕ). AllHold (standard_offset (drop place text))) (sym parts.1) rows.1.1 in
+    let Meets = λ (place : ℕ). AllHold (standard_offset (drop place text)) in
+    let plain = not-true (slice_index text 8 == comma) rows.1.0 in
+    read-then _ _ (clock_front behavior text) (λ clock read.
+    let rest : List ℕ = drop clock.size text in
+    read-then _ _ (offset_front rest) (λ offset after whole.
+    let inside : clock.size ≤ length text = omega (arith, whole) in
+    let parts = partial-time-of behavior text clock read inside rows.0 plain in
+    let standard = subst Meets (sym parts.1) rows.1.1 in
+    let all : offset.1 ≡ length rest = omega (arith, whole, length-drop clock.size text) in
     record {
       time = take clock.size text;
-      offset = drop clock.size text;
+      offset = rest;
       is_time = parts.0;
-      is_offset = read-value _ _ offset after (offset-all (drop clock.size text) standard)
-          (omega (arith, whole, length-drop clock.size text));
+      is_offset = read-value _ _ offset after (offset-all rest standard) all;
       together = sym (take-append-drop clock.size text);
     }))
 
@@ -258,77 +264,88 @@ taken-of : (behavior : Behavior) (text offset : List ℕ) (clock : Clock) → Of
     → (slice_index text 5 == colon) ≡ true → (slice_index text 8 == comma) ≡ false
     → clock.size ≡ offset_place text → Taken behavior text
 taken-of behavior text offset clock after read rest long second plain place =
-    let front : TimeOfDay × ℕ =
-    (clock_with_offset clock after.front.0, clock.size + after.front.1) in
+    let time = clock_with_offset clock after.front.0 in
+    let size = clock.size + after.front.1 in
     let fault = λ (value : TimeOfDay). end_fault value.offset in
-    let is : time_front behavior text ≡ Ok front =
-    time_front-is behavior text clock after.front read (ap offset_front rest ∙ after.read) in
-    let rows : AllHold (standard_offset (drop (offset_place text) text)) = search rules in (
-      front.0,
-      (
-        ap (result_and_then (whole_or_fault fault text)) is
-            ∙ refusal-whole fault_alone fault text front.0 front.1
-            (omega (arith, long, after.whole)),
-        (second, (search rules, rows)),
-      ),
-    )
+    let offset_is = ap offset_front rest ∙ after.read in
+    let front = time_front-is behavior text clock after.front read offset_is in
+    let all : length text ≡ size = omega (arith, long, after.whole) in
+    let whole = refusal-whole fault_alone fault text time size all in
+    let is = ap (result_and_then (whole_or_fault fault text)) front ∙ whole in
+    let rows : AllHold (standard_offset (drop (offset_place text) text)) = search rules in
+    (time, (is, (second, (search rules, rows))))
+
+-- the text of a time by its parts
+abbrev parts_text : ℕ → ℕ → ℕ → List ℕ → List ℕ → List ℕ
+parts_text hour minute second fraction offset =
+    two_digit_text hour ++ colon ∷ minute_text minute second ++ fraction ++ offset
 
 taken-parts : (behavior : Behavior) (hour minute second : ℕ) (fraction offset : List ℕ) → hour ≤ 23
     → minute ≤ 59 → second ≤ 59
     → (fraction ≡ []) ⊎ IsSecfrac behavior fraction → OffsetRead offset
-    → Taken behavior (two_digit_text hour ++ colon ∷ minute_text minute second ++ fraction
-    ++ offset)
+    → Taken behavior (parts_text hour minute second fraction offset)
 taken-parts behavior hour minute second fraction offset small_hour small_minute small_second
     (inl none) after =
     let text = two_digit_text hour ++ colon ∷ minute_text minute second ++ offset in
-    subst (λ (part : List ℕ). Taken behavior
-    (two_digit_text hour ++ colon ∷ minute_text minute second ++ part ++ offset)) (sym none)
-    (taken-of behavior text offset _ after
-    (front-printed behavior hour minute second offset _ small_hour small_minute
-    (clock-whole behavior minute second offset small_minute small_second after.no_mark)) refl
-    (omega arith) refl (search rules) (search rules))
+    let IsOne = λ (part : List ℕ). Taken behavior (parts_text hour minute second part offset) in
+    let clock = clock-whole behavior minute second offset small_minute small_second after.no_mark in
+    let front = front-printed behavior hour minute second offset _ small_hour small_minute clock in
+    let taken = taken-of behavior text offset _ after front refl in
+    subst IsOne (sym none) (taken (omega arith) refl (search rules) (search rules))
 taken-parts behavior hour minute second fraction offset small_hour small_minute small_second
     (inr part) after =
     let digits = part.digits in
-    let text = two_digit_text hour ++ colon ∷ minute_text minute second ++ full_stop ∷ digits
-    ++ offset in
-    let size : 3 + (6 + length digits)
-    ≡ suc (suc (suc (suc (suc (suc (suc (suc (suc (length digits))))))))) = omega arith in
-    let rest : drop (3 + (6 + length digits)) text ≡ offset =
-    ap (λ (n : ℕ). drop n text) size ∙ drop-append_seam digits offset in
+    let more = full_stop ∷ digits ++ offset in
+    let text = parts_text hour minute second (full_stop ∷ digits) offset in
+    let IsOne = λ (cut : List ℕ). Taken behavior (parts_text hour minute second cut offset) in
+    let nine_more = suc (suc (suc (suc (suc (suc (suc (suc (suc (length digits))))))))) in
+    let size : 3 + (6 + length digits) ≡ nine_more = omega arith in
+    let rest = ap (λ (n : ℕ). drop n text) size ∙ drop-append_seam digits offset in
     let run = run_length-append digits offset part.are_digits in
     let none = run_length-none offset after.no_digit in
-    subst (λ (cut : List ℕ). Taken behavior
-    (two_digit_text hour ++ colon ∷ minute_text minute second ++ cut ++ offset))
-    (sym part.together)
-    (taken-of behavior text offset _ after
-    (front-printed behavior hour minute second (full_stop ∷ digits ++ offset)
-    _ small_hour small_minute
-    (clock-secfrac behavior minute second digits offset small_minute small_second part.are_digits
-    part.some part.few after.no_digit)) rest
-    (omega (arith, length-append digits offset)) refl refl (omega (arith, run, none)))
+    let pointed = clock-secfrac behavior minute second digits offset small_minute small_second in
+    let clock = pointed part.are_digits part.some part.few after.no_digit in
+    let front = front-printed behavior hour minute second more _ small_hour small_minute clock in
+    let taken = taken-of behavior text offset _ after front rest in
+    let long = length-append digits offset in
+    subst IsOne (sym part.together)
+    (taken (omega (arith, long)) refl refl (omega (arith, run, none)))
+
+-- the text of a clock by its parts, which are the texts of numbers
+abbrev clock_text : List ℕ → List ℕ → List ℕ → List ℕ → List ℕ
+clock_text hour minute second fraction = hour ++ colon ∷ minute ++ colon ∷ second ++ fraction
+
+parts-spelled : (behavior : Behavior) (text : List ℕ) (time : IsPartialTime behavior text)
+    → clock_text time.hour time.minute time.second time.fraction
+    ≡ clock_text (two_digit_text time.is_hour.number) (two_digit_text time.is_minute.number)
+    (two_digit_text time.is_second.number) time.fraction
+parts-spelled behavior text time =
+    let hour = time.is_hour in
+    let minute = time.is_minute in
+    let second = time.is_second in
+    λ i. clock_text (hour.together i) (minute.together i) (second.together i) time.fraction
 
 -- and a time of the rules is taken
 full-time-taken : (behavior : Behavior) (text : List ℕ) → IsFullTime behavior text
     → Taken behavior text
 full-time-taken behavior text is =
     let time = is.is_time in
-    let parts : time.hour ++ colon ∷ time.minute ++ colon ∷ time.second ++ time.fraction
-    ≡ two_digit_text time.is_hour.number ++ colon ∷ two_digit_text time.is_minute.number ++ colon
-    ∷ two_digit_text time.is_second.number ++ time.fraction =
-    λ i. time.is_hour.together i ++ colon ∷ time.is_minute.together i ++ colon
-    ∷ time.is_second.together i ++ time.fraction in
-    let together =
-    is.together ∙ ap (λ (front : List ℕ). front ++ is.offset) (time.together ∙ parts) in
-    subst (Taken behavior) (sym together)
-    (taken-parts behavior time.is_hour.number time.is_minute.number time.is_second.number
-    time.fraction is.offset time.is_hour.within time.is_minute.within time.is_second.within
-    time.is_fraction (offset-read is.offset is.is_offset))
+    let hour = time.is_hour in
+    let minute = time.is_minute in
+    let second = time.is_second in
+    let clock = time.together ∙ parts-spelled behavior _ time in
+    let together = is.together ∙ ap (λ (front : List ℕ). front ++ is.offset) clock in
+    let offset = offset-read is.offset is.is_offset in
+    let parts = taken-parts behavior hour.number minute.number second.number time.fraction _ in
+    let taken = parts hour.within minute.within second.within time.is_fraction offset in
+    subst (Taken behavior) (sym together) taken
 
 full-date-of : (text : List ℕ) → IfOk (date_front text) (λ front. IsFullDate (take 10 text))
 full-date-of text =
-    read-rows (λ (front : Ymd × ℕ). IsFullDate (take 10 text)) (date_table text) _ (λ met.
-    subst IsFullDate (sym (bytes-are 10 0 text (leb-true 10 (length text) met.0))) (record {
+    let Full = λ (front : Ymd × ℕ). IsFullDate (take 10 text) in
+    read-rows Full (date_table text) _ (λ met.
+    let bytes = bytes-are 10 0 text (leb-true 10 (length text) met.0) in
+    subst IsFullDate (sym bytes) (record {
       year = four_digit_value text 0;
       month = two_digit_value text 5;
       day = two_digit_value text 8;
@@ -344,22 +361,22 @@ date-time-of : (behavior : Behavior) (text : List ℕ) → AllHold (standard_dat
     (λ front. front.1 ≡ length text → IsDateTime behavior text)
 date-time-of behavior text rows =
     let rest : List ℕ = drop 11 text in
-    read-then _ _ (date_front text)
-    (λ date dated. read-then _ _ (first_fault_or (separator_table text) (time_front behavior rest))
-    (λ time timed whole.
-    let read = (refusal-ok fault_alone (separator_table text) (time_front behavior rest) time
-    timed).1 in
+    let table = separator_table text in
+    let answer = time_front behavior rest in
+    read-then _ _ (date_front text) (λ date dated.
+    read-then _ _ (first_fault_or table answer) (λ time timed whole.
+    let read = (refusal-ok fault_alone table answer time timed).1 in
+    let all : time.1 ≡ length rest = omega (arith, whole, length-drop 11 text) in
+    let separated = drop_more text 10 0 (omega (arith, whole)) in
     record {
       date = take 10 text;
       separator = slice_index text 10;
       time = rest;
       is_date = read-value _ (date_front text) date dated (full-date-of text);
       is_separator = search rules;
-      is_time = read-value _ _ time read (full-time-of behavior rest rows.1)
-          (omega (arith, whole, length-drop 11 text));
+      is_time = read-value _ _ time read (full-time-of behavior rest rows.1) all;
       together = sym (take-append-drop 10 text)
-          ∙ ap (λ (left : List ℕ). take 10 text ++ left)
-          (drop_more text 10 0 (omega (arith, whole)));
+          ∙ ap (λ (left : List ℕ). take 10 text ++ left) separated;
     }))
 
 date-time-parts : (behavior : Behavior) (date : Ymd) (separator : ℕ) (time : List ℕ) → IsDate date
@@ -370,13 +387,14 @@ date-time-parts : (behavior : Behavior) (date : Ymd) (separator : ℕ) (time : L
 date-time-parts behavior date separator time valid parted value read =
     let text = date_text date ++ separator ∷ time in
     let whole : DateAndTime = record { date = date; time = value } in
-    let fault_of = λ (read_value : DateAndTime). end_fault read_value.time.offset in
-    let front = (whole_or_fault-iff (λ (read_time : TimeOfDay). end_fault read_time.offset) time
-    (time_front behavior time) value).0 read in
-    let is = date_time_front-is behavior text (date, 10) (value, length time)
-    (date_text-front date (separator ∷ time) valid) (search rules, tt) front in
-    ap (result_and_then (whole_or_fault fault_of text)) is
-    ∙ refusal-whole fault_alone fault_of text whole (11 + length time) (omega arith)
+    let fault = λ (found : DateAndTime). end_fault found.time.offset in
+    let time_fault = λ (found : TimeOfDay). end_fault found.offset in
+    let timed = (whole_or_fault-iff time_fault time (time_front behavior time) value).0 read in
+    let dated = date_text-front date (separator ∷ time) valid in
+    let rows : AllHold (separator_table text) = (search rules, tt) in
+    let is = date_time_front-is behavior text (date, 10) (value, length time) dated rows timed in
+    ap (result_and_then (whole_or_fault fault text)) is
+    ∙ refusal-whole fault_alone fault text whole (11 + length time) (omega arith)
 
 -- a text that the strict reader takes as a date-time
 abbrev DateTimeTaken : Behavior → List ℕ → Type 0
@@ -389,56 +407,58 @@ date-time-taken : (behavior : Behavior) (text : List ℕ) → IsDateTime behavio
     → DateTimeTaken behavior text
 date-time-taken behavior text is =
     let taken = full-time-taken behavior is.time is.is_time in
-    let date : Ymd =
-    record { year = is.is_date.year; month = is.is_date.month; day = is.is_date.day } in
+    let parts = is.is_date in
+    let date : Ymd = record { year = parts.year; month = parts.month; day = parts.day } in
     let value : DateAndTime = record { date = date; time = taken.0 } in
-    let valid : IsDate date =
-    record {
-      year = is.is_date.is_year;
-      day = record { month = is.is_date.is_month; day = is.is_date.is_day };
+    let valid : IsDate date = record {
+      year = parts.is_year;
+      day = record { month = parts.is_month; day = parts.is_day };
     } in
-    let together : text ≡ date_text date ++ is.separator ∷ is.time =
-    is.together ∙ ap (λ (front : List ℕ). front ++ is.separator ∷ is.time)
-    is.is_date.together in
-    subst (DateTimeTaken behavior) (sym together) (
-      value,
-      (
-        date-time-parts behavior date is.separator is.time valid is.is_separator taken.0 taken.1.0,
-        (search rules, taken.1.1),
-      ),
-    )
+    let front = ap (λ (bytes : List ℕ). bytes ++ is.separator ∷ is.time) parts.together in
+    let together : text ≡ date_text date ++ is.separator ∷ is.time = is.together ∙ front in
+    let answer = date-time-parts behavior date is.separator is.time valid is.is_separator in
+    subst (DateTimeTaken behavior) (sym together)
+    (value, (answer taken.0 taken.1.0, (search rules, taken.1.1)))
 
 -- a result whose value meets further rows is a value if and only if a text is one of the rules
 strict : {Place A B : Type 0} (view : A → B) (result : Result A ParseError)
-    (rows : List (Requirement Place))
-    (answer : Result B ParseError) (IsOne : Type 0)
+    (rows : List (Requirement Place)) (answer : Result B ParseError) (IsOne : Type 0)
     → result_map view result ≡ result_and_then (λ (read : B). first_fault_or rows (Ok read)) answer
     → ((value : B) → answer ≡ Ok value → AllHold rows → IsOne)
     → (IsOne → (value : B) × ((answer ≡ Ok value) × AllHold rows)) → IsOk result ↔ IsOne
 strict view result rows answer IsOne is to from =
     grind (arith, refusal-all, refusal-value)
 
+-- what is read and meets the rows of the rules is one of them
+is-full-time : (behavior : Behavior) (text : List ℕ) (time : TimeOfDay)
+    → time_answer behavior text ≡ Ok time → AllHold (standard_time text)
+    → IsFullTime behavior text
+is-full-time behavior text time read rows =
+    let fault = λ (value : TimeOfDay). end_fault value.offset in
+    let whole = (whole_or_fault-iff fault text (time_front behavior text) time).0 read in
+    read-value _ _ (time, length text) whole (full-time-of behavior text rows) refl
+
+is-date-time : (behavior : Behavior) (text : List ℕ) (value : DateAndTime)
+    → date_time_answer behavior text ≡ Ok value → AllHold (standard_date_time text)
+    → IsDateTime behavior text
+is-date-time behavior text value read rows =
+    let fault = λ (found : DateAndTime). end_fault found.time.offset in
+    let whole = (whole_or_fault-iff fault text (date_time_front behavior text) value).0 read in
+    read-value _ _ (value, length text) whole (date-time-of behavior text rows) refl
+
 -- so a text is taken if and only if it is one of the rules
 pub time-standard : (behavior : Behavior) (text : List ℕ) (result : Result Time ParseError)
     → result_map time_of_day result ≡ strict_time_answer behavior text
     → IsOk result ↔ IsFullTime behavior text
 time-standard behavior text result is =
-    strict time_of_day result (standard_time text) (time_answer behavior text)
-    (IsFullTime behavior text) is
-    (λ time read rows.
-    let whole = (whole_or_fault-iff (λ (value : TimeOfDay). end_fault value.offset) text
-    (time_front behavior text) time).0 read in
-    read-value _ _ (time, length text) whole (full-time-of behavior text rows) refl)
-    (full-time-taken behavior text)
+    let answer = time_answer behavior text in
+    strict time_of_day result (standard_time text) answer (IsFullTime behavior text) is
+    (is-full-time behavior text) (full-time-taken behavior text)
 
 pub date-time-standard : (behavior : Behavior) (text : List ℕ) (result : Result DateTime ParseError)
     → result_map date_and_time result ≡ strict_date_time_answer behavior text
     → IsOk result ↔ IsDateTime behavior text
 date-time-standard behavior text result is =
-    strict date_and_time result (standard_date_time text) (date_time_answer behavior text)
-    (IsDateTime behavior text) is
-    (λ value read rows.
-    let whole = (whole_or_fault-iff (λ (found : DateAndTime). end_fault found.time.offset) text
-    (date_time_front behavior text) value).0 read in
-    read-value _ _ (value, length text) whole (date-time-of behavior text rows) refl)
-    (date-time-taken behavior text)
+    let answer = date_time_answer behavior text in
+    strict date_and_time result (standard_date_time text) answer (IsDateTime behavior text) is
+    (is-date-time behavior text) (date-time-taken behavior text)

@@ -1,6 +1,6 @@
 -- Where a text is read as a time or as a date-time, the places of the rows of RFC 3339 lie within
 -- it.
-use Rattle.std.proofs.Common.{◌≡◌, ◌≤◌, ◌<◌, ◌+◌, ◌∙◌, ◌==◌, ◌||◌, not, ℕ, List, length, drop, slice_index, true, false, IfOk, IfSome, Result, Ok, Err, refl, leb-true, ltb-true, sym, subst, ap, rules, arith}
+use Rattle.std.proofs.Common.{◌≡◌, ◌≤◌, ◌<◌, ◌+◌, ◌∙◌, ◌==◌, ◌||◌, not, ℕ, List, length, drop, slice_index, true, false, Option, ℤ, IfOk, IfSome, Result, Ok, Err, refl, leb-true, ltb-true, sym, subst, ap, rules, arith}
 use Rattle.std.proofs.lemmas.Bool.{cases_lt}
 use Rattle.std.proofs.lemmas.Bool.Decides.{nat_tests}
 use Rattle.std.proofs.lemmas.List.{drop-drop, get_or-drop, get_or_past, length-drop}
@@ -40,32 +40,41 @@ offset_place-is behavior text clock read second plain =
     grind (arith, nat_tests)
 
 -- an offset in numbers goes on after its hour
-offset-long : (rest : List ℕ)
-    → IfOk (offset_front rest) (λ front. front.1 ≡ length rest → 0 < length rest
-    → not (has_minus_sign rest) ≡ true
-    → (is_utc (slice_index rest 0) || (slice_index rest 3 == colon)) ≡ false → 3 ≤ length rest)
+abbrev IsLong : List ℕ → Type 0
+IsLong rest = 0 < length rest → not (has_minus_sign rest) ≡ true
+    → (is_utc (slice_index rest 0) || (slice_index rest 3 == colon)) ≡ false → 3 ≤ length rest
+
+abbrev WholeIsLong : List ℕ → Option ℤ × ℕ → Type 0
+WholeIsLong rest front = front.1 ≡ length rest → IsLong rest
+
+offset-long : (rest : List ℕ) → IfOk (offset_front rest) (WholeIsLong rest)
 offset-long rest =
-    offset-cases (λ answer. IfOk answer (λ front. front.1 ≡ length rest → 0 < length rest
-    → not (has_minus_sign rest) ≡ true
-    → (is_utc (slice_index rest 0) || (slice_index rest 3 == colon)) ≡ false → 3 ≤ length rest))
-    rest
-    (λ some. read-rows _ (offset_digits (drop 1 rest)) _
-    (λ digits. read-rows _ (offset_ranges (drop 1 rest)) _ (λ ranges whole long plain fails.
-    search rules)))
+    offset-cases (λ answer. IfOk answer (WholeIsLong rest)) rest
+    (λ some. read-rows _ (offset_digits (drop 1 rest)) _ (λ digits.
+    read-rows _ (offset_ranges (drop 1 rest)) _ (λ ranges whole long plain fails. search rules)))
     (λ none utc whole long plain fails. absurd (cc))
-    (λ none other there. read-rows _ (offset_digits (drop 3 rest)) _
-    (λ digits. read-rows _ (offset_ranges (drop 3 rest)) _ (λ ranges whole long plain fails.
-    search rules)))
+    (λ none other there. read-rows _ (offset_digits (drop 3 rest)) _ (λ digits.
+    read-rows _ (offset_ranges (drop 3 rest)) _ (λ ranges whole long plain fails. search rules)))
     (λ none other nothing whole long plain fails. absurd (omega (arith, whole, long)))
+
+-- so does the one that ends a time
+ending-long : (text : List ℕ) (size : ℕ) (offset : Option ℤ × ℕ) → size ≡ offset_place text
+    → offset_front (drop size text) ≡ Ok offset → offset.1 ≡ length (drop size text)
+    → IsLong (drop (offset_place text) text)
+ending-long text size offset place after whole =
+    let rest = drop size text in
+    let long = read-value (WholeIsLong rest) _ offset after (offset-long rest) whole in
+    subst (λ (at : ℕ). IsLong (drop at text)) place long
 
 rows-within : (behavior : Behavior) (text : List ℕ)
     → IfOk (time_front behavior text)
     (λ front. front.1 ≡ length text → AreWithin (length text) (standard_time text))
 rows-within behavior text =
-    read-then _ _ (clock_front behavior text)
-    (λ clock read. read-then _ _ (offset_front (drop clock.size text)) (λ offset after whole.
+    read-then _ _ (clock_front behavior text) (λ clock read.
+    read-then _ _ (offset_front (drop clock.size text)) (λ offset after whole.
     let hour = (clock-read behavior text clock read).hour in
-    let left = length-drop clock.size text in (
+    let left = length-drop clock.size text in
+    let all : offset.1 ≡ length (drop clock.size text) = omega (arith, whole, left) in (
       λ fails. leb-true 5 (length text) hour.0,
       λ second. (
         comma-there text,
@@ -75,25 +84,11 @@ rows-within behavior text =
             λ fails. omega (arith, place, whole),
             λ no_minus. (
               λ fails.
-                  let three =
-                  read-value _ _ offset after
-                  (subst (λ (at : ℕ). IfOk (offset_front (drop clock.size text))
-                  (λ front. front.1 ≡ length (drop at text) → 0 < length (drop at text)
-                  → not (has_minus_sign (drop at text)) ≡ true
-                  → (is_utc (slice_index (drop at text) 0)
-                  || (slice_index (drop at text) 3 == colon)) ≡ false
-                  → 3 ≤ length (drop at text))) place
-                  (offset-long (drop clock.size text)))
-                  (omega (arith, whole, left, ap (λ (at : ℕ). length (drop at text)) place))
-                  (ltb-true 0 (length (drop (offset_place text) text)) some) no_minus fails in
-                  omega (
-                    arith,
-                    place,
-                    whole,
-                    left,
-                    three,
-                    ap (λ (at : ℕ). length (drop at text)) place,
-                  ),
+                  let long = ending-long text clock.size offset place after all in
+                  let there = ltb-true 0 (length (drop (offset_place text) text)) some in
+                  let three = long there no_minus fails in
+                  let same = ap (λ (at : ℕ). length (drop at text)) place in
+                  omega (arith, place, whole, left, three, same),
               λ part. tt,
             ),
           ),
@@ -114,43 +109,45 @@ pub standard-within : {E : Type 0} (refuse : ParseError → ℕ → E) (behavior
     → time_answer_or refuse behavior text ≡ Ok time
     → IfSome (first_place (standard_time text)) (λ place. place ≤ length text)
 standard-within {E = E} refuse behavior text time read =
-    let alone =
-    read-alike (time_answer_or refuse behavior text) (time_answer behavior text) time
-    (time_answer-view (λ (refusal : E). tt {0}) refuse behavior text
-    ∙ sym (time_answer-view (λ (fault : ParseError). tt {0}) fault_alone behavior text)) read in
-    let whole = (whole_or_fault-iff (λ (value : TimeOfDay). end_fault value.offset) text
-    (time_front behavior text) time).0 alone in
-    first_place-within (length text) (standard_time text)
-    (read-value _ _ (time, length text) whole (rows-within behavior text) refl)
+    let given = time_answer_or refuse behavior text in
+    let answer = time_answer behavior text in
+    let given_seen = time_answer-view (λ (refusal : E). tt {0}) refuse behavior text in
+    let seen = time_answer-view (λ (fault : ParseError). tt {0}) fault_alone behavior text in
+    let alone = read-alike given answer time (given_seen ∙ sym seen) read in
+    let fault = λ (value : TimeOfDay). end_fault value.offset in
+    let whole = (whole_or_fault-iff fault text (time_front behavior text) time).0 alone in
+    let rows = read-value _ _ (time, length text) whole (rows-within behavior text) refl in
+    first_place-within (length text) (standard_time text) rows
 
 date_time-rows-within : (behavior : Behavior) (text : List ℕ)
     → IfOk (date_time_front behavior text)
     (λ front. front.1 ≡ length text → AreWithin (length text) (standard_date_time text))
 date_time-rows-within behavior text =
     let rest : List ℕ = drop 11 text in
-    read-then _ _ (date_front text)
-    (λ date dated. read-then _ _ (first_fault_or (separator_table text) (time_front behavior rest))
-    (λ time timed whole.
-    let read = (refusal-ok fault_alone (separator_table text) (time_front behavior rest) time
-    timed).1 in
-    let size : 11 + length rest ≡ length text = omega (arith, whole, length-drop 11 text) in (
-      λ fails. omega (arith, size),
-      λ letter. subst (λ (size : ℕ). AreWithin size (moved 11 (standard_time rest))) size
-          (are_within-moved 11 (length rest) (standard_time rest)
-          (read-value _ _ time read (rows-within behavior rest) (omega (arith, whole, size)))),
-    )))
+    let table = separator_table text in
+    let answer = time_front behavior rest in
+    read-then _ _ (date_front text) (λ date dated.
+    read-then _ _ (first_fault_or table answer) (λ time timed whole.
+    let read = (refusal-ok fault_alone table answer time timed).1 in
+    let size : 11 + length rest ≡ length text = omega (arith, whole, length-drop 11 text) in
+    let all : time.1 ≡ length rest = omega (arith, whole, size) in
+    let rows = read-value _ _ time read (rows-within behavior rest) all in
+    let later = are_within-moved 11 (length rest) (standard_time rest) rows in
+    let Within = λ (size : ℕ). AreWithin size (moved 11 (standard_time rest)) in
+    (λ fails. omega (arith, size), λ letter. subst Within size later)))
 
 pub standard_date_time-within : {E : Type 0} (refuse : ParseError → ℕ → E) (behavior : Behavior)
     (text : List ℕ) (value : DateAndTime)
     → date_time_answer_or refuse behavior text ≡ Ok value
     → IfSome (first_place (standard_date_time text)) (λ place. place ≤ length text)
 standard_date_time-within {E = E} refuse behavior text value read =
-    let alone =
-    read-alike (date_time_answer_or refuse behavior text) (date_time_answer behavior text) value
-    (date_time_answer-view (λ (refusal : E). tt {0}) refuse behavior text
-    ∙ sym (date_time_answer-view (λ (fault : ParseError). tt {0}) fault_alone behavior text))
-    read in
-    let whole = (whole_or_fault-iff (λ (found : DateAndTime). end_fault found.time.offset) text
-    (date_time_front behavior text) value).0 alone in
-    first_place-within (length text) (standard_date_time text)
-    (read-value _ _ (value, length text) whole (date_time-rows-within behavior text) refl)
+    let given = date_time_answer_or refuse behavior text in
+    let answer = date_time_answer behavior text in
+    let given_seen = date_time_answer-view (λ (refusal : E). tt {0}) refuse behavior text in
+    let seen = date_time_answer-view (λ (fault : ParseError). tt {0}) fault_alone behavior text in
+    let alone = read-alike given answer value (given_seen ∙ sym seen) read in
+    let fault = λ (found : DateAndTime). end_fault found.time.offset in
+    let whole = (whole_or_fault-iff fault text (date_time_front behavior text) value).0 alone in
+    let within = date_time-rows-within behavior text in
+    let rows = read-value _ _ (value, length text) whole within refl in
+    first_place-within (length text) (standard_date_time text) rows

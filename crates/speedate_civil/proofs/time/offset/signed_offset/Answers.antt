@@ -30,18 +30,19 @@ read : {E : Type 0} (refuse : ParseError → ℕ → E) (text front : List ℕ) 
     → front ≡ eight_at text place → answer ≡ numbers_of refuse front
     → answer ≡ numbers_of refuse (drop place text)
 read refuse text front place answer from is =
-    is ∙ ap (numbers_of refuse) (from ∙ eight_at-drop place text)
+    is
+    ∙ ap (numbers_of refuse) (from ∙ eight_at-drop place text)
     ∙ eight-enough refuse (drop place text)
 
 -- what is left to decide once they are known
 abbrev decided : {E : Type 0} → (ParseError → ℕ → E) → Bool → ℕ → ℕ → (ℕ × ℕ) × ℕ
     → Result (Option ℤ × ℕ) E
-decided refuse west sign minute numbers = first_refusal_or refuse (
-    (nat_le numbers.0.1 59 else_fault ParseError.OutOfRangeTzMinute at_byte minute)
-    ∷ (nat_lt (3600 * numbers.0.0 + 60 * numbers.0.1) seconds_per_day
-    else_fault ParseError.OutOfRangeTz at_byte 0)
-    ∷ []
-    ) (Ok (Some (with_sign west (3600 * numbers.0.0 + 60 * numbers.0.1)), sign + numbers.1))
+decided refuse west sign minute numbers =
+    let size = 3600 * numbers.0.0 + 60 * numbers.0.1 in
+    let table = (nat_le numbers.0.1 59 else_fault ParseError.OutOfRangeTzMinute at_byte minute)
+    ∷ (nat_lt size seconds_per_day else_fault ParseError.OutOfRangeTz at_byte 0)
+    ∷ [] in
+    first_refusal_or refuse table (Ok (Some (with_sign west size), sign + numbers.1))
 
 known : {E : Type 0} (refuse : ParseError → ℕ → E) (west : Bool) (sign : ℕ) (text front : List ℕ)
     (place : ℕ) (numbers : (ℕ × ℕ) × ℕ)
@@ -50,16 +51,15 @@ known : {E : Type 0} (refuse : ParseError → ℕ → E) (west : Bool) (sign : �
     ≡ signed_front_or refuse west sign (drop place text)) × (2 ≤ numbers.1)
 known refuse west sign text front place numbers from is =
     let rest : List ℕ = drop place text in
-    let value = refusal-value refuse (offset_digits rest) _ numbers
-    (sym (read refuse text front place _ from is)) in
-    let size : offset_digits_size rest ≡ numbers.1 =
-    ap (λ (numbers : (ℕ × ℕ) × ℕ). numbers.1) value.1 in (
+    let are = sym (read refuse text front place _ from is) in
+    let value = refusal-value refuse (offset_digits rest) _ numbers are in
+    let size = ap (λ (numbers : (ℕ × ℕ) × ℕ). numbers.1) value.1 in
+    let offset : Option ℤ = Some (with_sign west (offset_size rest)) in
+    let found : Option ℤ × ℕ = (offset, sign + offset_digits_size rest) in
+    let ranged = first_refusal_or refuse (offset_ranges rest) (Ok found) in (
       ap (λ (minute : ℕ). decided refuse west sign minute numbers) (omega (arith, size))
           ∙ ap (decided refuse west sign (offset_minute_place rest)) (sym value.1)
-          ∙ sym (refusal-all refuse (offset_digits rest)
-          (first_refusal_or refuse (offset_ranges rest)
-          (Ok (Some (with_sign west (offset_size rest)), sign + offset_digits_size rest)))
-          value.0),
+          ∙ sym (refusal-all refuse (offset_digits rest) ranged value.0),
       omega (arith, size),
     )
 
@@ -67,42 +67,43 @@ pub returns-in_err-hour-clause-answer : goal.returns-in_err-hour-clause-answer
 returns-in_err-hour-clause-answer g c =
     let rest : List ℕ = drop c.args.place c.args.bytes.now in
     let p = err_from_is_err_and c.from_residual.result c.from_residual.ensures.1 in
-    let refused =
-    read (shifted c.args.start g.E.Refusal.refusal) c.args.bytes.now _ c.args.place _
-    c.eight_bytes.ensures.bytes
-    c.in_err-hour.ensures.numbers in
-    let next : Result (Option ℤ × ℕ) _ =
-    first_refusal_or (shifted c.args.start g.E.Refusal.refusal) (offset_ranges rest)
-    (Ok (
+    let refuse = shifted c.args.start g.E.Refusal.refusal in
+    let bytes = c.eight_bytes.ensures.bytes in
+    let numbers = c.in_err-hour.ensures.numbers in
+    let refused = read refuse c.args.bytes.now _ c.args.place _ bytes numbers in
+    let value : Option ℤ × ℕ = (
       Some (with_sign c.args.west (offset_size rest)),
       c.args.sign + offset_digits_size rest,
-    )) in
-    rw (p.1, p.2) (first_refusal_or-next (shifted c.args.start g.E.Refusal.refusal)
-    (offset_digits rest) _ _ next refused)
+    ) in
+    let next = first_refusal_or refuse (offset_ranges rest) (Ok value) in
+    rw (p.1, p.2) (first_refusal_or-next refuse (offset_digits rest) _ _ next refused)
 
 pub returns-then-minute-gt59-clause-answer : goal.returns-then-minute-gt59-clause-answer
 returns-then-minute-gt59-clause-answer g c =
-    let is = known (shifted c.args.start g.E.Refusal.refusal) c.args.west c.args.sign
-    c.args.bytes.now _ c.args.place
-    ((c.in_ok-hour.hour, c.in_ok-hour.minute), c.in_ok-hour.size)
-    c.eight_bytes.ensures.bytes c.in_ok-hour.ensures.numbers in
+    let refuse = shifted c.args.start g.E.Refusal.refusal in
+    let parts : (ℕ × ℕ) × ℕ = ((c.in_ok-hour.hour, c.in_ok-hour.minute), c.in_ok-hour.size) in
+    let bytes = c.eight_bytes.ensures.bytes in
+    let of_text = known refuse c.args.west c.args.sign c.args.bytes.now _ c.args.place parts in
+    let is = of_text bytes c.in_ok-hour.ensures.numbers in
     grind (arith, nat_tests) ∙ is.0
 
 pub returns-then-seconds-ge-SECONDS_PER_DAY-clause-answer
     : goal.returns-then-seconds-ge-SECONDS_PER_DAY-clause-answer
 returns-then-seconds-ge-SECONDS_PER_DAY-clause-answer g c =
-    let is = known (shifted c.args.start g.E.Refusal.refusal) c.args.west c.args.sign
-    c.args.bytes.now _ c.args.place
-    ((c.in_ok-hour.hour, c.in_ok-hour.minute), c.in_ok-hour.size)
-    c.eight_bytes.ensures.bytes c.in_ok-hour.ensures.numbers in
+    let refuse = shifted c.args.start g.E.Refusal.refusal in
+    let parts : (ℕ × ℕ) × ℕ = ((c.in_ok-hour.hour, c.in_ok-hour.minute), c.in_ok-hour.size) in
+    let bytes = c.eight_bytes.ensures.bytes in
+    let of_text = known refuse c.args.west c.args.sign c.args.bytes.now _ c.args.place parts in
+    let is = of_text bytes c.in_ok-hour.ensures.numbers in
     grind (arith, nat_tests, c.from.ensures, c.from-2.ensures) ∙ is.0
 
 pub returns-clause-answer : goal.returns-clause-answer
 returns-clause-answer g c =
-    let is = known (shifted c.args.start g.E.Refusal.refusal) c.args.west c.args.sign
-    c.args.bytes.now _ c.args.place
-    ((c.in_ok-hour.hour, c.in_ok-hour.minute), c.in_ok-hour.size)
-    c.eight_bytes.ensures.bytes c.in_ok-hour.ensures.numbers in
+    let refuse = shifted c.args.start g.E.Refusal.refusal in
+    let parts : (ℕ × ℕ) × ℕ = ((c.in_ok-hour.hour, c.in_ok-hour.minute), c.in_ok-hour.size) in
+    let bytes = c.eight_bytes.ensures.bytes in
+    let of_text = known refuse c.args.west c.args.sign c.args.bytes.now _ c.args.place parts in
+    let is = of_text bytes c.in_ok-hour.ensures.numbers in
     let fits : SFits w32 c.with_sign.result = search rules in
     let value = to_z-of_z w32 c.with_sign.result fits in
     grind (arith, nat_tests, c.from.ensures, c.from-2.ensures, value, c.with_sign.ensures.value)

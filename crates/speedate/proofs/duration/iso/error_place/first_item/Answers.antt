@@ -16,8 +16,7 @@ use Rattle.speedate.proofs.duration.iso.error_place.first_item.Goals as goal
 
 is_ok-err : (answer : Result UnsignedDuration ParseError) (fault : ParseError)
     → Err fault ≡ answer → IsOk answer → ⊥
-is_ok-err answer fault same ok =
-    absurd (cc (sym same, ok))
+is_ok-err answer fault same ok = absurd (cc (sym same, ok))
 
 pub returns-then-not-holds-clause-place : goal.returns-then-not-holds-clause-place
 returns-then-not-holds-clause-place c =
@@ -29,18 +28,19 @@ returns-then-not-holds-clause-place c =
     let text = take_rest body place in
     let more : place < length body = grind (arith, nat_tests, c.loop-place-test.true) in
     let left : length (drop place body) ≡ length body - place = length-drop place body in
+    let size = c.in-Ok.size in
+    let rest = drop place body in
+    let refuse = shifted place placed in
+    let some : 0 < length rest = omega (arith, left, more) in
     let fails : c.holds.result ≡ false = search rules in
-    let step =
-    first_item-step (shifted place placed) test sums next (drop place body) c.in-Ok.size
-    (omega (arith, left, more))
-    (subst (λ (text : List ℕ). c.in-Ok.size ≤ length text) text c.in-Ok.ensures.within)
-    (c.in-Ok.ensures.item
-    ∙ ap (λ (text : List ℕ). item_front_or (shifted place placed) sums (item_at text)) text) in
-    let held =
-    ap (λ (amount : UnsignedDuration). test (amount_numbers amount)) (sym c.sum.ensures.amount)
-    ∙ sym c.holds.ensures ∙ fails in
-    let none = step ∙ ap (λ (holds : Bool). if holds then c.in-Ok.size
-    + first_item_after test 0 next (drop c.in-Ok.size (drop place body)) else 0) held in
+    let front_of = λ (text : List ℕ). item_front_or refuse sums (item_at text) in
+    let read = c.in-Ok.ensures.item ∙ ap front_of text in
+    let small = subst (λ (text : List ℕ). size ≤ length text) text c.in-Ok.ensures.within in
+    let step = first_item-step refuse test sums next rest size some small read in
+    let holds_of = λ (amount : UnsignedDuration). test (amount_numbers amount) in
+    let held = ap holds_of (sym c.sum.ensures.amount) ∙ sym c.holds.ensures ∙ fails in
+    let after = size + first_item_after test 0 next (drop size rest) in
+    let none = step ∙ ap (λ (holds : Bool). if holds then after else 0) held in
     omega (arith, none, c.loop-place.invariant.0)
 
 pub loop-place-preserved : goal.loop-place-preserved
@@ -57,26 +57,25 @@ loop-place-preserved c =
     let left : length rest ≡ length body - place = length-drop place body in
     let some : 0 < length rest = omega (arith, left, more) in
     let holds : c.holds.result ≡ true = search rules in
-    let read =
-    c.in-Ok.ensures.item
-    ∙ ap (λ (text : List ℕ). item_front_or (shifted place placed) sums (item_at text)) text in
+    let refuse = shifted place placed in
+    let front_of = λ (text : List ℕ). item_front_or refuse sums (item_at text) in
+    let read = c.in-Ok.ensures.item ∙ ap front_of text in
     let small = subst (λ (text : List ℕ). size ≤ length text) text c.in-Ok.ensures.within in
-    let step = first_item-step (shifted place placed) test sums next rest size some small read in
-    let held =
-    ap (λ (amount : UnsignedDuration). test (amount_numbers amount)) (sym c.sum.ensures.amount)
-    ∙ sym c.holds.ensures ∙ holds in
+    let step = first_item-step refuse test sums next rest size some small read in
+    let holds_of = λ (amount : UnsignedDuration). test (amount_numbers amount) in
+    let held = ap holds_of (sym c.sum.ensures.amount) ∙ sym c.holds.ensures ∙ holds in
+    let after = λ (text : List ℕ). size + first_item_after test 0 next text in
+    let left_text = drop-drop size place body in
     let found = step
-    ∙ ap (λ (holds : Bool). if holds then size + first_item_after test 0 next (drop size rest)
-    else 0) held
-    ∙ ap (λ (text : List ℕ). size + first_item_after test 0 next text)
-    (drop-drop size place body) in
-    let later = iso_from-read fault_alone sums next rest size some small
-    (item_front-any (shifted place placed) fault_alone sums (item_at rest) (next, size) read) in (
+    ∙ ap (λ (holds : Bool). if holds then after (drop size rest) else 0) held
+    ∙ ap after left_text in
+    let front = item_front-any refuse fault_alone sums (item_at rest) (next, size) read in
+    let later = iso_from-read fault_alone sums next rest size some small front in
+    let IsRead = λ (answer : Result UnsignedDuration ParseError). IsOk answer in
+    let read_later = subst IsRead later c.loop-place.invariant.2 in (
       omega (arith, found, c.loop-place.invariant.0),
       omega (arith, left, small, more),
-      subst (λ (text : List ℕ). IsOk (iso_from next text)) (drop-drop size place body)
-          (subst (λ (answer : Result UnsignedDuration ParseError). IsOk answer) later
-          c.loop-place.invariant.2),
+      subst (λ (text : List ℕ). IsOk (iso_from next text)) left_text read_later,
     )
 
 pub returns-after-loop-place-clause-place : goal.returns-after-loop-place-clause-place
@@ -84,10 +83,14 @@ returns-after-loop-place-clause-place c =
     let body = c.args.body.now in
     let place = c.loop-place.place in
     let left : length (drop place body) ≡ length body - place = length-drop place body in
-    let none : length (drop place body) ≡ 0 =
-    grind (arith, nat_tests, left, c.loop-place-test.false) in
-    let done = first_item-done (bound_test c.args.bound) (sums_parts c.loop-place.sums)
-    (drop place body) none in
+    let none : length (drop place body) ≡ 0 = grind (
+      arith,
+      nat_tests,
+      left,
+      c.loop-place-test.false,
+    ) in
+    let sums = sums_parts c.loop-place.sums in
+    let done = first_item-done (bound_test c.args.bound) sums (drop place body) none in
     omega (arith, done, c.loop-place.invariant.0)
 
 pub returns-in_default-clause-place : goal.returns-in_default-clause-place
@@ -99,11 +102,11 @@ returns-in_default-clause-place c =
     let more : place < length body = grind (arith, nat_tests, c.loop-place-test.true) in
     let left : length rest ≡ length body - place = length-drop place body in
     let view : Refused → ParseError = λ refused. refused.fault in
-    let refused = iso_from-refused (shifted place placed) sums rest c.in_default.field-0
-    (omega (arith, left, more))
-    (c.in_default.ensures.item
-    ∙ ap (λ (text : List ℕ). item_front_or (shifted place placed) sums (item_at text))
-    (take_rest body place)) in
-    absurd (is_ok-err (iso_from sums rest) c.in_default.field-0.fault
-    (ap (refusal_map view) refused ∙ iso_after-view view (shifted place placed) 0 sums rest)
-    c.loop-place.invariant.2)
+    let refuse = shifted place placed in
+    let some : 0 < length rest = omega (arith, left, more) in
+    let front_of = λ (text : List ℕ). item_front_or refuse sums (item_at text) in
+    let item = c.in_default.ensures.item ∙ ap front_of (take_rest body place) in
+    let refused = iso_from-refused refuse sums rest c.in_default.field-0 some item in
+    let seen = ap (refusal_map view) refused ∙ iso_after-view view refuse 0 sums rest in
+    let fault = c.in_default.field-0.fault in
+    absurd (is_ok-err (iso_from sums rest) fault seen c.loop-place.invariant.2)
