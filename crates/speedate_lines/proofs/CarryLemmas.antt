@@ -21,11 +21,11 @@ pub IsOneLine-from_kept : (text front more block : List ℕ) (n : ℕ)
     → IsOneLine block 0 n
 IsOneLine-from_kept text front more block n cut long joined k after below same =
     let inside : k < length front = omega (arith, long) in
-    let free = subst IsFree (sym cut)
-    (All-take EndsNoLine 4097 (unfinished_line text) (unfinished-free text)) in
-    All-get_or EndsNoLine front k 0 inside free
-    (sym (get_or-append front more 0 k inside)
-    ∙ ap (λ (bytes : List ℕ). get_or bytes k 0) (sym joined) ∙ same)
+    let cut_free = All-take EndsNoLine 4097 (unfinished_line text) (unfinished-free text) in
+    let free = subst IsFree (sym cut) cut_free in
+    let of_front = sym (get_or-append front more 0 k inside) in
+    let of_block = ap (λ (bytes : List ℕ). get_or bytes k 0) (sym joined) in
+    All-get_or EndsNoLine front k 0 inside free (of_front ∙ of_block ∙ same)
 
 -- a line answers as its kept part does
 line_answer-kept : (line : List ℕ) → line_answer (kept_part line) ≡ line_answer line
@@ -53,9 +53,10 @@ onto_first-kept : (line : List ℕ) (lines : List (List ℕ)) (last : List ℕ)
     → done (onto_first (kept_part line) lines last) ≡ done (onto_first line lines last)
 onto_first-kept line [] last = ap (λ (kept : List ℕ). (answers [], kept)) (take-kept 4097 line last)
 onto_first-kept line (first ∷ lines) last =
-    ap (λ (answer : List ℕ). ((answer ++ line_feed ∷ []) ++ answers lines, kept_part last))
-    (sym (line_answer-kept (kept_part line ++ first)) ∙ ap line_answer (take-kept 4097 line first)
-    ∙ line_answer-kept (line ++ first))
+    let answered = sym (line_answer-kept (kept_part line ++ first))
+    ∙ ap line_answer (take-kept 4097 line first)
+    ∙ line_answer-kept (line ++ first) in
+    ap (λ (answer : List ℕ). ((answer ++ line_feed ∷ []) ++ answers lines, kept_part last)) answered
 
 -- the unfinished line may be cut to what is kept of it before the text goes on
 pieces-kept : (line more : List ℕ) → IsFree line
@@ -76,12 +77,14 @@ done-more : (text more kept block : List ℕ) → kept ≡ kept_part (unfinished
 done-more text more kept block cut joined =
     let rest = unfinished_line text in
     let same = joined ∙ ap (λ (front : List ℕ). front ++ more) cut in
+    let lines = complete_lines text in
+    let last = kept_part (unfinished_line (rest ++ more)) in
+    let both = answers-append lines (complete_lines (rest ++ more)) in
+    let kept_rest = sym (pieces-kept rest more (unfinished-free text)) in
+    let of_block = kept_rest ∙ ap (λ (bytes : List ℕ). done (pieces bytes)) (sym same) in
     ap done (pieces-append text more)
-    ∙ ap (λ (all : List ℕ). (all, kept_part (unfinished_line (rest ++ more))))
-    (answers-append (complete_lines text) (complete_lines (rest ++ more)))
-    ∙ ap (λ (after : List ℕ × List ℕ). (answers (complete_lines text) ++ after.0, after.1))
-    (sym (pieces-kept rest more (unfinished-free text))
-    ∙ ap (λ (bytes : List ℕ). done (pieces bytes)) (sym same))
+    ∙ ap (λ (all : List ℕ). (all, last)) both
+    ∙ ap (λ (after : List ℕ × List ℕ). (answers lines ++ after.0, after.1)) of_block
 
 pub answers-more : (text more kept block : List ℕ) → kept ≡ kept_part (unfinished_line text)
     → block ≡ kept ++ more

@@ -15,8 +15,8 @@ pub answer_lines-requires-clause-one_line : goal.answer_lines-requires-clause-on
 answer_lines-requires-clause-one_line g c =
     let before = c.loop-filled.invariant.answered in
     let filled = c.in-Ok.ensures.filled in
-    IsOneLine-from_kept before.0 _ filled.more _ _ before.3
-    (sym (length-take-le c.loop-filled.kept c.loop-filled.block filled.room)) filled.text
+    let size = sym (length-take-le c.loop-filled.kept c.loop-filled.block filled.room) in
+    IsOneLine-from_kept before.0 _ filled.more _ _ before.3 size filled.text
 
 pub loop-filled-preserved : goal.loop-filled-preserved
 loop-filled-preserved g c =
@@ -24,6 +24,9 @@ loop-filled-preserved g c =
     let read = before.answered.0 in
     let filled = c.in-Ok.ensures.filled in
     let done = c.in-Ok-answer_lines.ensures in
+    let sent = Appends-all done.answered.writes.sent in
+    let due = sym (answers-more read filled.more _ _ before.answered.3 filled.text) in
+    let complete = answers (complete_lines read) in
     record {
       empty = done.empty;
       input_failed = search (rules, or-false);
@@ -33,10 +36,9 @@ loop-filled-preserved g c =
       answered = (
         read ++ filled.more,
         Consumes-trans _ _ _ read filled.more before.answered.1 filled.consumed,
-        subst (Appends _ _) (sym (answers-more read filled.more _ _ before.answered.3 filled.text))
-            (Appends-trans _ _ _ (answers (complete_lines read)) _ before.answered.2
-            (Appends-all done.answered.writes.sent)),
-        c.carry-kept.ensures.kept ∙ ap kept_part done.unfinished
+        subst (Appends _ _) due (Appends-trans _ _ _ complete _ before.answered.2 sent),
+        c.carry-kept.ensures.kept
+            ∙ ap kept_part done.unfinished
             ∙ sym (kept-more read filled.more _ _ before.answered.3 filled.text),
       );
     }
@@ -48,8 +50,13 @@ answers-ended : (read more : List ℕ) (kept filled : ℕ) (old new : List ℕ)
     → take filled new ≡ take kept old ++ more → filled ≡ kept → more ≡ []
     → answers (complete_lines read) ++ answers (last_line (take kept new)) ≡ answers (lines read)
 answers-ended read more kept filled old new cut text same none =
-    answers-all read _ (ap (λ (n : ℕ). take n new) (sym same) ∙ text
-    ∙ ap (λ (end : List ℕ). take kept old ++ end) none ∙ append-nil (take kept old) ∙ cut)
+    let before = take kept old in
+    let last = ap (λ (n : ℕ). take n new) (sym same)
+    ∙ text
+    ∙ ap (λ (end : List ℕ). before ++ end) none
+    ∙ append-nil before
+    ∙ cut in
+    answers-all read _ last
 
 pub returns-in-Ok-finish-clause-answered : goal.returns-in-Ok-finish-clause-answered
 returns-in-Ok-finish-clause-answered g c =
@@ -57,23 +64,29 @@ returns-in-Ok-finish-clause-answered g c =
     let read = before.0 in
     let filled = c.in-Ok.ensures.filled in
     let ended = filled.nothing c.if-filled-kept.true in
-    let whole : read ++ filled.more ≡ read =
-    ap (λ (more : List ℕ). read ++ more) ended.0 ∙ append-nil read in
-    let consumed =
-    subst (Consumes _ _) whole
-    (Consumes-trans _ _ _ read filled.more before.1 filled.consumed) in
-    let all = answers-ended read filled.more _ _ c.loop-filled.block c.fill.new.block before.3
-    filled.text c.if-filled-kept.true ended.0 in
-    Consumes-whole _ _ read (λ text. Appends (g.W.Write.contents c.args.output.now.inner)
-    (g.W.Write.contents c.finish.new.output.inner) (answers (lines text)))
-    consumed ended.1 (subst (Appends _ _) all (Appends-trans _ _ _ (answers (complete_lines read))
-    _ before.2 (Appends-all c.in-Ok-finish.ensures.answered.sent)))
+    let whole = ap (λ (more : List ℕ). read ++ more) ended.0 ∙ append-nil read in
+    let both = Consumes-trans _ _ _ read filled.more before.1 filled.consumed in
+    let consumed = subst (Consumes _ _) whole both in
+    let old = c.loop-filled.block in
+    let new = c.fill.new.block in
+    let last = answers-ended read filled.more _ _ old new before.3 filled.text in
+    let all = last c.if-filled-kept.true ended.0 in
+    let complete = answers (complete_lines read) in
+    let sent = Appends-all c.in-Ok-finish.ensures.answered.sent in
+    let written = subst (Appends _ _) all (Appends-trans _ _ _ complete _ before.2 sent) in
+    let from = g.W.Write.contents c.args.output.now.inner in
+    let to = g.W.Write.contents c.finish.new.output.inner in
+    let IsWritten = λ (text : List ℕ). Appends from to (answers (lines text)) in
+    Consumes-whole _ _ read IsWritten consumed ended.1 written
 
 pub returns-in_default-answer_lines-clause-write_failed
     : goal.returns-in_default-answer_lines-clause-write_failed
 returns-in_default-answer_lines-clause-write_failed g c = λ write.
     let before = c.loop-filled.invariant.answered in
     let filled = c.in-Ok.ensures.filled in
+    let complete = answers (complete_lines before.0) in
+    let beginning = c.in_default-answer_lines.ensures.answered.writes.beginning in
+    let due = answers-more before.0 filled.more _ _ before.3 filled.text in
     record {
       earlier = before.0;
       latest = filled.more;
@@ -81,9 +94,7 @@ returns-in_default-answer_lines-clause-write_failed g c = λ write.
       consumed = Consumes-trans _ _ _ before.0 filled.more before.1 filled.consumed;
       one_read = filled.one_read;
       is_due = inl refl;
-      sent = AppendsFrom-beginning (answers (complete_lines before.0))
-          before.2 c.in_default-answer_lines.ensures.answered.writes.beginning
-          (answers-more before.0 filled.more _ _ before.3 filled.text);
+      sent = AppendsFrom-beginning complete before.2 beginning due;
     }
 
 pub returns-in-Err-clause-write_failed : goal.returns-in-Err-clause-write_failed
@@ -92,8 +103,12 @@ returns-in-Err-clause-write_failed g c = λ write.
     let read = before.0 in
     let filled = c.in-Ok.ensures.filled in
     let ended = filled.nothing c.if-filled-kept.true in
-    let whole : read ++ filled.more ≡ read =
-    ap (λ (more : List ℕ). read ++ more) ended.0 ∙ append-nil read in
+    let whole = ap (λ (more : List ℕ). read ++ more) ended.0 ∙ append-nil read in
+    let old = c.loop-filled.block in
+    let new = c.fill.new.block in
+    let last = answers-ended read filled.more _ _ old new before.3 filled.text in
+    let all = last c.if-filled-kept.true ended.0 in
+    let beginning = c.in-Err.ensures.answered.beginning in
     record {
       earlier = read;
       latest = filled.more;
@@ -101,8 +116,5 @@ returns-in-Err-clause-write_failed g c = λ write.
       consumed = Consumes-trans _ _ _ read filled.more before.1 filled.consumed;
       one_read = filled.one_read;
       is_due = inr (ended.1, ap (λ (all : List ℕ). answers (lines all)) (sym whole));
-      sent = AppendsFrom-beginning (answers (complete_lines read))
-          before.2 c.in-Err.ensures.answered.beginning
-          (sym (answers-ended read filled.more _ _ c.loop-filled.block c.fill.new.block before.3
-          filled.text c.if-filled-kept.true ended.0));
+      sent = AppendsFrom-beginning (answers (complete_lines read)) before.2 beginning (sym all);
     }
