@@ -22,20 +22,20 @@ module _ {X : Type 0} (lt : X → X → Bool) (order : IsStrictWeakOrder lt) whe
 
   rest-falls : (first : X) (rest : List X) → Falls lt (first ∷ rest) → Falls lt rest
   rest-falls first rest falls k d within =
-      falls (suc k) d (omega arith)
-      ∙ ap (λ (place : ℕ). lt (slice_index_or (first ∷ rest) place d) (slice_index_or rest k d))
-      {x = suc k + 1} {y = suc (k + 1)} (omega arith)
+      let less = λ (at : ℕ). lt (slice_index_or (first ∷ rest) at d) (slice_index_or rest k d) in
+      let next : suc k + 1 ≡ suc (k + 1) = omega arith in
+      falls (suc k) d (omega arith) ∙ ap less next
 
   below-first : (first : X) (rest : List X) → Falls lt (first ∷ rest) → (k : ℕ) → k < length rest
       → lt (slice_index_or rest k first) first ≡ true
   below-first first rest falls zero within = sym (falls 0 first (omega arith))
   below-first first rest falls (suc k) within =
-      let next : lt (slice_index_or rest (suc k) first) (slice_index_or rest k first) ≡ true =
-      ap (λ (place : ℕ). lt (slice_index_or (first ∷ rest) place first)
-      (slice_index_or rest k first))
-      (sym (add-one (suc k))) ∙ sym (falls (suc k) first (omega arith)) in
-      less-then _ _ first next
-      (order.one_way _ _ (below-first first rest falls k (omega arith)))
+      let before = slice_index_or rest k first in
+      let at = λ (place : ℕ). lt (slice_index_or (first ∷ rest) place first) before in
+      let less = sym (falls (suc k) first (omega arith)) in
+      let next = ap at (sym (add-one (suc k))) ∙ less in
+      let below = order.one_way _ _ (below-first first rest falls k (omega arith)) in
+      less-then _ _ first next below
 
   ties-first : (item other : X) → ties lt item other ≡ true → lt item other ≡ false
   ties-first item other tie = by (lt item other) refl
@@ -55,8 +55,8 @@ module _ {X : Type 0} (lt : X → X → Bool) (order : IsStrictWeakOrder lt) whe
       by true after is back = ap (λ answer. not answer && not (lt next item)) is
       by false true is back = (λ i. not (is i) && not (back i))
       by false false is back =
-          absurd (true≢false (sym less
-          ∙ order.chain next item first back (ties-first item first tie)))
+          let least = order.chain next item first back (ties-first item first tie) in
+          absurd (true≢false (sym less ∙ least))
 
   -- so no item after the first of a list that falls ties with what ties with the first
   no-ties : (item first : X) (rest : List X)
@@ -65,8 +65,8 @@ module _ {X : Type 0} (lt : X → X → Bool) (order : IsStrictWeakOrder lt) whe
   no-ties item first [] below tie = refl
   no-ties item first (next ∷ rest) below tie =
       let tied = no-third item first next (below 0 (omega arith)) tie in
-      ap (λ answer. cond answer (next ∷ filter (ties lt item) rest) (filter (ties lt item) rest))
-      tied
+      let kept = filter (ties lt item) rest in
+      ap (λ answer. cond answer (next ∷ kept) kept) tied
       ∙ no-ties item first rest (λ k within. below (suc k) (omega arith)) tie
 
   last-kept : (item first : X) (rest : List X)
@@ -96,18 +96,19 @@ module _ {X : Type 0} (lt : X → X → Bool) (order : IsStrictWeakOrder lt) whe
   reversed-stable [] falls item = refl
   reversed-stable (first ∷ rest) falls item =
       let keeps = filter (ties lt item) in
+      let stable = reversed-stable rest (rest-falls first rest falls) item in
+      let alone = no-ties item first rest (below-first first rest falls) in
       ap keeps (reverse_onto rest first [])
       ∙ filter-append (ties lt item) (reverse rest) (first ∷ [])
-      ∙ ap (λ (items : List X). items ++ keeps (first ∷ []))
-      (reversed-stable rest (rest-falls first rest falls) item)
-      ∙ last-kept item first rest
-      (no-ties item first rest (below-first first rest falls))
+      ∙ ap (λ (items : List X). items ++ keeps (first ∷ [])) stable
+      ∙ last-kept item first rest alone
 
   pub reversed-sorted : (xs : List X) → Falls lt xs → IsSortedBy lt (reverse xs)
   reversed-sorted xs falls k d low within =
       let long : length (reverse xs) ≡ length xs = length-reverse xs in
       let place = length xs - 1 - (k + 1) in
       let next : length xs - 1 - k ≡ place + 1 = omega arith in
-      ap₂ lt (get_or-reverse xs (k + 1) d (omega arith))
-      (get_or-reverse xs k d (omega arith) ∙ ap (λ (at : ℕ). slice_index_or xs at d) next)
+      let later = get_or-reverse xs (k + 1) d (omega arith) in
+      let before = get_or-reverse xs k d (omega arith) in
+      ap₂ lt later (before ∙ ap (λ (at : ℕ). slice_index_or xs at d) next)
       ∙ order.one_way _ _ (sym (falls place d (omega arith)))

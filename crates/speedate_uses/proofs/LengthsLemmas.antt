@@ -60,17 +60,17 @@ IsRead-more : (given : Result ℤ LineError) (line : List ℕ) (lines : List (Li
 unfolding lengths_of
 IsRead-more (Ok number) line lines room read is before = record {
   few = omega (arith, before.few);
-  sum = ap (λ (given : Result ℤ LineError). onto_lengths given (lengths_of lines)) (sym is)
+  sum = let count = length read.numbers in
+      ap (λ (given : Result ℤ LineError). onto_lengths given (lengths_of lines)) (sym is)
       ∙ ap (onto_lengths (Ok number)) before.sum
-      ∙ onto-after (length read.numbers) (total read.numbers) number
-      (lengths_of (drop (length read.numbers) lines));
+      ∙ onto-after count (total read.numbers) number (lengths_of (drop count lines));
   last = λ short. before.last (omega (arith, short));
 }
 IsRead-more (Err error) line lines room read is before = record {
   few = omega arith;
   sum = after-none (lengths_of (line ∷ lines));
-  last = λ short. ap (λ (given : Result ℤ LineError). onto_lengths given (lengths_of lines))
-      (sym is);
+  last = λ short.
+      ap (λ (given : Result ℤ LineError). onto_lengths given (lengths_of lines)) (sym is);
 }
 
 IsRead-of : (room : ℕ) (lines : List (List ℕ))
@@ -83,22 +83,29 @@ IsRead-of zero lines = record {
 }
 IsRead-of (suc room) [] = record { few = omega arith; sum = refl; last = λ short. refl }
 IsRead-of (suc room) (line ∷ lines) =
-    IsRead-more (length_of_line line) line lines room (column length_of_line None (take room lines))
-    refl (IsRead-of room lines)
+    let read = column length_of_line None (take room lines) in
+    IsRead-more (length_of_line line) line lines room read refl (IsRead-of room lines)
+
+-- the number of a line by what a configuration chooses
+abbrev number_by : Choices → List ℕ → Result ℤ LineError
+number_by chosen line =
+    number_of_duration (duration_answer chosen.order chosen.behavior (without_return true line))
 
 -- the reader of the default configuration reads lengths
 length_of_line-read : (config : TimeConfig) (at_end : Bool) → time_choices config ≡ default_choices
     → line_answer (duration_number (record { config = config }))
     (record { at_end = at_end; drops_returns = true }) ≡ length_of_line
-length_of_line-read config at_end is =
-    ap {B = List ℕ → Result ℤ LineError}
-    (λ (chosen : Choices) (line : List ℕ). number_of_duration
-    (duration_answer chosen.order chosen.behavior (without_return true line))) is
+length_of_line-read config at_end is = ap number_by is
+
+-- what one call of it reads of a text
+abbrev column_read : TimeConfig → Bool → ℕ → List ℕ → Column ℤ
+column_read config at_end room text =
+    text_column (duration_number (record { config = config }))
+    (record { at_end = at_end; drops_returns = true }) None room text
 
 IsRead-text : (config : TimeConfig) (at_end : Bool) (room : ℕ) (text : List ℕ)
     → time_choices config ≡ default_choices
-    → IsRead (whole_lines at_end text) room (text_column (duration_number
-    (record { config = config })) (record { at_end = at_end; drops_returns = true }) None room text)
+    → IsRead (whole_lines at_end text) room (column_read config at_end room text)
 unfolding text_column
 IsRead-text config at_end room text is =
     rw (length_of_line-read config at_end is) (IsRead-of room (whole_lines at_end text))
@@ -117,10 +124,8 @@ IsPart-read config at_end room lines bytes number text old out is counted writte
     bound =
     let read = IsRead-text config at_end room text is in
     let all : List (List ℕ) = whole_lines at_end text in
-    let numbers : List ℤ = (text_column (duration_number (record { config = config }))
-    (record { at_end = at_end; drops_returns = true }) None room text).numbers in
-    let same : number ≡ total numbers =
-    summed
+    let numbers : List ℤ = (column_read config at_end room text).numbers in
+    let same = summed
     ∙ ap (λ (list : List ℤ). total (take lines list)) written
     ∙ ap (λ (n : ℕ). total (take n (numbers ++ drop lines old))) counted
     ∙ ap total (take-append_seam numbers (drop lines old)) in
@@ -173,8 +178,9 @@ pieces-short : (text : List ℕ)
     → length (complete_lines text) + length (last_line (unfinished_line text)) ≤ length text
 pieces-short [] = omega arith
 pieces-short (byte ∷ bytes) =
-    feed-short (byte == line_feed) byte (complete_lines bytes) (unfinished_line bytes)
-    (length bytes) (pieces-short bytes)
+    let lines = complete_lines bytes in
+    let last = unfinished_line bytes in
+    feed-short (byte == line_feed) byte lines last (length bytes) (pieces-short bytes)
 
 whole_lines-short : (at_end : Bool) (text : List ℕ)
     → length (whole_lines at_end text) ≤ length text
@@ -199,6 +205,7 @@ IsPart-then {at_end = at_end} {text = text} {lines = lines} {bytes = bytes} {mor
     let all : List (List ℕ) = whole_lines at_end text in
     let left : List ℕ = drop taken (drop bytes text) in
     let cut : left ≡ drop (bytes + taken) text = drop-drop taken bytes text in
+    let all_after = after (lines + more) (number +ℤ other) in
     record {
       few = omega (arith, part.few, next.few, ap length part.rest, length-drop lines all);
       within = omega (arith, part.within, next.within, length-drop bytes text);
@@ -210,10 +217,8 @@ IsPart-then {at_end = at_end} {text = text} {lines = lines} {bytes = bytes} {mor
       sum =
           part.sum
           ∙ ap (after lines number) next.sum
-          ∙ after-after lines more number other
-          (lengths_of (whole_lines at_end left))
-          ∙ ap (λ (rest : List ℕ). after (lines + more) (number +ℤ other)
-          (lengths_of (whole_lines at_end rest))) cut;
+          ∙ after-after lines more number other (lengths_of (whole_lines at_end left))
+          ∙ ap (λ (rest : List ℕ). all_after (lengths_of (whole_lines at_end rest))) cut;
       bound = omega (arith, ints, part.bound, next.bound);
     }
 
@@ -225,8 +230,8 @@ pub IsPart-last : {at_end : Bool} {text : List ℕ} {lines : ℕ} {number : ℤ}
     ≡ record { lines = lines; microseconds = number; error = error }
 IsPart-last {at_end = at_end} {text = text} {lines = lines} {number = number} {error = error} bytes
     taken part none =
+    let cut = sym (drop-drop taken bytes text) in
     part.sum
-    ∙ ap (λ (rest : List ℕ). after lines number (lengths_of (whole_lines at_end rest)))
-    (sym (drop-drop taken bytes text))
+    ∙ ap (λ (rest : List ℕ). after lines number (lengths_of (whole_lines at_end rest))) cut
     ∙ ap (after lines number) none
     ∙ after-ended lines number error
