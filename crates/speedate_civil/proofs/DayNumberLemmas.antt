@@ -19,8 +19,10 @@ leap_day-small year = grind arith
 
 pub february_length-is : (year : ℕ) → february_length year ≡ 28 + leap_day year
 february_length-is year =
-    elim (is_leap_year year) as (λ leap. (if leap then 29 else 28) ≡ 28 + (if leap then 1 else 0))
-    [ true ↦ refl | false ↦ refl ]
+    elim (is_leap_year year) as (λ leap. (if leap then 29 else 28) ≡ 28 + (if leap then 1 else 0)) [
+      | true ↦ refl
+      | false ↦ refl
+    ]
 
 days_of_months-none : (year : ℕ) → days_of_months year 0 ≡ 0
 unfolding days_of_months

@@ -76,6 +76,10 @@ offset_front-view : {E D : Type 0} (view : E → D) (refuse : ParseError → ℕ
     → refusal_map view (offset_front_or refuse rest) ≡ offset_front_or (through view refuse) rest
 offset_front-view view refuse rest = search rules
 
+-- a time by the clock and the offset that are read
+abbrev timed : Clock → Option ℤ × ℕ → TimeOfDay × ℕ
+timed clock offset = (clock_with_offset clock offset.0, clock.size + offset.1)
+
 pub time_front-view : {E D : Type 0} (view : E → D) (refuse : ParseError → ℕ → E)
     (behavior : Behavior) (text : List ℕ)
     → refusal_map view (time_front_or refuse behavior text)
@@ -84,9 +88,7 @@ time_front-view view refuse behavior text =
     let front = clock_front-view view refuse behavior text in
     then-view view _ _ _ _ (λ (clock : Clock).
     let offset = offset_front-view view (shifted clock.size refuse) (drop clock.size text) in
-    then-view view
-    (λ (read : Option ℤ × ℕ). Ok (clock_with_offset clock read.0, clock.size + read.1))
-    _ _ _ (λ read. refl) offset) front
+    then-view view (λ read. Ok (timed clock read)) _ _ _ (λ read. refl) offset) front
 
 pub time_answer-view : {E D : Type 0} (view : E → D) (refuse : ParseError → ℕ → E)
     (behavior : Behavior) (text : List ℕ)
@@ -106,6 +108,10 @@ strict_time_answer-view view refuse behavior text =
     let table = standard_time text in
     then-view view _ _ _ _ (λ time. first_refusal_or-view view refuse table (Ok time)) answer
 
+-- a date-time by the date and the time that are read
+abbrev dated : Ymd × ℕ → TimeOfDay × ℕ → DateAndTime × ℕ
+dated date time = (record { date = date.0; time = time.0 }, 11 + time.1)
+
 pub date_time_front-view : {E D : Type 0} (view : E → D) (refuse : ParseError → ℕ → E)
     (behavior : Behavior) (text : List ℕ)
     → refusal_map view (date_time_front_or refuse behavior text)
@@ -117,10 +123,9 @@ date_time_front-view view refuse behavior text =
     let front = date_front-view view refuse text in
     let time = time_front-view view inner behavior rest in
     let parted = first_refusal_or-view view refuse table (time_front_or inner behavior rest) in
-    let timed = parted ∙ ap (first_refusal_or (through view refuse) table) time in
-    then-view view _ _ _ _ (λ (date : Ymd × ℕ). then-view view
-    (λ (read : TimeOfDay × ℕ). Ok (record { date = date.0; time = read.0 }, 11 + read.1))
-    _ _ _ (λ read. refl) timed) front
+    let after = parted ∙ ap (first_refusal_or (through view refuse) table) time in
+    then-view view _ _ _ _ (λ (date : Ymd × ℕ).
+    then-view view (λ read. Ok (dated date read)) _ _ _ (λ read. refl) after) front
 
 pub date_time_answer-view : {E D : Type 0} (view : E → D) (refuse : ParseError → ℕ → E)
     (behavior : Behavior) (text : List ℕ)

@@ -287,8 +287,8 @@ date_time_front-taken behavior text =
     let taken = read-value _ answer time after.1 (time_front-taken behavior rest) in
     let few : less ≤ length rest = omega (arith, inside, length-drop 11 text) in
     let time_is = taken less (omega (arith, within)) few in
-    date_time_front-is behavior (take count text) date time
-    date_is (rw byte after.0) (ap (time_front behavior) cut_rest ∙ time_is)))
+    let timed = ap (time_front behavior) cut_rest ∙ time_is in
+    date_time_front-is behavior (take count text) date time date_is (rw byte after.0) timed))
 
 pub date_time_front-alone : (behavior : Behavior) (text : List ℕ) (front : DateAndTime × ℕ)
     → date_time_front behavior text ≡ Ok front → front.1 ≤ length text

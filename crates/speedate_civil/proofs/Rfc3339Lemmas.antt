@@ -193,9 +193,8 @@ partial-time-of behavior text clock read inside second plain =
     let there : has_second rest ≡ true = colon_is ∙ second in
     let size = rw there at (clock-size behavior text clock read) in
     let five : 5 ≤ minute_size true (has_decimal_mark rest) (run_length rest 6) = search rules in
-    split (IsParted behavior clock) 8 text (omega arith) (λ same there none.
-    clock-parts behavior _ _ _ _ _ _ _ _ (drop 8 text) clock _ refl same there none)
-    read second plain
+    let of_bytes = split (IsParted behavior clock) 8 text (omega arith) in
+    of_bytes (clock-parts behavior _ _ _ _ _ _ _ _ (drop 8 text) clock _ refl) read second plain
 
 -- what the strict reader takes as a time is one by the rules
 full-time-of : (behavior : Behavior) (text : List ℕ) → AllHold (standard_time text)

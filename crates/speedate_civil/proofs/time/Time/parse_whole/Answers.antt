@@ -10,20 +10,20 @@ returns-then-size-bytes-clause-answer g c =
     let bytes = c.args.bytes.now in
     let refuse = g.E.Refusal.refusal in
     let value = time_of_day c.in_ok-time.time in
+    let size = c.in_ok-time.size in
     let fault = λ (read : TimeOfDay). end_fault read.offset in
-    ap Err (c.at.ensures.refusal
-    ∙ ap (λ (fault : ParseError). refuse fault c.in_ok-time.size) c.end_fault.ensures.fault)
-    ∙ sym (refusal-longer refuse fault bytes value c.in_ok-time.size
-    (λ same. c.if-size-bytes.true (sym same)))
-    ∙ ap (result_and_then (whole_or_refusal refuse fault bytes))
-    c.in_ok-time.ensures.answer
+    let fault_is = ap (λ (fault : ParseError). refuse fault size) c.end_fault.ensures.fault in
+    let longer = refusal-longer refuse fault bytes value size in
+    ap Err (c.at.ensures.refusal ∙ fault_is)
+    ∙ sym (longer (λ same. c.if-size-bytes.true (sym same)))
+    ∙ ap (result_and_then (whole_or_refusal refuse fault bytes)) c.in_ok-time.ensures.answer
 
 pub returns-clause-answer : goal.returns-clause-answer
 returns-clause-answer g c =
     let bytes = c.args.bytes.now in
     let refuse = g.E.Refusal.refusal in
+    let value = time_of_day c.in_ok-time.time in
     let fault = λ (read : TimeOfDay). end_fault read.offset in
-    sym (refusal-whole refuse fault bytes (time_of_day c.in_ok-time.time) c.in_ok-time.size
-    (sym c.if-size-bytes.false))
-    ∙ ap (result_and_then (whole_or_refusal refuse fault bytes))
-    c.in_ok-time.ensures.answer
+    let whole = refusal-whole refuse fault bytes value c.in_ok-time.size in
+    sym (whole (sym c.if-size-bytes.false))
+    ∙ ap (result_and_then (whole_or_refusal refuse fault bytes)) c.in_ok-time.ensures.answer
