@@ -1,5 +1,5 @@
 -- Columns: the lines of a text as numbers.
-use Rattle.std.specs.Prelude.{◌≡◌, ◌≢◌, ℕ, ◌-◌, ◌^◌, ◌<◌, ◌≤◌, ◌==◌, Bool, ◌||◌, List, [], ◌∷◌, length, slice_index, take, drop, nat_lt, Option, Some, None, is_some, Result, Ok, Err, IfOk, ℤ, unsigned_abs, if◌then◌else◌}
+use Rattle.std.specs.Prelude.{◌≡◌, ◌≢◌, ℕ, ◌-◌, ◌^◌, ◌<◌, ◌≤◌, ◌==◌, Bool, ◌||◌, List, [], ◌∷◌, length, slice_index, take, drop, nat_lt, Option, Some, None, is_some, Result, Ok, Err, IfOk, ℤ, pos, unsigned_abs, if◌then◌else◌}
 use Rattle.speedate_civil.specs.Base.{Behavior, ParseError}
 use Rattle.speedate_base.specs.Ascii.{carriage_return}
 use Rattle.speedate_base.specs.Config.{time_choices}
@@ -8,16 +8,23 @@ use Rattle.speedate_base.specs.Requirement.{TextRow, ◌else_fault◌, first_fau
 use Rattle.speedate_civil.specs.Calendar.{Ymd, days_between}
 use Rattle.speedate_civil.specs.Date.{date_answer, date_or_timestamp}
 use Rattle.speedate_civil.specs.DateTime.{DateAndTime, date_time_answer, date_time_by_config}
-use Rattle.speedate_civil.specs.DateTime.{utc_microsecond}
+use Rattle.speedate_civil.specs.DateTime.{local_microsecond, utc_microsecond}
 use Rattle.speedate_civil.specs.Standard.{standard_date_time, strict_date_time_answer}
+use Rattle.speedate_civil.specs.Standard.{strict_time_answer}
+use Rattle.speedate_civil.specs.Time.{TimeOfDay, microsecond_of_day, time_answer}
 pub use Rattle.speedate.specs.declared.column.LineConfig.{LineConfig}
 pub use Rattle.speedate.specs.declared.column.LineError.{LineError}
 use Rattle.speedate.specs.declared.column.Line.{Line}
 pub use Rattle.speedate.specs.declared.column.LineFront.{LineFront}
+use Rattle.speedate.specs.declared.column.clock.DateTimeClockReader.{DateTimeClockReader}
+use Rattle.speedate.specs.declared.column.clock.DateTimeOffsetReader.{DateTimeOffsetReader}
 use Rattle.speedate.specs.declared.column.date.DateReader.{DateReader}
 use Rattle.speedate.specs.declared.column.date_time.DateTimeParser.{DateTimeParser}
 use Rattle.speedate.specs.declared.column.date_time.DateTimeReader.{DateTimeReader}
 use Rattle.speedate.specs.declared.column.duration.DurationReader.{DurationReader}
+use Rattle.speedate.specs.declared.column.time.TimeOffsetReader.{TimeOffsetReader}
+use Rattle.speedate.specs.declared.column.time.TimeParser.{TimeParser}
+use Rattle.speedate.specs.declared.column.time.TimeReader.{TimeReader}
 use Rattle.speedate.specs.Duration.{duration_answer, signed_amount}
 use Rattle.speedate.specs.DurationNumbers.{DurationNumbers}
 use Rattle.speedate.specs.Lines.{IsOneLine, whole_lines, without_return}
@@ -166,6 +173,44 @@ abbrev pub date_time_number : DateTimeReader → List ℕ → Result ℤ LineErr
 date_time_number reader line =
     as_number utc_microsecond
     (result_and_then (with_offset reader.assumes_utc) (date_time_of_line reader.parser line))
+
+-- an offset that has to be there
+abbrev pub required_offset : Option ℤ → Result ℤ ParseError
+required_offset (Some offset) = Ok offset
+required_offset None = Err ParseError.TzRequired
+
+-- the offset of an answer to a text as a number, its seconds, or the error of the line
+abbrev pub offset_as_number : {A : Type 0} → (A → Option ℤ) → Result A ParseError
+    → Result ℤ LineError
+offset_as_number offset answer =
+    as_number (λ second. second)
+    (result_and_then (λ value. required_offset (offset value)) answer)
+
+-- the number of a line in a column of date-times as their clocks show them: the microseconds since
+-- 1970-01-01T00:00:00 on the same clock, whatever the offset
+abbrev pub clock_number : DateTimeClockReader → List ℕ → Result ℤ LineError
+clock_number reader line = as_number local_microsecond (date_time_of_line reader.parser line)
+
+-- the number of a line in a column of the offsets of date-times: its seconds
+abbrev pub date_time_offset_number : DateTimeOffsetReader → List ℕ → Result ℤ LineError
+date_time_offset_number reader line =
+    offset_as_number (λ value. value.time.offset) (date_time_of_line reader.parser line)
+
+-- the time of a line, or the error
+abbrev pub time_of_line : TimeParser → List ℕ → Result TimeOfDay ParseError
+time_of_line (TimeParser.Rfc3339 config) line = time_answer (time_choices config).behavior line
+time_of_line (TimeParser.Strict behavior) line = strict_time_answer behavior line
+
+-- the number of a line in a column of times: the microseconds after midnight that its clock shows,
+-- whatever the offset
+abbrev pub time_number : TimeReader → List ℕ → Result ℤ LineError
+time_number reader line =
+    as_number (λ time. pos (microsecond_of_day time)) (time_of_line reader.parser line)
+
+-- the number of a line in a column of the offsets of times: its seconds
+abbrev pub time_offset_number : TimeOffsetReader → List ℕ → Result ℤ LineError
+time_offset_number reader line =
+    offset_as_number (λ time. time.offset) (time_of_line reader.parser line)
 
 -- microseconds as a number of 64 bits, whose smallest one is left free
 abbrev pub number_of_amount : ℤ → Result ℤ LineError

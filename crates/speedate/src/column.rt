@@ -1,16 +1,20 @@
 //! Columns: the lines of a text as numbers, by one call.
 
+mod clock;
 mod date;
 mod date_time;
 mod duration;
 mod read;
+mod time;
 mod timestamp;
 
+pub use clock::{DateTimeClockReader, DateTimeOffsetReader};
 pub use date::DateReader;
 pub use date_time::{DateTimeParser, DateTimeReader};
 pub use duration::DurationReader;
 pub use read::{read_column, read_column_with_errors};
 use speedate_base::faults::ParseError;
+pub use time::{TimeOffsetReader, TimeParser, TimeReader};
 pub use timestamp::timestamp_microseconds;
 
 /// How a text is cut into lines: `LineConfig { at_end: true, drops_returns: false }` takes all lines of a

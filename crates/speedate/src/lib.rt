@@ -21,7 +21,8 @@
 //!   value a duration after another.
 //! - [`Decimal`], [`IntFloat`], [`int_parse_bytes`] and [`float_parse_bytes`]: numbers as texts.
 //! - [`read_column`] and [`read_column_with_errors`]: the lines of a text as numbers, by a
-//!   [`DateReader`], a [`DateTimeReader`] or a [`DurationReader`]; [`line_end`] finds the end of a line.
+//!   [`DateReader`], a [`DateTimeReader`], a [`DateTimeClockReader`], a [`DateTimeOffsetReader`], a
+//!   [`TimeReader`], a [`TimeOffsetReader`] or a [`DurationReader`]; [`line_end`] finds the end of a line.
 //! - [`DateConfig`], [`TimeConfig`], [`DateTimeConfig`] and their builders: how texts are parsed.
 //! - [`ParseError`], [`ConfigError`]: the errors. A text that is refused has exactly one, and each has
 //!   a name, such as `out_of_range_day`, and by the [`CallKind`] a phrase on what was expected.
@@ -57,8 +58,9 @@ mod duration;
 mod lines;
 
 pub use column::{
-    DateReader, DateTimeParser, DateTimeReader, DurationReader, LineConfig, LineError, LineFront,
-    LineReader, Progress, read_column, read_column_with_errors, timestamp_microseconds,
+    DateReader, DateTimeClockReader, DateTimeOffsetReader, DateTimeParser, DateTimeReader,
+    DurationReader, LineConfig, LineError, LineFront, LineReader, Progress, TimeOffsetReader,
+    TimeParser, TimeReader, read_column, read_column_with_errors, timestamp_microseconds,
 };
 pub use duration::{DAYS_MAX, Duration};
 pub use lines::line_end;

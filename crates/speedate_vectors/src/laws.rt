@@ -10,10 +10,11 @@ ghost use Rattle.speedate.specs.Duration.{duration_numbers};
 ghost use Rattle.speedate.specs.Time.{time_of_day};
 
 use speedate::{
-    ConfigError, Date, DateConfig, DateConfigBuilder, DateReader, DateTime, DateTimeConfig,
-    DateTimeConfigBuilder, DateTimeReader, Decimal, Duration, DurationReader, IntFloat, IsoOrder,
-    LineConfig, LineError, MicrosecondsPrecisionOverflowBehavior, Moment, ParseError, Progress,
-    Time, TimeConfig, TimeConfigBuilder, TimestampUnit,
+    ConfigError, Date, DateConfig, DateConfigBuilder, DateReader, DateTime, DateTimeClockReader,
+    DateTimeConfig, DateTimeConfigBuilder, DateTimeOffsetReader, DateTimeReader, Decimal, Duration,
+    DurationReader, IntFloat, IsoOrder, LineConfig, LineError,
+    MicrosecondsPrecisionOverflowBehavior, Moment, ParseError, Progress, Time, TimeConfig,
+    TimeConfigBuilder, TimeOffsetReader, TimeReader, TimestampUnit,
 };
 use speedate_base::numbers::{DigitRun, Fraction};
 use speedate_base::util::{UnixTime, UnixUnit};
@@ -39,6 +40,13 @@ pub struct Each<'a> {
     pub values: (Date, Time, DateTime, Moment, Duration),
     /// How columns are read.
     pub readers: (LineConfig, DateReader, DateTimeReader, DurationReader),
+    /// How columns of clocks and of offsets are read.
+    pub clocks: (
+        DateTimeClockReader,
+        DateTimeOffsetReader,
+        TimeReader,
+        TimeOffsetReader,
+    ),
     /// How far they come.
     pub columns: (Progress, LineError),
     /// What is parsed as a number.

@@ -2,10 +2,11 @@
 
 use speedate::{
     CallKind, ConfigError, Date, DateConfig, DateConfigBuilder, DateReader, DateTime,
-    DateTimeConfig, DateTimeConfigBuilder, DateTimeParser, DateTimeReader, Decimal, Duration,
-    DurationReader, IntFloat, IsoOrder, LineConfig, LineError, LineFront, LineReader,
-    MicrosecondsPrecisionOverflowBehavior, Moment, ParseError, Progress, Time, TimeConfig,
-    TimeConfigBuilder, TimestampUnit,
+    DateTimeClockReader, DateTimeConfig, DateTimeConfigBuilder, DateTimeOffsetReader,
+    DateTimeParser, DateTimeReader, Decimal, Duration, DurationReader, IntFloat, IsoOrder,
+    LineConfig, LineError, LineFront, LineReader, MicrosecondsPrecisionOverflowBehavior, Moment,
+    ParseError, Progress, Time, TimeConfig, TimeConfigBuilder, TimeOffsetReader, TimeParser,
+    TimeReader, TimestampUnit,
 };
 use std::error::Error;
 use std::fmt::{Debug, Display};
@@ -36,11 +37,16 @@ fn each_type_has_its_traits() {
             LineFront<i64>,
             Progress,
             DateTimeParser,
+            TimeParser,
             CallKind,
         ),
     >();
     is_reader::<DateReader>();
     is_reader::<DateTimeReader>();
+    is_reader::<DateTimeClockReader>();
+    is_reader::<DateTimeOffsetReader>();
+    is_reader::<TimeReader>();
+    is_reader::<TimeOffsetReader>();
     is_reader::<DurationReader>();
     is_value::<LineError>();
     is_value::<(Date, Time, DateTime, Duration, Moment)>();

@@ -28,6 +28,24 @@ pub enum DateTimeParser {
     Strict(MicrosecondsPrecisionOverflowBehavior),
 }
 
+impl DateTimeParser {
+    ghost use Rattle.speedate_civil.specs.DateTime.{◌gives◌};
+    ghost use Rattle.speedate.specs.Column.{date_time_of_line};
+
+    /// Parses a line as a date-time.
+    pub(super) fn parse(&self, line: &[u8]) -> Result<DateTime, ParseError>
+        ensures answer { result gives date_time_of_line self.now line.now }
+    {
+        match self {
+            DateTimeParser::Rfc3339(config) => {
+                DateTime::parse_bytes_rfc3339_with_config(line, config)
+            }
+            DateTimeParser::OrTimestamp(config) => DateTime::parse_bytes_with_config(line, config),
+            DateTimeParser::Strict(behavior) => DateTime::parse_bytes_strict(line, *behavior),
+        }
+    }
+}
+
 /// Reads a line as a date-time, and counts its microseconds from 1970-01-01T00:00:00 in UTC, as
 /// [`DateTime::timestamp_tz_us`] does: 1,000,000 for `1970-01-01T00:00:01Z`, and 0 for
 /// `1970-01-01T01:00+01:00`.

@@ -1,0 +1,88 @@
+//! Columns of date-times as their clocks show them, and of their offsets.
+
+ghost use Rattle.std.specs.Prelude.{◌≡◌, Ok};
+ghost use Rattle.speedate_civil.specs.DateTime.{date_and_time, local_microsecond};
+ghost use Rattle.speedate.specs.Column.{offset_as_number};
+
+use super::{DateTimeParser, LineError, LineFront, LineReader};
+use speedate_base::faults::ParseError;
+use speedate_civil::datetime::DateTime;
+
+/// Reads a line as a date-time, and counts the microseconds from 1970-01-01T00:00:00 on the same clock,
+/// whatever the offset: 3,600,000,000 for `1970-01-01T01:00`, and for `1970-01-01T01:00+01:00`.
+///
+/// With the number of a [`DateTimeOffsetReader`] it tells the date-time and its offset, where a
+/// [`DateTimeReader`](crate::DateTimeReader) tells the instant alone.
+#[derive(Clone, Copy, Debug)]
+pub struct DateTimeClockReader {
+    /// How a line is parsed.
+    pub parser: DateTimeParser,
+}
+
+/// Reads a line as a date-time, and gives its offset from UTC in seconds, positive east of UTC: 3,600 for
+/// `1970-01-01T01:00+01:00`, and 0 for `1970-01-01T00:00Z`. A date-time without an offset is refused, with
+/// `TzRequired`. A timestamp has the offset of the configuration.
+#[derive(Clone, Copy, Debug)]
+pub struct DateTimeOffsetReader {
+    /// How a line is parsed.
+    pub parser: DateTimeParser,
+}
+
+impl LineReader for DateTimeClockReader {
+    ghost use Rattle.speedate.specs.Column.{clock_number};
+
+    type Number = i64;
+
+    ghost answer = { clock_number };
+
+    fn number(&self, line: &[u8]) -> Result<i64, LineError> {
+        match self.parser.parse(line) {
+            Ok(value) => Ok(clock_microsecond(&value)),
+            Err(fault) => Err(LineError::Parse(fault)),
+        }
+    }
+
+    #[inline(always)]
+    fn front(&self, text: &[u8]) -> Option<LineFront<i64>> {
+        None
+    }
+}
+
+impl LineReader for DateTimeOffsetReader {
+    ghost use Rattle.speedate.specs.Column.{date_time_offset_number};
+
+    type Number = i32;
+
+    ghost answer = { date_time_offset_number };
+
+    fn number(&self, line: &[u8]) -> Result<i32, LineError> {
+        match self.parser.parse(line) {
+            Ok(value) => offset_number(value.time.tz_offset),
+            Err(fault) => Err(LineError::Parse(fault)),
+        }
+    }
+
+    #[inline(always)]
+    fn front(&self, text: &[u8]) -> Option<LineFront<i32>> {
+        None
+    }
+}
+
+/// The microseconds from 1970-01-01T00:00:00 that the clock of a date-time shows.
+#[inline(always)]
+fn clock_microsecond(value: &DateTime) -> i64
+    ensures microsecond { result ≡ local_microsecond (date_and_time value.now) }
+{
+    1_000_000 * value.timestamp() + i64::from(value.time.microsecond)
+}
+
+/// The seconds of an offset, or the error of a line that has none.
+#[inline(always)]
+pub(super) fn offset_number(offset: Option<i32>) -> Result<i32, LineError>
+    ensures number { result ≡ offset_as_number (λ offset. offset) (Ok offset) }
+{
+    match offset {
+        Some(second) => Ok(second),
+        None => Err(LineError::Parse(ParseError::TzRequired)),
+    }
+}
