@@ -610,9 +610,10 @@ typedef struct SpeedateColumnConfig {
     /* 1 if a carriage return at the end of a line is dropped, as files of Windows have one; 0 if it is part of the line,
      * which is then refused. */
     uint8_t drops_returns;
-    /* What a line of dates or date-times may be: SPEEDATE_FORM_TEXT, _TIMESTAMP or _STRICT. */
+    /* What a line of dates, times or date-times may be: SPEEDATE_FORM_TEXT, _TIMESTAMP or _STRICT. */
     uint8_t form;
-    /* 1 if a date-time without an offset is taken to be in UTC; 0 if it is refused, with SPEEDATE_TZ_REQUIRED. */
+    /* 1 if a date-time without an offset is taken to be in UTC; 0 if it is refused, with SPEEDATE_TZ_REQUIRED. Only
+     * speedate_datetime_column uses it. */
     uint8_t assumes_utc;
     /* 0 if a line that is refused ends the column; 1 if it gets the smallest number, INT64_MIN or INT32_MIN, and the
      * column goes on. That is the number of no other line, and INT64_MIN is NaT in NumPy. */
@@ -622,11 +623,11 @@ typedef struct SpeedateColumnConfig {
 /* The default: SpeedateColumnConfig column = SPEEDATE_COLUMN_CONFIG_DEFAULT; */
 #define SPEEDATE_COLUMN_CONFIG_DEFAULT {0, 0, 0, 0, 0}
 
-/* No timestamps, as speedate_date_parse_rfc3339 and speedate_datetime_parse_rfc3339 parse. */
+/* No timestamps, as speedate_date_parse_rfc3339, speedate_time_parse and speedate_datetime_parse_rfc3339 parse. */
 #define SPEEDATE_FORM_TEXT 0
-/* Timestamps too, as speedate_date_parse and speedate_datetime_parse parse. */
+/* Timestamps too, as speedate_date_parse and speedate_datetime_parse parse. For times it is out of range. */
 #define SPEEDATE_FORM_TIMESTAMP 1
-/* As speedate_datetime_parse_strict parses: for date-times alone. */
+/* As speedate_time_parse_strict and speedate_datetime_parse_strict parse. For dates it is out of range. */
 #define SPEEDATE_FORM_STRICT 2
 
 /* How far a column has come. */
@@ -648,11 +649,36 @@ SPEEDATE_NODISCARD int speedate_datetime_column(const char *text, size_t size, S
                                                 SpeedateColumnConfig column, int64_t *out, size_t room,
                                                 SpeedateProgress *progress);
 
+/* The microseconds of date-times since 1970-01-01T00:00:00 that their clocks show, whatever the offset: 1000000 and
+ * 3600000000 from "1970-01-01T00:00:01Z\n1970-01-01T01:00+01:00\n". With the offsets, which the next call gives, they
+ * are the date-times as they stand, where speedate_datetime_column gives the instants alone. */
+SPEEDATE_NODISCARD int speedate_datetime_clock_column(const char *text, size_t size, SpeedateConfig config,
+                                                      SpeedateColumnConfig column, int64_t *out, size_t room,
+                                                      SpeedateProgress *progress);
+
+/* The offsets of date-times in seconds, positive east of UTC: 0 and 3600 from the same text. A date-time without an
+ * offset is refused with SPEEDATE_TZ_REQUIRED. A timestamp has the offset of the configuration. */
+SPEEDATE_NODISCARD int speedate_datetime_offset_column(const char *text, size_t size, SpeedateConfig config,
+                                                       SpeedateColumnConfig column, int32_t *out, size_t room,
+                                                       SpeedateProgress *progress);
+
 /* The days of dates since 1970-01-01: 1 and -1 from "1970-01-02\n1969-12-31\n". Here SPEEDATE_FORM_STRICT is out of
  * range. */
 SPEEDATE_NODISCARD int speedate_date_column(const char *text, size_t size, SpeedateConfig config,
                                             SpeedateColumnConfig column, int32_t *out, size_t room,
                                             SpeedateProgress *progress);
+
+/* The microseconds after midnight that the clocks of times show, whatever the offset: 43994500000 and 0 from
+ * "12:13:14.5\n00:00+01:00\n". They are 0 to 86399999999. Here SPEEDATE_FORM_TIMESTAMP is out of range. */
+SPEEDATE_NODISCARD int speedate_time_column(const char *text, size_t size, SpeedateConfig config,
+                                            SpeedateColumnConfig column, int64_t *out, size_t room,
+                                            SpeedateProgress *progress);
+
+/* The offsets of times in seconds, positive east of UTC: 0 and 3600 from "12:13:14.5Z\n00:00+01:00\n". A time without an
+ * offset is refused with SPEEDATE_TZ_REQUIRED. Here too SPEEDATE_FORM_TIMESTAMP is out of range. */
+SPEEDATE_NODISCARD int speedate_time_offset_column(const char *text, size_t size, SpeedateConfig config,
+                                                   SpeedateColumnConfig column, int32_t *out, size_t room,
+                                                   SpeedateProgress *progress);
 
 /* The microseconds of durations, with their signs: 1500000 and -60000000 from "PT1.5S\n-00:01:00\n". A duration of 2^63
  * microseconds or more, which is over 106,751,991 days, is refused with SPEEDATE_NUMBER_TOO_LARGE. */
@@ -667,10 +693,26 @@ SPEEDATE_NODISCARD int speedate_datetime_column_with_errors(const char *text, si
                                                             SpeedateColumnConfig column, int64_t *out, size_t room,
                                                             uint8_t *errors, size_t error_room,
                                                             SpeedateProgress *progress);
+SPEEDATE_NODISCARD int speedate_datetime_clock_column_with_errors(const char *text, size_t size, SpeedateConfig config,
+                                                                  SpeedateColumnConfig column, int64_t *out, size_t room,
+                                                                  uint8_t *errors, size_t error_room,
+                                                                  SpeedateProgress *progress);
+SPEEDATE_NODISCARD int speedate_datetime_offset_column_with_errors(const char *text, size_t size, SpeedateConfig config,
+                                                                   SpeedateColumnConfig column, int32_t *out, size_t room,
+                                                                   uint8_t *errors, size_t error_room,
+                                                                   SpeedateProgress *progress);
 SPEEDATE_NODISCARD int speedate_date_column_with_errors(const char *text, size_t size, SpeedateConfig config,
                                                         SpeedateColumnConfig column, int32_t *out, size_t room,
                                                         uint8_t *errors, size_t error_room,
                                                         SpeedateProgress *progress);
+SPEEDATE_NODISCARD int speedate_time_column_with_errors(const char *text, size_t size, SpeedateConfig config,
+                                                        SpeedateColumnConfig column, int64_t *out, size_t room,
+                                                        uint8_t *errors, size_t error_room,
+                                                        SpeedateProgress *progress);
+SPEEDATE_NODISCARD int speedate_time_offset_column_with_errors(const char *text, size_t size, SpeedateConfig config,
+                                                               SpeedateColumnConfig column, int32_t *out, size_t room,
+                                                               uint8_t *errors, size_t error_room,
+                                                               SpeedateProgress *progress);
 SPEEDATE_NODISCARD int speedate_duration_column_with_errors(const char *text, size_t size, SpeedateConfig config,
                                                             SpeedateColumnConfig column, int64_t *out, size_t room,
                                                             uint8_t *errors, size_t error_room,

@@ -693,8 +693,8 @@ template <class Call> Result<Progress> column(Call call) { return written<Progre
 } // namespace detail
 
 /* Read the lines of a text as numbers, as many as there is room for in `out`, an array, a std::vector or another
- * container with contiguous numbers: std::int32_t for dates, otherwise std::int64_t. The calls with errors write the
- * code of each line into a container of std::uint8_t. */
+ * container with contiguous numbers: std::int32_t for dates and offsets, otherwise std::int64_t. The calls with errors
+ * write the code of each line into a container of std::uint8_t. */
 template <class Numbers>
 Result<Progress> date_column(std::string_view text, Numbers &out, const Config &config = {},
                              const ColumnConfig &column = {}) {
@@ -709,6 +709,38 @@ Result<Progress> datetime_column(std::string_view text, Numbers &out, const Conf
     return detail::column([&](auto *progress) {
         return speedate_datetime_column(text.data(), text.size(), config.c(), column.c(), std::data(out),
                                         std::size(out), progress);
+    });
+}
+template <class Numbers>
+Result<Progress> datetime_clock_column(std::string_view text, Numbers &out, const Config &config = {},
+                                       const ColumnConfig &column = {}) {
+    return detail::column([&](auto *progress) {
+        return speedate_datetime_clock_column(text.data(), text.size(), config.c(), column.c(), std::data(out),
+                                              std::size(out), progress);
+    });
+}
+template <class Numbers>
+Result<Progress> datetime_offset_column(std::string_view text, Numbers &out, const Config &config = {},
+                                        const ColumnConfig &column = {}) {
+    return detail::column([&](auto *progress) {
+        return speedate_datetime_offset_column(text.data(), text.size(), config.c(), column.c(), std::data(out),
+                                               std::size(out), progress);
+    });
+}
+template <class Numbers>
+Result<Progress> time_column(std::string_view text, Numbers &out, const Config &config = {},
+                             const ColumnConfig &column = {}) {
+    return detail::column([&](auto *progress) {
+        return speedate_time_column(text.data(), text.size(), config.c(), column.c(), std::data(out),
+                                    std::size(out), progress);
+    });
+}
+template <class Numbers>
+Result<Progress> time_offset_column(std::string_view text, Numbers &out, const Config &config = {},
+                                    const ColumnConfig &column = {}) {
+    return detail::column([&](auto *progress) {
+        return speedate_time_offset_column(text.data(), text.size(), config.c(), column.c(), std::data(out),
+                                           std::size(out), progress);
     });
 }
 template <class Numbers>
@@ -733,6 +765,38 @@ Result<Progress> datetime_column_with_errors(std::string_view text, Numbers &out
     return detail::column([&](auto *progress) {
         return speedate_datetime_column_with_errors(text.data(), text.size(), config.c(), column.c(), std::data(out),
                                                     std::size(out), std::data(errors), std::size(errors), progress);
+    });
+}
+template <class Numbers, class Codes>
+Result<Progress> datetime_clock_column_with_errors(std::string_view text, Numbers &out, Codes &errors,
+                                                   const Config &config = {}, const ColumnConfig &column = {}) {
+    return detail::column([&](auto *progress) {
+        return speedate_datetime_clock_column_with_errors(text.data(), text.size(), config.c(), column.c(), std::data(out),
+                                                          std::size(out), std::data(errors), std::size(errors), progress);
+    });
+}
+template <class Numbers, class Codes>
+Result<Progress> datetime_offset_column_with_errors(std::string_view text, Numbers &out, Codes &errors,
+                                                    const Config &config = {}, const ColumnConfig &column = {}) {
+    return detail::column([&](auto *progress) {
+        return speedate_datetime_offset_column_with_errors(text.data(), text.size(), config.c(), column.c(), std::data(out),
+                                                           std::size(out), std::data(errors), std::size(errors), progress);
+    });
+}
+template <class Numbers, class Codes>
+Result<Progress> time_column_with_errors(std::string_view text, Numbers &out, Codes &errors,
+                                         const Config &config = {}, const ColumnConfig &column = {}) {
+    return detail::column([&](auto *progress) {
+        return speedate_time_column_with_errors(text.data(), text.size(), config.c(), column.c(), std::data(out),
+                                                std::size(out), std::data(errors), std::size(errors), progress);
+    });
+}
+template <class Numbers, class Codes>
+Result<Progress> time_offset_column_with_errors(std::string_view text, Numbers &out, Codes &errors,
+                                                const Config &config = {}, const ColumnConfig &column = {}) {
+    return detail::column([&](auto *progress) {
+        return speedate_time_offset_column_with_errors(text.data(), text.size(), config.c(), column.c(), std::data(out),
+                                                       std::size(out), std::data(errors), std::size(errors), progress);
     });
 }
 template <class Numbers, class Codes>

@@ -414,7 +414,11 @@ static int run_text(const char *text, size_t size) {
     PLACE(datetime_error_place_front)
     PLACE(duration_error_place)
     COLUMN(int64_t, datetime_column)
+    COLUMN(int64_t, datetime_clock_column)
+    COLUMN(int32_t, datetime_offset_column)
     COLUMN(int32_t, date_column)
+    COLUMN(int64_t, time_column)
+    COLUMN(int32_t, time_offset_column)
     COLUMN(int64_t, duration_column)
     return 0;
 }

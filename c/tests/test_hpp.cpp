@@ -213,6 +213,14 @@ static void columns() {
     CHECK(read.lines == 1 && read.bytes == 7 && !read.error && days[0] == 1 && days[1] == 7);
     read = duration_column("PT1.5S\n-00:01:00\n", numbers).value();
     CHECK(read.lines == 2 && numbers[0] == 1500000 && numbers[1] == -60000000);
+    read = datetime_clock_column("1970-01-01T00:00:01\n1970-01-01T01:00+01:00", numbers).value();
+    CHECK(read.lines == 2 && numbers[0] == 1000000 && numbers[1] == 3600000000);
+    read = datetime_offset_column("1970-01-01T01:00+01:00\n1970-01-01T00:00\n", days).value();
+    CHECK(read.lines == 1 && days[0] == 3600 && read.error == Error(SPEEDATE_TZ_REQUIRED));
+    read = time_column("12:13:14.5\n00:00+01:00\n", numbers).value();
+    CHECK(read.lines == 2 && numbers[0] == 43994500000 && numbers[1] == 0);
+    read = time_offset_column("12:13Z\n00:00-01:00\n", days).value();
+    CHECK(read.lines == 2 && days[0] == 0 && days[1] == -3600);
     column = ColumnConfig();
     column.assumes_utc = true;
     CHECK(datetime_column("1970-01-01T00:00:02", numbers, {}, column).value().lines == 1 && numbers[0] == 2000000);
@@ -225,6 +233,14 @@ static void columns() {
     CHECK(errors[0] == 0 && errors[1] == SPEEDATE_TOO_SHORT);
     read = date_column_with_errors("1970-01-03\nx", days, errors).value();
     CHECK(read.lines == 2 && days[0] == 2 && days[1] == INT32_MIN && errors[1] == SPEEDATE_TOO_SHORT);
+    read = datetime_clock_column_with_errors("1970-01-01T00:00:03-01:00\nx", numbers, errors).value();
+    CHECK(read.lines == 2 && numbers[0] == 3000000 && numbers[1] == INT64_MIN && errors[1] == SPEEDATE_TOO_SHORT);
+    read = datetime_offset_column_with_errors("1970-01-01T00:00+02:00\n1970-01-01T00:00", days, errors).value();
+    CHECK(read.lines == 2 && days[0] == 7200 && days[1] == INT32_MIN && errors[1] == SPEEDATE_TZ_REQUIRED);
+    read = time_column_with_errors("00:00:04+01:00\n24:00", numbers, errors).value();
+    CHECK(read.lines == 2 && numbers[0] == 4000000 && errors[0] == 0 && errors[1] == SPEEDATE_OUT_OF_RANGE_HOUR);
+    read = time_offset_column_with_errors("00:00+03:00\n00:00", days, errors).value();
+    CHECK(read.lines == 2 && days[0] == 10800 && errors[0] == 0 && errors[1] == SPEEDATE_TZ_REQUIRED);
     read = duration_column_with_errors("PT2S\nP999999999D", numbers, errors).value();
     CHECK(read.lines == 2 && numbers[0] == 2000000 && errors[1] == SPEEDATE_NUMBER_TOO_LARGE);
 
@@ -242,6 +258,24 @@ static void columns() {
     CHECK(days[0] == 2 && errors[0] == 0);
     CHECK(datetime_column_with_errors("7\r\n", numbers, errors, config, column).value().lines == 1);
     CHECK(numbers[0] == 7 && errors[0] == 0);
+    CHECK(datetime_clock_column("6\r\n", numbers, config, column).value().lines == 1 && numbers[0] == 6);
+    CHECK(datetime_clock_column_with_errors("8\r\n", numbers, errors, config, column).value().lines == 1);
+    CHECK(numbers[0] == 8 && errors[0] == 0);
+    Config east = config;
+    east.timestamp_offset = 3600;
+    CHECK(datetime_offset_column("6\r\n", days, east, column).value().lines == 1 && days[0] == 3600);
+    east.timestamp_offset = 7200;
+    CHECK(datetime_offset_column_with_errors("6\r\n", days, errors, east, column).value().lines == 1);
+    CHECK(days[0] == 7200 && errors[0] == 0);
+    ColumnConfig times;
+    times.drops_returns = true;
+    const Config cut = with(Unit::Infer, Overflow::Truncate, Order::Lax);
+    CHECK(time_column("00:00:00.0000019\r\n", numbers, cut, times).value().lines == 1 && numbers[0] == 1);
+    CHECK(time_column_with_errors("00:00:00.0000029\r\n", numbers, errors, cut, times).value().lines == 1);
+    CHECK(numbers[0] == 2 && errors[0] == 0);
+    CHECK(time_offset_column("00:00:00.1234567+00:01\r\n", days, cut, times).value().lines == 1 && days[0] == 60);
+    CHECK(time_offset_column_with_errors("00:00:00.1234567z\r\n", days, errors, cut, times).value().lines == 1);
+    CHECK(days[0] == 0 && errors[0] == 0);
     CHECK(duration_column_with_errors("PT4S\r\nPT1S1M", numbers, errors, config, column).value().lines == 2);
     CHECK(numbers[0] == 4000000 && errors[0] == 0 && errors[1] == SPEEDATE_DURATION_UNIT_ORDER);
 }

@@ -1,17 +1,19 @@
 -- Columns from outside: what their configuration says, which number a line has, and what a call
 -- leaves.
-use Rattle.std.specs.Prelude.{◌≡◌, ℕ, ◌≤◌, ◌++◌, ℤ, negsuc, Bool, not, List, [], ◌∷◌, length, min, drop, slice_get, Option, Some, None, Result, if◌then◌else◌}
+use Rattle.std.specs.Prelude.{◌≡◌, ℕ, ◌≤◌, ◌++◌, ℤ, negsuc, pos, Bool, not, List, [], ◌∷◌, length, min, drop, slice_get, Option, Some, None, Result, if◌then◌else◌}
 use Rattle.std.specs.Option.{option_and_then, option_map}
 use Rattle.speedate.specs.Base.{ParseError, TimestampUnit}
 use Rattle.speedate.specs.Calendar.{days_between}
 use Rattle.speedate.specs.Config.{Choices}
 use Rattle.speedate.specs.Date.{date_answer, date_or_timestamp}
 use Rattle.speedate.specs.DateTime.{DateAndTime, date_time_answer, date_time_or_timestamp}
-use Rattle.speedate.specs.DateTime.{utc_microsecond}
-use Rattle.speedate.specs.Standard.{strict_date_time_answer}
+use Rattle.speedate.specs.DateTime.{local_microsecond, utc_microsecond}
+use Rattle.speedate.specs.Standard.{strict_date_time_answer, strict_time_answer}
+use Rattle.speedate.specs.Time.{TimeOfDay, microsecond_of_day, time_answer}
 use Rattle.speedate.specs.Requirement.{result_and_then}
 use Rattle.speedate.specs.Duration.{duration_answer}
-use Rattle.speedate.specs.Column.{as_number, epoch, number_of_duration, text_column, with_offset}
+use Rattle.speedate.specs.Column.{as_number, epoch, number_of_duration, offset_as_number}
+use Rattle.speedate.specs.Column.{text_column, with_offset}
 use Rattle.speedate.specs.declared.LineConfig.{LineConfig}
 use Rattle.speedate.specs.declared.LineError.{LineError}
 use Rattle.speedate.specs.Lines.{whole_lines}
@@ -71,6 +73,37 @@ date_time_number_by chosen column line =
     as_number utc_microsecond
     (result_and_then (with_offset column.assumes_utc) (date_time_of_form column.form chosen line))
 
+-- the number of a line in a column of date-times as their clocks show them: the microseconds since
+-- 1970-01-01T00:00:00 on the same clock, whatever the offset
+abbrev pub clock_number_by : Choices → LineForm → List ℕ → Result ℤ LineError
+clock_number_by chosen form line = as_number local_microsecond (date_time_of_form form chosen line)
+
+-- the number of a line in a column of the offsets of date-times: its seconds
+abbrev pub date_time_offset_number_by : Choices → LineForm → List ℕ → Result ℤ LineError
+date_time_offset_number_by chosen form line =
+    offset_as_number (λ value. value.time.offset) (date_time_of_form form chosen line)
+
+-- the time of a line, or the error, where the form is one of times
+abbrev pub time_of_form : LineForm → Choices → Option (List ℕ → Result TimeOfDay ParseError)
+time_of_form LineForm.Text chosen = Some (λ line. time_answer chosen.behavior line)
+time_of_form LineForm.Timestamp chosen = None
+time_of_form LineForm.Strict chosen = Some (λ line. strict_time_answer chosen.behavior line)
+
+-- the number of a line in a column of times, where the form is one of times: the microseconds after
+-- midnight that its clock shows, whatever the offset
+abbrev pub time_number_by : Choices → LineForm → Option (List ℕ → Result ℤ LineError)
+time_number_by chosen form =
+    option_map (λ time_of_line line.
+    as_number (λ time. pos (microsecond_of_day time)) (time_of_line line))
+    (time_of_form form chosen)
+
+-- the number of a line in a column of the offsets of times, where the form is one of times: its
+-- seconds
+abbrev pub time_offset_number_by : Choices → LineForm → Option (List ℕ → Result ℤ LineError)
+time_offset_number_by chosen form =
+    option_map (λ time_of_line line. offset_as_number (λ time. time.offset) (time_of_line line))
+    (time_of_form form chosen)
+
 -- the number of a line in a column of dates, where the form is one of dates: the days since
 -- 1970-01-01
 abbrev pub date_number_by : TimestampUnit → LineForm → Option (List ℕ → Result ℤ LineError)
@@ -85,32 +118,53 @@ abbrev pub duration_number_by : Choices → List ℕ → Result ℤ LineError
 duration_number_by chosen line =
     number_of_duration (duration_answer chosen.order chosen.behavior line)
 
--- what both configurations choose for a column of date-times, where each of their numbers has a
--- value: how it is read, and the number of a line
-abbrev pub chosen_for_date_times : SpeedateConfig → SpeedateColumnConfig
+-- what both configurations choose, where each of their numbers has a value, and the form is one of
+-- the column: how it is read, and the number of a line
+abbrev pub chosen_by : (Choices → ColumnChoices → Option (List ℕ → Result ℤ LineError))
+    → SpeedateConfig → SpeedateColumnConfig
     → Option (ColumnChoices × (List ℕ → Result ℤ LineError))
-chosen_for_date_times config column =
-    option_and_then (λ chosen.
-    option_map (λ column. (column, date_time_number_by chosen column)) (column_choices_of column))
-    (choices_of config)
-
--- the same for a column of dates
-abbrev pub chosen_for_dates : SpeedateConfig → SpeedateColumnConfig
-    → Option (ColumnChoices × (List ℕ → Result ℤ LineError))
-chosen_for_dates config column =
+chosen_by number config column =
     option_and_then (λ chosen.
     option_and_then (λ column.
-    option_map (λ number. (column, number)) (date_number_by chosen.unit column.form))
+    option_map (λ number. (column, number)) (number chosen column))
     (column_choices_of column))
     (choices_of config)
 
--- the same for a column of durations
+-- the same for a column of date-times
+abbrev pub chosen_for_date_times : SpeedateConfig → SpeedateColumnConfig
+    → Option (ColumnChoices × (List ℕ → Result ℤ LineError))
+chosen_for_date_times = chosen_by (λ chosen column. Some (date_time_number_by chosen column))
+
+-- for a column of date-times as their clocks show them
+abbrev pub chosen_for_clocks : SpeedateConfig → SpeedateColumnConfig
+    → Option (ColumnChoices × (List ℕ → Result ℤ LineError))
+chosen_for_clocks = chosen_by (λ chosen column. Some (clock_number_by chosen column.form))
+
+-- for a column of the offsets of date-times
+abbrev pub chosen_for_date_time_offsets : SpeedateConfig → SpeedateColumnConfig
+    → Option (ColumnChoices × (List ℕ → Result ℤ LineError))
+chosen_for_date_time_offsets =
+    chosen_by (λ chosen column. Some (date_time_offset_number_by chosen column.form))
+
+-- for a column of dates
+abbrev pub chosen_for_dates : SpeedateConfig → SpeedateColumnConfig
+    → Option (ColumnChoices × (List ℕ → Result ℤ LineError))
+chosen_for_dates = chosen_by (λ chosen column. date_number_by chosen.unit column.form)
+
+-- for a column of times
+abbrev pub chosen_for_times : SpeedateConfig → SpeedateColumnConfig
+    → Option (ColumnChoices × (List ℕ → Result ℤ LineError))
+chosen_for_times = chosen_by (λ chosen column. time_number_by chosen column.form)
+
+-- for a column of the offsets of times
+abbrev pub chosen_for_time_offsets : SpeedateConfig → SpeedateColumnConfig
+    → Option (ColumnChoices × (List ℕ → Result ℤ LineError))
+chosen_for_time_offsets = chosen_by (λ chosen column. time_offset_number_by chosen column.form)
+
+-- for a column of durations
 abbrev pub chosen_for_durations : SpeedateConfig → SpeedateColumnConfig
     → Option (ColumnChoices × (List ℕ → Result ℤ LineError))
-chosen_for_durations config column =
-    option_and_then (λ chosen.
-    option_map (λ column. (column, duration_number_by chosen)) (column_choices_of column))
-    (choices_of config)
+chosen_for_durations = chosen_by (λ chosen column. Some (duration_number_by chosen))
 
 -- the code of the error that ends a column, if one does
 abbrev pub ended_code : Option LineError → ℤ
