@@ -88,7 +88,7 @@ mod sealed {
     pub trait Sealed {}
 }
 
-/// Reads a line as a number. A [`DateReader`], a [`DateTimeReader`] and a [`DurationReader`] do, and no other type can.
+/// Reads a line as a number. The readers of this crate do, and no other type can.
 ///
 /// ```
 /// use speedate::{read_column, DateReader, DurationReader, LineConfig, LineReader, TimeConfig};
@@ -281,7 +281,19 @@ reader!(DateTimeReader by speedate_datetime_column, speedate_datetime_column_wit
 
 impl From<&DateTimeReader> for Config {
     fn from(reader: &DateTimeReader) -> Self {
-        match &reader.parser {
+        Self::from(&reader.parser)
+    }
+}
+
+impl From<&DateTimeReader> for ColumnConfig {
+    fn from(reader: &DateTimeReader) -> Self {
+        Self::from(&reader.parser).assumes_utc(reader.assumes_utc)
+    }
+}
+
+impl From<&DateTimeParser> for Config {
+    fn from(parser: &DateTimeParser) -> Self {
+        match parser {
             DateTimeParser::Rfc3339(config) => config.into(),
             DateTimeParser::OrTimestamp(config) => config.into(),
             DateTimeParser::Strict(behavior) => Self::default().behavior(*behavior),
@@ -289,16 +301,141 @@ impl From<&DateTimeReader> for Config {
     }
 }
 
-impl From<&DateTimeReader> for ColumnConfig {
-    fn from(reader: &DateTimeReader) -> Self {
-        let column = Self::default().assumes_utc(reader.assumes_utc);
-        match reader.parser {
-            DateTimeParser::Rfc3339(_) => column,
-            DateTimeParser::OrTimestamp(_) => column.timestamps(),
-            DateTimeParser::Strict(_) => column.strict(),
+impl From<&DateTimeParser> for ColumnConfig {
+    fn from(parser: &DateTimeParser) -> Self {
+        match parser {
+            DateTimeParser::Rfc3339(_) => Self::default(),
+            DateTimeParser::OrTimestamp(_) => Self::default().timestamps(),
+            DateTimeParser::Strict(_) => Self::default().strict(),
         }
     }
 }
+
+/// Defines what a reader that has nothing but a parser is to C.
+macro_rules! configured {
+    ($($name:ident),*) => {$(
+        impl From<&$name> for Config {
+            fn from(reader: &$name) -> Self {
+                Self::from(&reader.parser)
+            }
+        }
+
+        impl From<&$name> for ColumnConfig {
+            fn from(reader: &$name) -> Self {
+                Self::from(&reader.parser)
+            }
+        }
+    )*};
+}
+
+/// Reads a line as a date-time, and counts the microseconds from 1970-01-01T00:00:00 on the same clock, whatever the offset.
+///
+/// With the number of a [`DateTimeOffsetReader`] it tells the date-time and its offset, where a [`DateTimeReader`] tells the
+/// instant alone.
+///
+/// ```
+/// use speedate::{read_column, DateTimeClockReader, DateTimeParser, LineConfig, TimeConfig};
+///
+/// let reader = DateTimeClockReader { parser: DateTimeParser::Rfc3339(TimeConfig::default()) };
+/// let (config, mut out) = (LineConfig { at_end: true, drops_returns: false }, [0; 2]);
+/// read_column(b"1970-01-01T00:00:01\n1970-01-01T01:00+01:00\n", config, &reader, &mut out).unwrap();
+/// assert_eq!(out, [1_000_000, 3_600_000_000]);
+/// ```
+#[derive(Debug, Clone, PartialEq)]
+pub struct DateTimeClockReader {
+    /// How a line is parsed.
+    pub parser: DateTimeParser,
+}
+
+reader!(DateTimeClockReader by speedate_datetime_clock_column, speedate_datetime_clock_column_with_errors -> i64);
+
+/// Reads a line as a date-time, and gives its offset from UTC in seconds, positive east of UTC.
+///
+/// A date-time without an offset is refused, with [`TzRequired`](ParseError::TzRequired). A timestamp has the offset of the
+/// configuration.
+///
+/// ```
+/// use speedate::{read_column, DateTimeOffsetReader, DateTimeParser, LineConfig, TimeConfig};
+///
+/// let reader = DateTimeOffsetReader { parser: DateTimeParser::Rfc3339(TimeConfig::default()) };
+/// let (config, mut out) = (LineConfig { at_end: true, drops_returns: false }, [7; 2]);
+/// read_column(b"1970-01-01T00:00:01Z\n1970-01-01T01:00+01:00\n", config, &reader, &mut out).unwrap();
+/// assert_eq!(out, [0, 3_600]);
+/// ```
+#[derive(Debug, Clone, PartialEq)]
+pub struct DateTimeOffsetReader {
+    /// How a line is parsed.
+    pub parser: DateTimeParser,
+}
+
+reader!(DateTimeOffsetReader by speedate_datetime_offset_column, speedate_datetime_offset_column_with_errors -> i32);
+
+/// How a column parses its times. [`TimeReader`] has an example.
+#[derive(Debug, Clone, PartialEq)]
+pub enum TimeParser {
+    /// Texts of RFC 3339, relaxed, as [`Time::parse_bytes_with_config`](crate::Time::parse_bytes_with_config).
+    Rfc3339(TimeConfig),
+    /// Texts of RFC 3339 alone, as [`Time::parse_bytes_strict`](crate::Time::parse_bytes_strict).
+    Strict(MicrosecondsPrecisionOverflowBehavior),
+}
+
+impl From<&TimeParser> for Config {
+    fn from(parser: &TimeParser) -> Self {
+        match parser {
+            TimeParser::Rfc3339(config) => config.into(),
+            TimeParser::Strict(behavior) => Self::default().behavior(*behavior),
+        }
+    }
+}
+
+impl From<&TimeParser> for ColumnConfig {
+    fn from(parser: &TimeParser) -> Self {
+        match parser {
+            TimeParser::Rfc3339(_) => Self::default(),
+            TimeParser::Strict(_) => Self::default().strict(),
+        }
+    }
+}
+
+/// Reads a line as a time, and counts the microseconds after midnight that its clock shows, whatever the offset.
+///
+/// ```
+/// use speedate::{read_column, LineConfig, TimeConfig, TimeParser, TimeReader};
+///
+/// let reader = TimeReader { parser: TimeParser::Rfc3339(TimeConfig::default()) };
+/// let (config, mut out) = (LineConfig { at_end: true, drops_returns: false }, [7; 2]);
+/// read_column(b"12:13:14.5\n00:00+01:00\n", config, &reader, &mut out).unwrap();
+/// assert_eq!(out, [43_994_500_000, 0]);
+/// ```
+#[derive(Debug, Clone, PartialEq)]
+pub struct TimeReader {
+    /// How a line is parsed.
+    pub parser: TimeParser,
+}
+
+reader!(TimeReader by speedate_time_column, speedate_time_column_with_errors -> i64);
+
+/// Reads a line as a time, and gives its offset from UTC in seconds, positive east of UTC.
+///
+/// A time without an offset is refused, with [`TzRequired`](ParseError::TzRequired).
+///
+/// ```
+/// use speedate::{read_column, LineConfig, TimeConfig, TimeOffsetReader, TimeParser};
+///
+/// let reader = TimeOffsetReader { parser: TimeParser::Rfc3339(TimeConfig::default()) };
+/// let (config, mut out) = (LineConfig { at_end: true, drops_returns: false }, [7; 2]);
+/// read_column(b"12:13Z\n12:13+01:00\n", config, &reader, &mut out).unwrap();
+/// assert_eq!(out, [0, 3_600]);
+/// ```
+#[derive(Debug, Clone, PartialEq)]
+pub struct TimeOffsetReader {
+    /// How a line is parsed.
+    pub parser: TimeParser,
+}
+
+reader!(TimeOffsetReader by speedate_time_offset_column, speedate_time_offset_column_with_errors -> i32);
+
+configured!(DateTimeClockReader, DateTimeOffsetReader, TimeReader, TimeOffsetReader);
 
 /// Reads a line as a duration, as [`Duration::parse_bytes_with_config`](crate::Duration::parse_bytes_with_config) does, and
 /// counts its microseconds, with the sign.

@@ -427,6 +427,14 @@ columns! {
     fn speedate_date_column_with_errors([text] config: Config, column: ColumnConfig, [out: i32], [errors: u8]);
     fn speedate_datetime_column([text] config: Config, column: ColumnConfig, [out: i64]);
     fn speedate_datetime_column_with_errors([text] config: Config, column: ColumnConfig, [out: i64], [errors: u8]);
+    fn speedate_datetime_clock_column([text] config: Config, column: ColumnConfig, [out: i64]);
+    fn speedate_datetime_clock_column_with_errors([text] config: Config, column: ColumnConfig, [out: i64], [errors: u8]);
+    fn speedate_datetime_offset_column([text] config: Config, column: ColumnConfig, [out: i32]);
+    fn speedate_datetime_offset_column_with_errors([text] config: Config, column: ColumnConfig, [out: i32], [errors: u8]);
+    fn speedate_time_column([text] config: Config, column: ColumnConfig, [out: i64]);
+    fn speedate_time_column_with_errors([text] config: Config, column: ColumnConfig, [out: i64], [errors: u8]);
+    fn speedate_time_offset_column([text] config: Config, column: ColumnConfig, [out: i32]);
+    fn speedate_time_offset_column_with_errors([text] config: Config, column: ColumnConfig, [out: i32], [errors: u8]);
     fn speedate_duration_column([text] config: Config, column: ColumnConfig, [out: i64]);
     fn speedate_duration_column_with_errors([text] config: Config, column: ColumnConfig, [out: i64], [errors: u8]);
 }

@@ -38,8 +38,9 @@ mod time;
 mod value;
 
 pub use column::{
-    read_column, read_column_with_errors, DateReader, DateTimeParser, DateTimeReader, DurationReader, LineConfig,
-    LineError, LineReader, Progress,
+    read_column, read_column_with_errors, DateReader, DateTimeClockReader, DateTimeOffsetReader, DateTimeParser,
+    DateTimeReader, DurationReader, LineConfig, LineError, LineReader, Progress, TimeOffsetReader, TimeParser,
+    TimeReader,
 };
 pub use config::{
     DateConfig, DateConfigBuilder, DateTimeConfig, DateTimeConfigBuilder, TimeConfig, TimeConfigBuilder, TimestampUnit,

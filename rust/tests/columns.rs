@@ -3,9 +3,10 @@
 use std::fmt::Debug;
 
 use speedate::{
-    read_column, read_column_with_errors, Date, DateConfig, DateReader, DateTime, DateTimeConfig, DateTimeParser,
-    DateTimeReader, Duration, DurationReader, LineConfig, LineError, LineReader, MicrosecondsPrecisionOverflowBehavior,
-    ParseError, Progress, TimeConfig, TimestampUnit,
+    read_column, read_column_with_errors, Date, DateConfig, DateReader, DateTime, DateTimeClockReader, DateTimeConfig,
+    DateTimeOffsetReader, DateTimeParser, DateTimeReader, Duration, DurationReader, LineConfig, LineError, LineReader,
+    MicrosecondsPrecisionOverflowBehavior, ParseError, Progress, Time, TimeConfig, TimeOffsetReader, TimeParser,
+    TimeReader, TimestampUnit,
 };
 
 const TEXTS: usize = 120_000;
@@ -30,32 +31,97 @@ fn dates() {
     }
 }
 
+const DATE_TIMES: [&str; 8] = [
+    "2020-02-29T12:13:14Z",
+    "2020-02-29 12:13:14.123456+01:30",
+    "1969-12-31t23:59:59.1234567-00:30",
+    "0000-01-01T00:00:00+23:59",
+    "9999-12-31_23:59",
+    "1582934400.5",
+    "-1",
+    "",
+];
+
+/// The date-time of a line.
+fn date_time(line: &[u8], parser: &DateTimeParser) -> Result<DateTime, LineError> {
+    let value = match parser {
+        DateTimeParser::Rfc3339(config) => DateTime::parse_bytes_rfc3339_with_config(line, config),
+        DateTimeParser::OrTimestamp(config) => DateTime::parse_bytes_with_config(line, config),
+        DateTimeParser::Strict(behavior) => DateTime::parse_bytes_strict(line, *behavior),
+    };
+    value.map_err(LineError::Parse)
+}
+
 #[test]
 fn date_times() {
-    let lines = [
-        "2020-02-29T12:13:14Z",
-        "2020-02-29 12:13:14.123456+01:30",
-        "1969-12-31t23:59:59.1234567-00:30",
-        "0000-01-01T00:00:00+23:59",
-        "9999-12-31_23:59",
-        "1582934400.5",
-        "-1",
-        "",
-    ];
     for seed in 1..=TEXTS {
         let mut draws = Draws::new(seed);
         let reader = DateTimeReader { parser: draws.parser(), assumes_utc: draws.flag() };
-        draws.compare(&lines, &reader, i64::MIN, |line| {
-            let value = match &reader.parser {
-                DateTimeParser::Rfc3339(config) => DateTime::parse_bytes_rfc3339_with_config(line, config),
-                DateTimeParser::OrTimestamp(config) => DateTime::parse_bytes_with_config(line, config),
-                DateTimeParser::Strict(behavior) => DateTime::parse_bytes_strict(line, *behavior),
-            };
-            let value = value.map_err(LineError::Parse)?;
+        draws.compare(&DATE_TIMES, &reader, i64::MIN, |line| {
+            let value = date_time(line, &reader.parser)?;
             if value.time.tz_offset.is_none() && !reader.assumes_utc {
                 return Err(LineError::Parse(ParseError::TzRequired));
             }
             Ok(value.timestamp_tz_us())
+        });
+    }
+}
+
+#[test]
+fn clocks() {
+    for seed in 1..=TEXTS {
+        let mut draws = Draws::new(seed);
+        let reader = DateTimeClockReader { parser: draws.parser() };
+        draws.compare(&DATE_TIMES, &reader, i64::MIN, |line| {
+            let value = date_time(line, &reader.parser)?;
+            Ok(value.timestamp() * 1_000_000 + i64::from(value.time.microsecond))
+        });
+    }
+}
+
+#[test]
+fn date_time_offsets() {
+    for seed in 1..=TEXTS {
+        let mut draws = Draws::new(seed);
+        let reader = DateTimeOffsetReader { parser: draws.parser() };
+        draws.compare(&DATE_TIMES, &reader, i32::MIN, |line| {
+            let offset = date_time(line, &reader.parser)?.time.tz_offset;
+            offset.ok_or(LineError::Parse(ParseError::TzRequired))
+        });
+    }
+}
+
+const TIMES: [&str; 7] =
+    ["12:13:14Z", "12:13:14.123456+01:30", "23:59:59.1234567-00:30", "00:00+23:59", "12:13", "24:00", ""];
+
+/// The time of a line.
+fn time(line: &[u8], parser: &TimeParser) -> Result<Time, LineError> {
+    let value = match parser {
+        TimeParser::Rfc3339(config) => Time::parse_bytes_with_config(line, config),
+        TimeParser::Strict(behavior) => Time::parse_bytes_strict(line, *behavior),
+    };
+    value.map_err(LineError::Parse)
+}
+
+#[test]
+fn times() {
+    for seed in 1..=TEXTS {
+        let mut draws = Draws::new(seed);
+        let reader = TimeReader { parser: draws.time_parser() };
+        draws.compare(&TIMES, &reader, i64::MIN, |line| {
+            let time = time(line, &reader.parser)?;
+            Ok(i64::from(time.total_seconds()) * 1_000_000 + i64::from(time.microsecond))
+        });
+    }
+}
+
+#[test]
+fn time_offsets() {
+    for seed in 1..=TEXTS {
+        let mut draws = Draws::new(seed);
+        let reader = TimeOffsetReader { parser: draws.time_parser() };
+        draws.compare(&TIMES, &reader, i32::MIN, |line| {
+            time(line, &reader.parser)?.tz_offset.ok_or(LineError::Parse(ParseError::TzRequired))
         });
     }
 }
@@ -130,6 +196,13 @@ impl Draws {
                 let (timestamp_unit, time_config) = (self.unit(), self.time_config());
                 DateTimeParser::OrTimestamp(DateTimeConfig { timestamp_unit, time_config })
             }
+        }
+    }
+
+    fn time_parser(&mut self) -> TimeParser {
+        match self.flag() {
+            true => TimeParser::Rfc3339(self.time_config()),
+            false => TimeParser::Strict(self.behavior()),
         }
     }
 

@@ -3,9 +3,10 @@
 use std::panic::{catch_unwind, set_hook, take_hook};
 
 use speedate::{
-    int_parse_str, read_column, read_column_with_errors, Date, DateConfig, DateReader, DateTime, DateTimeConfig,
-    DateTimeParser, DateTimeReader, Duration, DurationReader, LineConfig, LineReader,
-    MicrosecondsPrecisionOverflowBehavior, ParseError, Time, TimeConfig, TimestampUnit,
+    int_parse_str, read_column, read_column_with_errors, Date, DateConfig, DateReader, DateTime, DateTimeClockReader,
+    DateTimeConfig, DateTimeOffsetReader, DateTimeParser, DateTimeReader, Duration, DurationReader, LineConfig,
+    LineReader, MicrosecondsPrecisionOverflowBehavior, ParseError, Time, TimeConfig, TimeOffsetReader, TimeParser,
+    TimeReader, TimestampUnit,
 };
 
 const ROWS: &str = include_str!("../../c/tests/rows.txt");
@@ -123,19 +124,46 @@ impl Row<'_> {
                 self.has_column(readers.get(usize::from(self.get::<Column>(2)?.form))?)?
             }
             "datetime_column" | "datetime_column_with_errors" => {
-                let Column { form, assumes_utc, .. } = self.get(2)?;
-                let parser = match form {
-                    0 => DateTimeParser::Rfc3339(time_config(1)?),
-                    1 => DateTimeParser::OrTimestamp(config(1)?),
-                    _ => DateTimeParser::Strict(behavior(1)?),
-                };
-                self.has_column(&DateTimeReader { parser, assumes_utc })?
+                let assumes_utc = self.get::<Column>(2)?.assumes_utc;
+                self.has_column(&DateTimeReader { parser: self.get_parser()?, assumes_utc })?
+            }
+            "datetime_clock_column" | "datetime_clock_column_with_errors" => {
+                self.has_column(&DateTimeClockReader { parser: self.get_parser()? })?
+            }
+            "datetime_offset_column" | "datetime_offset_column_with_errors" => {
+                self.has_column(&DateTimeOffsetReader { parser: self.get_parser()? })?
+            }
+            "time_column" | "time_column_with_errors" => {
+                self.has_column(&TimeReader { parser: self.get_time_parser()? })?
+            }
+            "time_offset_column" | "time_offset_column_with_errors" => {
+                self.has_column(&TimeOffsetReader { parser: self.get_time_parser()? })?
             }
             "duration_column" | "duration_column_with_errors" => {
                 self.has_column(&DurationReader { config: time_config(1)? })?
             }
             _ => return None,
         })
+    }
+
+    /// The parser of a column of date-times.
+    fn get_parser(&self) -> Option<DateTimeParser> {
+        let config: DateTimeConfig = self.get(1)?;
+        Some(match self.get::<Column>(2)?.form {
+            0 => DateTimeParser::Rfc3339(config.time_config),
+            1 => DateTimeParser::OrTimestamp(config),
+            _ => DateTimeParser::Strict(config.time_config.microseconds_precision_overflow_behavior),
+        })
+    }
+
+    /// The parser of a column of times.
+    fn get_time_parser(&self) -> Option<TimeParser> {
+        let config = self.get::<DateTimeConfig>(1)?.time_config;
+        match self.get::<Column>(2)?.form {
+            0 => Some(TimeParser::Rfc3339(config)),
+            2 => Some(TimeParser::Strict(config.microseconds_precision_overflow_behavior)),
+            _ => None,
+        }
     }
 
     /// Whether a column has these numbers, errors and progress. A column without errors that goes on is none of the API.
