@@ -825,20 +825,33 @@ typedef int ReadLines(const Text *text, SpeedateConfig config, SpeedateColumnCon
         return call(BYTES, config, column, numbers, room, progress); \
     }
 READ_LINES(read_date_times, speedate_datetime_column, int64_t)
+READ_LINES(read_clocks, speedate_datetime_clock_column, int64_t)
+READ_LINES(read_times, speedate_time_column, int64_t)
 READ_LINES(read_durations, speedate_duration_column, int64_t)
-READ_LINES(read_days, speedate_date_column, int32_t)
 
-/* Days have 32 bits in C, and 64 in NumPy. They are written to the later half of their places, and move forward. */
-static int read_dates(const Text *text, SpeedateConfig config, SpeedateColumnConfig column, int64_t *numbers,
-                      size_t room, SpeedateProgress *progress) {
-    int32_t *days = (int32_t *)numbers + room, day;
-    int code = read_days(text, config, column, days, room, progress);
-    for (size_t i = 0; code == SPEEDATE_OK && i < progress->lines; i++) {
-        memcpy(&day, (char *)days + i * sizeof day, sizeof day);
-        numbers[i] = day == INT32_MIN ? NOT_A_TIME : day;
+/* Days and offsets have 32 bits in C, and 64 in NumPy. They are written to the later half of their places, and move
+ * forward. */
+#define READ_SHORT_LINES(name, call) \
+    READ_LINES(name##_of_32_bits, call, int32_t) \
+    static int name(const Text *text, SpeedateConfig config, SpeedateColumnConfig column, int64_t *numbers, \
+                    size_t room, SpeedateProgress *progress) { \
+        int32_t *short_numbers = (int32_t *)numbers + room; \
+        int code = name##_of_32_bits(text, config, column, short_numbers, room, progress); \
+        if (code == SPEEDATE_OK) \
+            move_forward(numbers, short_numbers, progress->lines); \
+        return code; \
     }
-    return code;
+
+static void move_forward(int64_t *numbers, const int32_t *short_numbers, size_t count) {
+    int32_t number;
+    for (size_t i = 0; i < count; i++) {
+        memcpy(&number, (const char *)short_numbers + i * sizeof number, sizeof number);
+        numbers[i] = number == INT32_MIN ? NOT_A_TIME : number;
+    }
 }
+READ_SHORT_LINES(read_dates, speedate_date_column)
+READ_SHORT_LINES(read_date_time_offsets, speedate_datetime_offset_column)
+READ_SHORT_LINES(read_time_offsets, speedate_time_offset_column)
 
 /* How the texts of a column become numbers: lines at once, and a text of a list by its value. */
 typedef struct ColumnReader ColumnReader;
@@ -870,13 +883,32 @@ static int number_of_date(const ColumnReader *reader, const Text *text, const Va
     return code;
 }
 
-/* The microseconds, which only a column has: of one line, since no call accepts a line feed. */
-static int number_of_duration(const ColumnReader *reader, const Text *text, const Value *value, int64_t *number) {
-    static const SpeedateColumnConfig one = SPEEDATE_COLUMN_CONFIG_DEFAULT;
+/* The number that only a column has: of one line, since no call accepts a line feed. */
+static int number_of_line(const ColumnReader *reader, const Text *text, const Value *value, int64_t *number) {
+    SpeedateColumnConfig one = SPEEDATE_COLUMN_CONFIG_DEFAULT;
     (void)value;
     SpeedateProgress progress;
-    int code = speedate_duration_column(BYTES, reader->config, one, number, 1, &progress);
+    one.form = reader->lines.form;
+    int code = reader->read(text, reader->config, one, number, 1, &progress);
     return code == SPEEDATE_OK ? progress.error : code;
+}
+
+static int number_of_offset(const SpeedateTime *time, int64_t *number) {
+    if (!time->has_offset)
+        return SPEEDATE_TZ_REQUIRED;
+    *number = time->offset;
+    return SPEEDATE_OK;
+}
+
+static int number_of_date_time_offset(const ColumnReader *reader, const Text *text, const Value *value,
+                                      int64_t *number) {
+    (void)reader, (void)text;
+    return number_of_offset(&value->date_time.time, number);
+}
+
+static int number_of_time_offset(const ColumnReader *reader, const Text *text, const Value *value, int64_t *number) {
+    (void)reader, (void)text;
+    return number_of_offset(&value->time, number);
 }
 
 /* The number of a text, or its code, with NOT_A_TIME. */
@@ -896,6 +928,19 @@ static int date_time_of_timestamp(const ColumnReader *reader, int64_t timestamp,
     int code = speedate_timestamp_microseconds(timestamp, reader->config, number);
     bool lacks_offset = !reader->config.has_timestamp_offset && !reader->lines.assumes_utc;
     return code == SPEEDATE_OK && lacks_offset ? SPEEDATE_TZ_REQUIRED : code;
+}
+
+/* A clock shows a timestamp as UTC does, whatever its offset. */
+static int clock_of_timestamp(const ColumnReader *reader, int64_t timestamp, int64_t *number) {
+    SpeedateConfig config = reader->config;
+    config.timestamp_offset = config.has_timestamp_offset = 0;
+    return speedate_timestamp_microseconds(timestamp, config, number);
+}
+
+static int date_time_offset_of_timestamp(const ColumnReader *reader, int64_t timestamp, int64_t *number) {
+    Value value;
+    int code = speedate_datetime_from_timestamp(timestamp, 0, reader->config, &value.date_time);
+    return code == SPEEDATE_OK ? reader->number_of(reader, NULL, &value, number) : code;
 }
 
 static int date_of_timestamp(const ColumnReader *reader, int64_t timestamp, int64_t *number) {
@@ -1453,8 +1498,8 @@ static int take_naive(const State *state, PyObject *value, bool *out) {
     return *out ? 0 : take_choice(state, "naive", value, "error", "utc", out);
 }
 
-/* A call on columns. Its parameters stand in the order in which all have them, and its parsers in that of the forms. */
-enum { TEXTS, CONFIGURATION, FAULTS, NEWLINE, EMPTY, LINES, TIMESTAMPS, STRICT, NAIVE };
+/* A call on columns. The parameters that all have stand first, and its parsers in the order of the forms. */
+enum { TEXTS, CONFIGURATION, FAULTS, NEWLINE, EMPTY, LINES };
 #define OTHERS "config", "faults", "newline", "empty", "lines"
 typedef struct {
     Signature signature;
@@ -1464,15 +1509,23 @@ typedef struct {
     int parser[SPEEDATE_FORM_STRICT + 1];
 } ColumnCall;
 
+/* The argument of a parameter that not all have. */
+static PyObject *argument_of(const Signature *signature, const char *name, PyObject **bound) {
+    for (int i = 0; signature->parameters[i]; i++)
+        if (strcmp(signature->parameters[i], name) == 0)
+            return bound[i];
+    return NULL;
+}
+
 static PyObject *read_column(const ColumnCall *call, GIVEN) {
     Column column = {.state = PyModule_GetState(module)};
     ColumnReader *reader = &column.reader;
     PyObject *bound[COLUMN_ARGUMENTS] = {NULL};
     bool strict = false, timestamps = false, naive_is_utc = false, nat = false, return_is_text = false;
     if (bind(&call->signature, arguments, count, keywords, bound) < 0 ||
-        take_flag("strict", bound[STRICT], &strict) < 0 ||
-        take_flag("timestamps", bound[TIMESTAMPS], &timestamps) < 0 ||
-        take_naive(column.state, bound[NAIVE], &naive_is_utc) < 0 ||
+        take_flag("strict", argument_of(&call->signature, "strict", bound), &strict) < 0 ||
+        take_flag("timestamps", argument_of(&call->signature, "timestamps", bound), &timestamps) < 0 ||
+        take_naive(column.state, argument_of(&call->signature, "naive", bound), &naive_is_utc) < 0 ||
         take_faults(&column, bound[FAULTS], &nat) < 0 ||
         take_choice(column.state, "newline", bound[NEWLINE], "\r\n", "\n", &return_is_text) < 0 ||
         take_choice(column.state, "empty", bound[EMPTY], "error", "nat", &reader->empty_is_nat) < 0 ||
@@ -1500,21 +1553,49 @@ static const ColumnCall date_time_column_reader = {
     number_of_date_time,
     date_time_of_timestamp,
     {DATE_TIME, DATE_TIME_OR_TIMESTAMP, DATE_TIME_STRICT}};
+static const ColumnCall date_time_clock_column_reader = {
+    {"date_time_clock_column", {"texts", OTHERS, "timestamps", "strict"}, 2},
+    read_clocks,
+    number_of_line,
+    clock_of_timestamp,
+    {DATE_TIME, DATE_TIME_OR_TIMESTAMP, DATE_TIME_STRICT}};
+static const ColumnCall date_time_offset_column_reader = {
+    {"date_time_offset_column", {"texts", OTHERS, "timestamps", "strict"}, 2},
+    read_date_time_offsets,
+    number_of_date_time_offset,
+    date_time_offset_of_timestamp,
+    {DATE_TIME, DATE_TIME_OR_TIMESTAMP, DATE_TIME_STRICT}};
 static const ColumnCall date_column_reader = {
     {"date_column", {"texts", OTHERS, "timestamps"}, 2},
     read_dates,
     number_of_date,
     date_of_timestamp,
     {DATE, DATE_OR_TIMESTAMP, NO_PLACE}};
+static const ColumnCall time_column_reader = {
+    {"time_column", {"texts", OTHERS, "strict"}, 2},
+    read_times,
+    number_of_line,
+    NULL,
+    {TIME, NO_PLACE, TIME_STRICT}};
+static const ColumnCall time_offset_column_reader = {
+    {"time_offset_column", {"texts", OTHERS, "strict"}, 2},
+    read_time_offsets,
+    number_of_time_offset,
+    NULL,
+    {TIME, NO_PLACE, TIME_STRICT}};
 static const ColumnCall duration_column_reader = {
     {"duration_column", {"texts", OTHERS}, 2},
     read_durations,
-    number_of_duration,
+    number_of_line,
     NULL,
     {DURATION, NO_PLACE, NO_PLACE}};
 
 CALL(date_time_column, read_column)
+CALL(date_time_clock_column, read_column)
+CALL(date_time_offset_column, read_column)
 CALL(date_column, read_column)
+CALL(time_column, read_column)
+CALL(time_offset_column, read_column)
 CALL(duration_column, read_column)
 
 /* ---- Printing ---- */
@@ -1872,6 +1953,26 @@ static PyMethodDef methods[] = {
            "{'index': array('q', [1]), 'code': array('B', [1]), 'place': array('q', [5])}\n\n"
            "NumPy takes a column as it is, by `numpy.frombuffer(column, \"datetime64[us]\")`. pandas before 2 holds only the\n"
            "years 1677 to 2262.\n"),
+    METHOD(date_time_clock_column,
+           "(texts, config=None, *, strict=False, timestamps=False, faults='raise', newline='\\r\\n', empty='error', "
+           "lines=False)",
+           "The microseconds from 1970-01-01T00:00 that the clock of each date-time shows, as an `array.array(\"q\")`.\n\n"
+           "The arguments are those of `date_time_column`. The clock is read whatever the offset is, and with that, by\n"
+           "`date_time_offset_column`, it is the date-time as it stands. A timestamp shows the clock of UTC.\n\n"
+           ">>> date_time_clock_column([\"1970-01-01T00:00:01\", \"1970-01-01T01:00+01:00\"])\n"
+           "array('q', [1000000, 3600000000])\n\n"
+           "NumPy takes a column as it is, by `numpy.frombuffer(column, \"datetime64[us]\")`, whose values have no offset.\n"),
+    METHOD(date_time_offset_column,
+           "(texts, config=None, *, strict=False, timestamps=False, faults='raise', newline='\\r\\n', empty='error', "
+           "lines=False)",
+           "The seconds of the offset of each date-time, positive east of UTC, as an `array.array(\"q\")`.\n\n"
+           "The arguments are those of `date_time_column`. A date-time without an offset fails with `tz_required`. A timestamp\n"
+           "has the offset of the configuration.\n\n"
+           ">>> date_time_offset_column([\"1970-01-01T00:00:01Z\", \"1970-01-01T01:00+01:00\"])\n"
+           "array('q', [0, 3600])\n"
+           ">>> date_time_offset_column([\"1970-01-01T00:00:01\"], faults=\"nat\")\n"
+           "array('q', [-9223372036854775808])\n\n"
+           "NumPy takes a column as it is, by `numpy.frombuffer(column, \"timedelta64[s]\")`.\n"),
     METHOD(date_column,
            "(texts, config=None, *, timestamps=False, faults='raise', newline='\\r\\n', empty='error', lines=False)",
            "The days from 1970-01-01 to each date, as an `array.array(\"q\")`.\n\n"
@@ -1882,6 +1983,21 @@ static PyMethodDef methods[] = {
            ">>> date_column([\"1970-01-02\", None, \"1970-01-02T00:00\"], faults=\"nat\")\n"
            "array('q', [1, -9223372036854775808, -9223372036854775808])\n\n"
            "NumPy takes a column as it is, by `numpy.frombuffer(column, \"datetime64[D]\")`.\n"),
+    METHOD(time_column,
+           "(texts, config=None, *, strict=False, faults='raise', newline='\\r\\n', empty='error', lines=False)",
+           "The microseconds after midnight that the clock of each time shows, as an `array.array(\"q\")`.\n\n"
+           "The arguments are those of `date_time_column`. Each text is taken as by `time`, or with `strict=True` as by\n"
+           "`time_strict`. The clock is read whatever the offset is, which `time_offset_column` reads.\n\n"
+           ">>> time_column([\"12:13:14.5\", None, \"12:13:14.5+01:00\"])\n"
+           "array('q', [43994500000, -9223372036854775808, 43994500000])\n\n"
+           "NumPy takes a column as it is, by `numpy.frombuffer(column, \"timedelta64[us]\")`.\n"),
+    METHOD(time_offset_column,
+           "(texts, config=None, *, strict=False, faults='raise', newline='\\r\\n', empty='error', lines=False)",
+           "The seconds of the offset of each time, positive east of UTC, as an `array.array(\"q\")`.\n\n"
+           "The arguments are those of `time_column`. A time without an offset fails with `tz_required`.\n\n"
+           ">>> time_offset_column(b\"12:13Z\\n12:13+01:00\\n\")\n"
+           "array('q', [0, 3600])\n\n"
+           "NumPy takes a column as it is, by `numpy.frombuffer(column, \"timedelta64[s]\")`.\n"),
     METHOD(duration_column, "(texts, config=None, *, faults='raise', newline='\\r\\n', empty='error', lines=False)",
            "The microseconds of each duration, with its sign, as an `array.array(\"q\")`.\n\n"
            "The arguments are those of `date_time_column`. Each text is taken as by `duration`. One of 2**63 microseconds or\n"

@@ -33,8 +33,30 @@ def date_time_column(
     faults: _Faults = "raise", newline: _Newline = "\r\n",
     empty: _Empty = "error", lines: bool = False
 ) -> array.array[int]: ...
+def date_time_clock_column(
+    texts: _Texts, config: Optional[Config] = None, *, strict: bool = False,
+    timestamps: bool = False,
+    faults: _Faults = "raise", newline: _Newline = "\r\n",
+    empty: _Empty = "error", lines: bool = False
+) -> array.array[int]: ...
+def date_time_offset_column(
+    texts: _Texts, config: Optional[Config] = None, *, strict: bool = False,
+    timestamps: bool = False,
+    faults: _Faults = "raise", newline: _Newline = "\r\n",
+    empty: _Empty = "error", lines: bool = False
+) -> array.array[int]: ...
 def date_column(
     texts: _Texts, config: Optional[Config] = None, *, timestamps: bool = False,
+    faults: _Faults = "raise", newline: _Newline = "\r\n",
+    empty: _Empty = "error", lines: bool = False
+) -> array.array[int]: ...
+def time_column(
+    texts: _Texts, config: Optional[Config] = None, *, strict: bool = False,
+    faults: _Faults = "raise", newline: _Newline = "\r\n",
+    empty: _Empty = "error", lines: bool = False
+) -> array.array[int]: ...
+def time_offset_column(
+    texts: _Texts, config: Optional[Config] = None, *, strict: bool = False,
     faults: _Faults = "raise", newline: _Newline = "\r\n",
     empty: _Empty = "error", lines: bool = False
 ) -> array.array[int]: ...

@@ -462,9 +462,43 @@ def _check(code):
 
 
 def date_time_column(texts, config=None, *, strict=False, timestamps=False, naive="error", faults="raise", newline="\r\n", empty="error", lines=False):
+    def number_of(out):
+        if not out.has_offset and naive == "error":
+            raise Fault(19)  # tz_required
+        return _second_in_utc(out) * 1_000_000 + out.microsecond
+
     _flag("strict", strict), _flag("timestamps", timestamps)
     naive = "utc" if naive == "UTC" else naive
     _choice("naive", naive, "error", "utc")
+    return _date_times(number_of, texts, config, strict, timestamps, faults, newline, empty, lines)
+
+
+def date_time_clock_column(texts, config=None, *, strict=False, timestamps=False, faults="raise", newline="\r\n", empty="error", lines=False):
+    def number_of(out):
+        return (_second_in_utc(out) + out.has_offset * out.offset) * 1_000_000 + out.microsecond
+
+    return _date_times(number_of, texts, config, strict, timestamps, faults, newline, empty, lines)
+
+
+def date_time_offset_column(texts, config=None, *, strict=False, timestamps=False, faults="raise", newline="\r\n", empty="error", lines=False):
+    return _date_times(_offset_of, texts, config, strict, timestamps, faults, newline, empty, lines)
+
+
+def _second_in_utc(out):
+    second = ctypes.c_int64()
+    _check(_library.speedate_datetime_timestamp_tz(out, second))
+    return second.value
+
+
+def _offset_of(out):
+    if not out.has_offset:
+        raise Fault(19)  # tz_required
+    return out.offset
+
+
+def _date_times(number_of, texts, config, strict, timestamps, faults, newline, empty, lines):
+    """The numbers of date-times, by what is taken of their structs."""
+    _flag("strict", strict), _flag("timestamps", timestamps)
     _check_choices(faults, newline, empty, lines)
     numbers = _configured(config, _OF_TIMESTAMPS if timestamps else ())
     if strict and timestamps:
@@ -480,13 +514,6 @@ def date_time_column(texts, config=None, *, strict=False, timestamps=False, naiv
         out = _DateTime()
         _check(_library.speedate_datetime_from_timestamp(timestamp, 0, numbers, out))
         return number_of(out)
-
-    def number_of(out):
-        second = ctypes.c_int64()
-        if not out.has_offset and naive == "error":
-            raise Fault(19)  # tz_required
-        _check(_library.speedate_datetime_timestamp_tz(out, second))
-        return second.value * 1_000_000 + out.microsecond
 
     def place_of(text):
         return _place_in_column(getattr(_library, f"speedate_{name.replace('_parse', '_error_place')}"), text, numbers)
@@ -523,6 +550,35 @@ def date_column(texts, config=None, *, timestamps=False, faults="raise", newline
         return _place_in_column(_library.speedate_date_error_place_rfc3339, text)
 
     return _column(read, place_of, texts, faults, newline, empty, lines, read_integer if timestamps else None)
+
+
+def time_column(texts, config=None, *, strict=False, faults="raise", newline="\r\n", empty="error", lines=False):
+    def number_of(out):
+        return ((out.hour * 60 + out.minute) * 60 + out.second) * 1_000_000 + out.microsecond
+
+    return _times(number_of, texts, config, strict, faults, newline, empty, lines)
+
+
+def time_offset_column(texts, config=None, *, strict=False, faults="raise", newline="\r\n", empty="error", lines=False):
+    return _times(_offset_of, texts, config, strict, faults, newline, empty, lines)
+
+
+def _times(number_of, texts, config, strict, faults, newline, empty, lines):
+    """The numbers of times, by what is taken of their structs."""
+    _flag("strict", strict)
+    _check_choices(faults, newline, empty, lines)
+    numbers = _configured(config)
+    ending = "_strict" if strict else ""
+
+    def read(text):
+        out = _Time()
+        _check(getattr(_library, f"speedate_time_parse{ending}")(text, len(text), numbers, out))
+        return number_of(out)
+
+    def place_of(text):
+        return _place_in_column(getattr(_library, f"speedate_time_error_place{ending}"), text, numbers)
+
+    return _column(read, place_of, texts, faults, newline, empty, lines)
 
 
 def duration_column(texts, config=None, *, faults="raise", newline="\r\n", empty="error", lines=False):

@@ -26,7 +26,9 @@ SIDES = (speedate, oracle)
 CALLS = [name for name in ("time", *speedate.__all__) if inspect.isbuiltin(getattr(speedate, name))]
 DAY = datetime.date(2020, 2, 29)
 # A good text of each call on columns.
-COLUMNS = {"date_time_column": "1970-01-01T00:00Z", "date_column": "1970-01-01", "duration_column": "PT0S"}
+COLUMNS = {
+    "date_time_column": "1970-01-01T00:00Z", "date_time_clock_column": "1970-01-01T00:00", "date_time_offset_column": "1970-01-01T00:00Z",
+    "date_column": "1970-01-01", "time_column": "00:00", "time_offset_column": "00:00Z", "duration_column": "PT0S"}
 
 
 # ---- Drawn arguments: each of them as a function of a side, since each side has its own Config ----

@@ -155,6 +155,40 @@ date_time_column(array.array("Q", [1, 2**63]), timestamps=True, naive="utc") -> 
 date_time_column([1.5], timestamps=True) -> TypeError: text 0 has to be str or bytes or bytearray or memoryview, not float
 date_time_column([1]), date_time_column(array.array("q", [1])) -> TypeError: text 0 has to be str or bytes or bytearray or memoryview, not int
 len(date_time_column(array.array("q", [1]) * 100000, timestamps=True, naive="utc")) -> 100000
+date_time_clock_column([]), time_column(b""), date_time_offset_column(b""), time_offset_column([]) -> (array('q'), array('q'), array('q'), array('q'))
+date_time_clock_column(["1970-01-01T01:00+01:00", b"1970-01-01 00:00:00.000001", None]), date_time_clock_column(b"1970-01-01T01:00+01:00\r\n1969-12-31T23:59:59.999999-23:59") -> (array('q', [3600000000, 1, -9223372036854775808]), array('q', [3600000000, -1]))
+date_time_clock_column(["0000-01-01T00:00+23:59", "9999-12-31T23:59:59.999999-23:59"]) -> array('q', [-62167219200000000, 253402300799999999])
+date_time_clock_column(["1970-01-01T00:00\n"]) -> Fault: invalid_char_tz_sign in text 0: it has a line ending, which lines=True drops
+date_time_clock_column(["1970-01-01T00:00\n", ""], lines=True, empty="nat"), date_time_clock_column(b"1970-01-01T00:00\n\n", empty="nat") -> (array('q', [0, -9223372036854775808]), array('q', [0, -9223372036854775808]))
+date_time_clock_column(["1970-01-01T00:00:01"], strict=True) -> Fault: tz_required in text 0
+date_time_clock_column(["1970-01-01T00:00:01.1234567-01:00"], Config(overflow_behavior="truncate"), strict=True) -> array('q', [1123456])
+date_time_clock_column(["1", "1.5"]), date_time_clock_column([], naive="utc") -> Fault: too_short in text 0
+date_time_clock_column([], naive="utc") -> TypeError: date_time_clock_column() got an unexpected keyword argument 'naive'
+date_time_clock_column(["1", "1.5", 2], Config(timestamp_offset=3600), timestamps=True), date_time_clock_column(b"1\n1.5", timestamps=True) -> (array('q', [1000000, 1500000, 2000000]), array('q', [1000000, 1500000]))
+date_time_clock_column(array.array("q", [0, -1, 1500000]), Config("us", -3600), timestamps=True), date_time_clock_column(range(2), timestamps=True) -> (array('q', [0, -1, 1500000]), array('q', [0, 1000000]))
+date_time_clock_column([253402300800], Config("s", 3600), timestamps=True) -> Fault: date_too_large in text 0
+date_time_clock_column([], Config("ms")) -> TypeError: config has a timestamp_unit, which is not read here: date and date_time do with timestamps=True
+date_time_offset_column(["1970-01-01T01:00+01:00", b"1970-01-01T00:00Z", None, "1970-01-01T00:00-2359"]), date_time_offset_column(b"1970-01-01T01:00+01:00\n1970-01-01T00:00z") -> (array('q', [3600, 0, -9223372036854775808, -86340]), array('q', [3600, 0]))
+date_time_offset_column(["1970-01-01T00:00"]), date_time_offset_column(b"1970-01-01T00:00") -> Fault: tz_required in text 0
+date_time_offset_column(["1970-01-01T00:00", "1970-01-01T00:00Z"], faults="nat"), date_time_offset_column(b"1970-01-01T00:00\n1970-01-01T00:00Z", faults="nat") -> (array('q', [-9223372036854775808, 0]), array('q', [-9223372036854775808, 0]))
+date_time_offset_column(["1", 2, "1970-01-01T00:00-00:01"], Config("ms", 5400), timestamps=True), date_time_offset_column(array.array("i", [1]), Config("s", -1), timestamps=True) -> (array('q', [5400, 5400, -60]), array('q', [-1]))
+date_time_offset_column([1], timestamps=True), date_time_offset_column(["1"], timestamps=True) -> Fault: tz_required in text 0
+date_time_offset_column([2**60], timestamps=True) -> Fault: date_too_large in text 0
+date_time_offset_column(["1970-01-01 00:00:01Z"], strict=True) -> Fault: invalid_char_date_time_sep in text 0
+time_column(["12:13:14.5", b"12:13:14.5+01:00", None, "23:59:59.999999Z"]), time_column(b"12:13:14.5\r\n00:00\n") -> (array('q', [43994500000, 43994500000, -9223372036854775808, 86399999999]), array('q', [43994500000, 0]))
+time_column(["24:00"]), time_column(b"24:00") -> Fault: out_of_range_hour in text 0
+time_column(["00:00:01\n"]), time_column(b"00:00:01\r\n", newline="\n") -> Fault: invalid_char_tz_sign in text 0: it has a line ending, which lines=True drops
+time_column(["00:00:01.1234567", "x"], Config(overflow_behavior="truncate"), faults="nat"), time_column(b"00:00:01.1234567\nx", Config(overflow_behavior="truncate"), faults="nat") -> (array('q', [1123456, -9223372036854775808]), array('q', [1123456, -9223372036854775808]))
+time_column(["00:00:01Z", "00:00Z"], strict=True, faults="nat"), time_column(b"00:00:01Z\n00:00:01\n", strict=True, faults="nat") -> (array('q', [1000000, -9223372036854775808]), array('q', [1000000, -9223372036854775808]))
+time_column([], timestamps=True) -> TypeError: time_column() got an unexpected keyword argument 'timestamps'
+time_column([1]) -> TypeError: text 0 has to be str or bytes or bytearray or memoryview, not int
+time_column([], Config(timestamp_offset=0)) -> TypeError: config has a timestamp_offset, which is not read here: date and date_time do with timestamps=True
+time_offset_column(["12:13+01:00", b"12:13Z", None]), time_offset_column(b"12:13-23:59\n\n", empty="nat") -> (array('q', [3600, 0, -9223372036854775808]), array('q', [-86340, -9223372036854775808]))
+time_offset_column(["12:13"]), time_offset_column(b"12:13") -> Fault: tz_required in text 0
+time_offset_column(["12:13:14+0100"], strict=True), time_offset_column(b"12:13:14+0100", strict=True) -> Fault: invalid_char_tz_minute in text 0
+faulted(["00:00", "00:00+01:00", "24:00"], time_offset_column), faulted(b"00:00\n00:00+01:00\n24:00", time_offset_column) -> ((3, ['tz_required in text 0', 'out_of_range_hour in text 2']), (3, ['tz_required in text 0', 'out_of_range_hour in text 2']))
+listed(["00:00:00.5", "1:30", "00:00Z"], time_offset_column), listed(b"1970-01-01T00:00:00.5\n1970-01-01", date_time_offset_column) -> (([0, 1], [19, 1], [10, 4]), ([0, 1], [19, 3], [21, 10]))
+expected(time_offset_column, ["00:00"]), expected(time_column, ["1:30"]), expected(date_time_clock_column, ["x"], timestamps=True) -> ('an offset: Z or +01:00', 'a time: HH:MM or HH:MM:SS', 'a date-time, as YYYY-MM-DDTHH:MM:SS, or a number')
 duration_column(["PT1.5S", "-00:01:00", "1 day", "-PT0S"]) -> array('q', [1500000, -60000000, 86400000000, 0])
 duration_column(b"PT1.5S\r\n-00:01:00\n1 day") -> array('q', [1500000, -60000000, 86400000000])
 duration_column(["P106751991DT4H54.775807S"]) -> array('q', [9223372036854775807])
