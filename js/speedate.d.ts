@@ -65,10 +65,10 @@ export type StrictOptions = OverflowOptions & { strict?: boolean };
  * `offsetSeconds` is null, and a column refuses it. */
 export type MissingOffsetOptions = { missingOffset?: "error" | "utc" };
 /** `timestamps` and `strict` cannot be combined. */
-export type DateTimeOptions = MissingOffsetOptions & (
+export type DateTimeFormOptions =
   | (StrictOptions & { timestamps?: undefined; timestampOffset?: undefined })
-  | (OverflowOptions & Required<TimestampOptions> & OffsetOptions & { strict?: false })
-);
+  | (OverflowOptions & Required<TimestampOptions> & OffsetOptions & { strict?: false });
+export type DateTimeOptions = MissingOffsetOptions & DateTimeFormOptions;
 /** The order of the components of an ISO 8601 duration: any, and repeated (`lax`, the default), or each once, in order. */
 export type DurationOptions = OverflowOptions & { isoOrder?: "lax" | "strict" };
 
@@ -123,6 +123,9 @@ export type LineRefusal = { readonly index: number; readonly fault: Fault; reado
 export type ColumnOptions = { refusals?: LineRefusal[] };
 export type DateColumnOptions = TimestampOptions & ColumnOptions;
 export type DateTimeColumnOptions = DateTimeOptions & ColumnOptions;
+/** The offset of a timestamp moves no clock. */
+export type DateTimePartColumnOptions = DateTimeFormOptions & ColumnOptions;
+export type TimeColumnOptions = StrictOptions & ColumnOptions;
 /** Reads a column in pieces, which may end anywhere: `read` gives the numbers of the lines that end in a piece, and keeps the line
  * that does not. `end` gives those of what is left, of a last piece too. Indices count from the first piece on. Once a call has
  * thrown for a line, or `end` was called, each further call is a TypeError. */
@@ -138,11 +141,31 @@ export function dateColumn(text: Text, options?: DateColumnOptions): Int32Array;
  * negative and have a fraction. */
 export function dateTimeColumn(text: Text, options?: DateTimeColumnOptions & { unit?: "ms" }): Float64Array;
 export function dateTimeColumn(text: Text, options: DateTimeColumnOptions & { unit: "us" }): BigInt64Array;
+/** The milliseconds from 1970-01-01T00:00 that the clock of each date-time shows, whatever its offset, with a fraction for
+ * microseconds, and NaN of a line that is refused: 3600000 of `1970-01-01T01:00+02:00`. If `unit` is `us`, the microseconds, and
+ * -(2n ** 63n) of a line that is refused. With the offset it is the date-time as it stands, where `dateTimeColumn` gives the instant. */
+export function dateTimeClockColumn(text: Text, options?: DateTimePartColumnOptions & { unit?: "ms" }): Float64Array;
+export function dateTimeClockColumn(text: Text, options: DateTimePartColumnOptions & { unit: "us" }): BigInt64Array;
+/** The seconds of the offset of each date-time: 7200 of `1970-01-01T01:00+02:00`, and -2147483648 of a line that is refused, as one
+ * without an offset is. A timestamp has `timestampOffset`. */
+export function dateTimeOffsetColumn(text: Text, options?: DateTimePartColumnOptions): Int32Array;
+/** The milliseconds after midnight that the clock of each time shows, as `dateTimeClockColumn` gives those of date-times. */
+export function timeColumn(text: Text, options?: TimeColumnOptions & { unit?: "ms" }): Float64Array;
+export function timeColumn(text: Text, options: TimeColumnOptions & { unit: "us" }): BigInt64Array;
+/** The seconds of the offset of each time, as `dateTimeOffsetColumn` gives those of date-times. */
+export function timeOffsetColumn(text: Text, options?: TimeColumnOptions): Int32Array;
 /** Reads a column of dates in pieces. */
 export function dateColumnReader(options?: DateColumnOptions): ColumnReader<Int32Array>;
 /** Reads a column of date-times in pieces. */
 export function dateTimeColumnReader(options?: DateTimeColumnOptions & { unit?: "ms" }): ColumnReader<Float64Array>;
 export function dateTimeColumnReader(options: DateTimeColumnOptions & { unit: "us" }): ColumnReader<BigInt64Array>;
+/** Read columns of what clocks show, and of offsets, in pieces. */
+export function dateTimeClockColumnReader(options?: DateTimePartColumnOptions & { unit?: "ms" }): ColumnReader<Float64Array>;
+export function dateTimeClockColumnReader(options: DateTimePartColumnOptions & { unit: "us" }): ColumnReader<BigInt64Array>;
+export function dateTimeOffsetColumnReader(options?: DateTimePartColumnOptions): ColumnReader<Int32Array>;
+export function timeColumnReader(options?: TimeColumnOptions & { unit?: "ms" }): ColumnReader<Float64Array>;
+export function timeColumnReader(options: TimeColumnOptions & { unit: "us" }): ColumnReader<BigInt64Array>;
+export function timeOffsetColumnReader(options?: TimeColumnOptions): ColumnReader<Int32Array>;
 
 /** The date of a timestamp: 1970-01-02 of 86400 seconds. `date_not_exact` where that is no midnight, unless `exact` is false;
  * `date_too_small` or `date_too_large` outside the years 0 to 9999. */

@@ -495,6 +495,9 @@ const OPTIONS_OF = {
   date: ["timestamps"], time: ["strict", "overflow"], dateTime: ["strict", "timestamps", "timestampOffset", "overflow", "missingOffset"],
   duration: ["overflow", "isoOrder"], dateFront: [], front: ["overflow"], dateColumn: ["timestamps", "refusals"],
   dateTimeColumn: ["strict", "timestamps", "timestampOffset", "overflow", "missingOffset", "unit", "refusals"],
+  dateTimeClockColumn: ["strict", "timestamps", "timestampOffset", "overflow", "unit", "refusals"],
+  dateTimeOffsetColumn: ["strict", "timestamps", "timestampOffset", "overflow", "refusals"],
+  timeColumn: ["strict", "overflow", "unit", "refusals"], timeOffsetColumn: ["strict", "overflow", "refusals"],
 };
 
 function callDate(library, size, it) {
@@ -741,7 +744,7 @@ function millisecondsAt(view, at) {
 }
 
 /** How the numbers of a column are handed out. One takes as many bytes as in C. */
-const DAYS = { Numbers: Int32Array, numberAt: (view, at) => view.getInt32(at, true) };
+const INTEGERS = { Numbers: Int32Array, numberAt: (view, at) => view.getInt32(at, true) };
 const MILLISECONDS = { Numbers: Float64Array, numberAt: millisecondsAt };
 const MICROSECONDS = { Numbers: BigInt64Array, numberAt: (view, at) => view.getBigInt64(at, true) };
 
@@ -843,16 +846,20 @@ function concatenated(parts, Numbers) {
   return all;
 }
 
-function newDateColumn(options) {
-  const numbers = numbersOf(options, OPTIONS_OF.dateColumn);
+/** What begins a column by its options: its call in C, the kinds of its lines, the options that it has, and how its numbers are handed out. */
+const beginner = (name, kinds, names, handedOutBy) => (options) => {
+  const numbers = numbersOf(options, names);
   start();
-  return columnOf("date_column", KINDS.date, DAYS, numbers);
-}
-function newDateTimeColumn(options) {
-  const numbers = numbersOf(options, OPTIONS_OF.dateTimeColumn);
-  start();
-  return columnOf("datetime_column", KINDS.dateTime, numbers.unit === 1 ? MICROSECONDS : MILLISECONDS, numbers);
-}
+  return columnOf(name, kinds, handedOutBy(numbers), numbers);
+};
+const asIntegers = () => INTEGERS;
+const inUnit = ({ unit }) => (unit === 1 ? MICROSECONDS : MILLISECONDS);
+const newDateColumn = beginner("date_column", KINDS.date, OPTIONS_OF.dateColumn, asIntegers);
+const newDateTimeColumn = beginner("datetime_column", KINDS.dateTime, OPTIONS_OF.dateTimeColumn, inUnit);
+const newDateTimeClockColumn = beginner("datetime_clock_column", KINDS.dateTime, OPTIONS_OF.dateTimeClockColumn, inUnit);
+const newDateTimeOffsetColumn = beginner("datetime_offset_column", KINDS.dateTime, OPTIONS_OF.dateTimeOffsetColumn, asIntegers);
+const newTimeColumn = beginner("time_column", KINDS.time, OPTIONS_OF.timeColumn, inUnit);
+const newTimeOffsetColumn = beginner("time_offset_column", KINDS.time, OPTIONS_OF.timeOffsetColumn, asIntegers);
 const readerOf = (column) => ({
   read: (text) => readPiece(column, text, false),
   end: (text = "") => readPiece(column, text, true),
@@ -864,11 +871,35 @@ export function dateColumn(text, options) {
 export function dateTimeColumn(text, options) {
   return readPiece(newDateTimeColumn(options), text, true);
 }
+export function dateTimeClockColumn(text, options) {
+  return readPiece(newDateTimeClockColumn(options), text, true);
+}
+export function dateTimeOffsetColumn(text, options) {
+  return readPiece(newDateTimeOffsetColumn(options), text, true);
+}
+export function timeColumn(text, options) {
+  return readPiece(newTimeColumn(options), text, true);
+}
+export function timeOffsetColumn(text, options) {
+  return readPiece(newTimeOffsetColumn(options), text, true);
+}
 export function dateColumnReader(options) {
   return readerOf(newDateColumn(options));
 }
 export function dateTimeColumnReader(options) {
   return readerOf(newDateTimeColumn(options));
+}
+export function dateTimeClockColumnReader(options) {
+  return readerOf(newDateTimeClockColumn(options));
+}
+export function dateTimeOffsetColumnReader(options) {
+  return readerOf(newDateTimeOffsetColumn(options));
+}
+export function timeColumnReader(options) {
+  return readerOf(newTimeColumn(options));
+}
+export function timeOffsetColumnReader(options) {
+  return readerOf(newTimeOffsetColumn(options));
 }
 
 // ---- Timestamps ----

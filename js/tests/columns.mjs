@@ -5,7 +5,11 @@ import { readFileSync } from "node:fs";
 import { setTimeout as sleep } from "node:timers/promises";
 import { setFlagsFromString } from "node:v8";
 import { runInNewContext } from "node:vm";
-import { dateColumn, dateColumnReader, dateTimeColumn, dateTimeColumnReader, dateTimeFromTimestamp, daysSince, epochMilliseconds, inTimezone, parseDate, parseDateTime, safeParseDate, safeParseDateTime, SpeedateError, toDate } from "speedate";
+import {
+  dateColumn, dateColumnReader, dateTimeClockColumn, dateTimeClockColumnReader, dateTimeColumn, dateTimeColumnReader, dateTimeFromTimestamp, dateTimeOffsetColumn,
+  dateTimeOffsetColumnReader, daysSince, epochMilliseconds, inTimezone, parseDate, parseDateTime, safeParseDate, safeParseDateTime, safeParseTime, SpeedateError, timeColumn,
+  timeColumnReader, timeOffsetColumn, timeOffsetColumnReader, toDate,
+} from "speedate";
 
 let drawn = 1;
 const below = (most) => (drawn = (drawn * 48271) % 2147483647) % most;
@@ -15,7 +19,7 @@ const digits = (form) => form.replace(/#/g, () => below(10));
 // ---- A column by calls of one line each ----
 
 const EPOCH = parseDate("1970-01-01");
-const TOO_FEW_DAYS = -(2 ** 31);
+const SMALLEST = -(2 ** 31);
 const TOO_FEW_MICROSECONDS = -(2n ** 63n);
 /** The lines of a text, without the carriage returns before their ends. */
 function linesOf(text) {
@@ -27,7 +31,7 @@ function linesOf(text) {
 /** What a line has in a column of dates. */
 function day(line, { timestamps }) {
   const { ok, value, ...refusal } = safeParseDate(line, { timestamps });
-  return ok ? { number: daysSince(value, EPOCH) } : { number: TOO_FEW_DAYS, refusal };
+  return ok ? { number: daysSince(value, EPOCH) } : { number: SMALLEST, refusal };
 }
 
 /** Of a decimal text JavaScript makes the nearest double. */
@@ -49,10 +53,25 @@ function moment(line, { missingOffset, unit, refusals, ...options }) {
   return { number: inUnit(BigInt(milliseconds) * 1000n + BigInt(value.microsecond), unit) };
 }
 
-const KINDS = [
-  { column: dateColumn, newReader: dateColumnReader, of: day, Numbers: () => Int32Array },
-  { column: dateTimeColumn, newReader: dateTimeColumnReader, of: moment, Numbers: ({ unit }) => (unit === "us" ? BigInt64Array : Float64Array) },
-];
+/** What a line has in a column of what clocks show, by the call of its text, and by the date on which the clock stands if it shows none. */
+const clockBy = (safeParse, date) => (line, { unit, refusals, ...options }) => {
+  const { ok, value, ...refusal } = safeParse(line, options);
+  if (!ok) return { number: unit === "us" ? TOO_FEW_MICROSECONDS : NaN, refusal };
+  const milliseconds = epochMilliseconds({ ...date, ...value, offsetSeconds: 0 });
+  return { number: inUnit(BigInt(milliseconds) * 1000n + BigInt(value.microsecond), unit) };
+};
+
+/** What a line has in a column of offsets, by the call of its text. */
+const offsetBy = (safeParse) => (line, { refusals, ...options }) => {
+  const { ok, value, ...refusal } = safeParse(line, options);
+  if (!ok) return { number: SMALLEST, refusal };
+  if (value.offsetSeconds !== null) return { number: value.offsetSeconds };
+  const { ok: _, ...required } = TZ_REQUIRED;
+  return { number: SMALLEST, refusal: required };
+};
+
+const asIntegers = () => Int32Array;
+const byUnit = ({ unit }) => (unit === "us" ? BigInt64Array : Float64Array);
 
 /** What a column and its refusals have to be. */
 function expected({ of, Numbers }, text, options) {
@@ -94,21 +113,43 @@ const DATE_TIMES = [
   "2020-02-29T12:13:14.#######Z", "2020-02-29T12:13:14.5", "1.######", "-###########", "####-0#-1#T0#:1#:2#.######", "1#########",
   "1969-12-31T23:59:59.####Z", "1970-01-01T00:00:00.00####Z", "2255-06-05T23:47:3#.######Z", "1684-07-28T00:12:2#.######Z", "", "x", "2020-02-29", "2020-02-29T12:13\u221201:00",
 ];
+const TIMES = [
+  "0#:1#", "1#:2#:3#", "2#:5#:0#.######", "1#:2#:3#.#######Z", "0#:0#:0#,5+0#:##", "1#:2#:3#\u22121#:3#", "1#:2#:3#.######-1#:3#", "2#:##Z", "12:13:14Z", "", "x", "12:13 PM",
+];
 const LINE_ENDS = ["\n", "\n", "\n", "\r\n", "\r\r\n", "\n\n", "\r"];
 const anyOf = (choices) => Object.fromEntries(Object.entries(choices).map(([name, all]) => [name, one(all)]).filter(([, it]) => it !== undefined));
-function dateTimeOptions() {
+const OVERFLOW = { overflow: [undefined, "error", "truncate"] };
+const STRICT = { strict: [undefined, false, true], ...OVERFLOW };
+const UNIT = { unit: [undefined, "ms", "us"] };
+function dateTimeOptions(more) {
   const { timestamps, timestampOffset, strict, ...others } = anyOf({
-    timestamps: [undefined, undefined, "infer", "s", "ms", "us"], timestampOffset: [undefined, 0, 3600, -86399], strict: [undefined, false, true],
-    overflow: [undefined, "error", "truncate"], missingOffset: [undefined, "error", "utc"], unit: [undefined, "ms", "us"],
+    timestamps: [undefined, undefined, "infer", "s", "ms", "us"], timestampOffset: [undefined, 0, 3600, -86399], ...STRICT, ...more,
   });
   return timestamps === undefined ? { ...others, ...(strict === undefined ? {} : { strict }) } : { ...others, timestamps, ...(timestampOffset === undefined ? {} : { timestampOffset }) };
 }
-const [refusedOnes, acceptedOnes] = [[0, 0], [0, 0]];
+const KINDS = [
+  { column: dateColumn, newReader: dateColumnReader, of: day, Numbers: asIntegers, forms: DATES, drawn: () => anyOf({ timestamps: [undefined, "infer", "s", "ms", "us"] }) },
+  {
+    column: dateTimeColumn, newReader: dateTimeColumnReader, of: moment, Numbers: byUnit, forms: DATE_TIMES,
+    drawn: () => dateTimeOptions({ missingOffset: [undefined, "error", "utc"], ...UNIT }),
+  },
+  {
+    column: dateTimeClockColumn, newReader: dateTimeClockColumnReader, of: clockBy(safeParseDateTime, {}), Numbers: byUnit, forms: DATE_TIMES,
+    drawn: () => dateTimeOptions(UNIT),
+  },
+  {
+    column: dateTimeOffsetColumn, newReader: dateTimeOffsetColumnReader, of: offsetBy(safeParseDateTime), Numbers: asIntegers, forms: DATE_TIMES,
+    drawn: () => dateTimeOptions({}),
+  },
+  { column: timeColumn, newReader: timeColumnReader, of: clockBy(safeParseTime, EPOCH), Numbers: byUnit, forms: TIMES, drawn: () => anyOf({ ...STRICT, ...UNIT }) },
+  { column: timeOffsetColumn, newReader: timeOffsetColumnReader, of: offsetBy(safeParseTime), Numbers: asIntegers, forms: TIMES, drawn: () => anyOf(STRICT) },
+];
+const refusedOnes = KINDS.map(() => 0);
+const acceptedOnes = KINDS.map(() => 0);
 for (let i = 0; i < 4000; i++) {
   for (const [at, kind] of KINDS.entries()) {
-    const options = at === 0 ? anyOf({ timestamps: [undefined, "infer", "s", "ms", "us"] }) : dateTimeOptions();
-    const forms = at === 0 ? DATES : DATE_TIMES;
-    const some = Array.from({ length: 1 + below(3) }, () => one(forms));
+    const options = kind.drawn();
+    const some = Array.from({ length: 1 + below(3) }, () => one(kind.forms));
     const text = Array.from({ length: below(8) }, () => digits(one(some)) + one(LINE_ENDS)).join("") + (below(2) ? digits(one(some)) : "");
     const refused = compareColumn(kind, text, options);
     refusedOnes[at] += refused;
@@ -153,7 +194,11 @@ function byPieces({ newReader }, pieces, options) {
 
 const TEXT = "2020-02-29T12:13:14.5Z\r\n\n2021-02-29T12:13Z\n2020-02-29T12:13\u221201:00\r\n\r\n1970-01-01T00:00:00.000001Z";
 const DAYS_TEXT = "2020-02-29\r\n\n2021-02-29\n1969-12-31\n\r\n0000-01-01\n";
-for (const [kind, text, options] of [[KINDS[0], DAYS_TEXT, {}], [KINDS[1], TEXT, {}], [KINDS[1], `${TEXT}\n`, { unit: "us" }], [KINDS[1], `${TEXT}\r\n`, { overflow: "truncate" }]]) {
+const TIMES_TEXT = "12:13:14.5Z\r\n\n24:00\n12:13\u221201:00\r\n\r\n00:00:00.000001+23:59";
+for (const [kind, text, options] of [
+  [KINDS[0], DAYS_TEXT, {}], [KINDS[1], TEXT, {}], [KINDS[1], `${TEXT}\n`, { unit: "us" }], [KINDS[1], `${TEXT}\r\n`, { overflow: "truncate" }],
+  [KINDS[2], TEXT, {}], [KINDS[3], TEXT, {}], [KINDS[4], TIMES_TEXT, { unit: "us" }], [KINDS[5], TIMES_TEXT, {}],
+]) {
   const bytes = Buffer.from(text);
   const whole = expected(kind, text, options);
   for (let i = 0; i <= bytes.length; i++) {
@@ -240,4 +285,5 @@ assert.equal(thrown(() => dateColumn(Buffer.alloc(2 ** 28, "0"))).index, 0);
 // What is collected is given back a little later.
 for (let i = 0; i < 100 && held() >= atFirst + 200; i++) await sleep(100);
 assert.ok(held() < atFirst + 200, `${atFirst} megabytes at first, and ${held()} in the end`);
-console.log(`columns: ${acceptedOnes[0] + acceptedOnes[1]} drawn lines that are accepted, and ${refusedOnes[0] + refusedOnes[1]} that are refused`);
+const sum = (all) => all.reduce((one, other) => one + other);
+console.log(`columns: ${sum(acceptedOnes)} drawn lines that are accepted, and ${sum(refusedOnes)} that are refused`);

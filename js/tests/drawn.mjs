@@ -30,9 +30,11 @@ const inMicroseconds = (it) => BigInt(speedate.epochMilliseconds({ ...it, offset
 /** By kind what reads columns, what each has of a value, and what of a text that is refused. */
 const COLUMNS = {
   date: [[speedate.dateColumn, {}, (it) => speedate.daysSince(it, EPOCH), -(2 ** 31)]],
+  time: [[speedate.timeColumn, {}, (it) => Number(`${inMicroseconds({ year: 1970, month: 1, day: 1, ...it, offsetSeconds: 0 })}e-3`), NaN]],
   "date-time": [
     [speedate.dateTimeColumn, { missingOffset: "utc", unit: "us" }, inMicroseconds, -(2n ** 63n)],
     [speedate.dateTimeColumn, { missingOffset: "utc" }, (it) => Number(`${inMicroseconds(it)}e-3`), NaN],
+    [speedate.dateTimeClockColumn, { unit: "us" }, (it) => inMicroseconds({ ...it, offsetSeconds: 0 }), -(2n ** 63n)],
   ],
 };
 

@@ -35,6 +35,7 @@ const ofDuration = [duration, [...noValue, date, time, dateTime]];
 const ofDateTime = [dateTime, [...noValue, date, time, duration]];
 const ofMove = [[dateTime, [...noValue, time, duration]], ofDuration];
 const ofColumn = [["", noText], [undefined, noOptions]];
+const columns = ["dateColumn", "dateTimeColumn", "dateTimeClockColumn", "dateTimeOffsetColumn", "timeColumn", "timeOffsetColumn"];
 const CALLS = {
   ...Object.fromEntries(readers.map((it) => [it, [["x", noText], [undefined, noOptions]]])),
   dateFromTimestamp: ofTimestamp, timeFromTimestamp: ofTimestamp, dateTimeFromTimestamp: ofTimestamp,
@@ -43,7 +44,7 @@ const CALLS = {
   addDays: [ofDate, [1, noNumber]], dayOfYear: [ofDate], negate: [ofDuration], totalSeconds: [ofDuration],
   durationFromMicroseconds: [[0, noNumber.filter((it) => it !== 5n)]],
   after: ofMove, before: ofMove, inTimezone: [[time, [...noValue, date, duration]], [0, noNumber]],
-  dateColumn: ofColumn, dateTimeColumn: ofColumn, dateColumnReader: ofColumn.slice(1), dateTimeColumnReader: ofColumn.slice(1),
+  ...Object.fromEntries(columns.flatMap((it) => [[it, ofColumn], [`${it}Reader`, ofColumn.slice(1)]])),
   schema: [["date", [undefined, ...noObject, "datetime", "toString", ["date"]]], [undefined, noOptions]],
   init: [[wasm, [undefined, ...noObject, {}, new WebAssembly.Module(new Uint8Array([0, 97, 115, 109, 1, 0, 0, 0]))]]],
 };
@@ -104,7 +105,13 @@ for (const name of readers) {
 assert.throws(() => parseDateTime("x", { strict: true, timestamps: "s" }), /strict and timestamps/);
 assert.throws(() => parseDateTime("x", { timestampOffset: 0 }), /timestampOffset/);
 const OF_COLUMNS = { missingOffset: OPTIONS.missingOffset[1], unit: ["", "s", "MS", 0, null], refusals: [true, null, 0, "", {}, { length: 0 }, new Set()] };
-const columnOptions = { dateColumn: ["timestamps", "refusals"], dateTimeColumn: ["timestamps", "overflow", "strict", "timestampOffset", ...Object.keys(OF_COLUMNS)] };
+const columnOptions = {
+  dateColumn: ["timestamps", "refusals"], dateTimeColumn: ["timestamps", "overflow", "strict", "timestampOffset", ...Object.keys(OF_COLUMNS)],
+  dateTimeClockColumn: ["timestamps", "overflow", "strict", "timestampOffset", "unit", "refusals"],
+  dateTimeOffsetColumn: ["timestamps", "overflow", "strict", "timestampOffset", "refusals"],
+  timeColumn: ["overflow", "strict", "unit", "refusals"], timeOffsetColumn: ["overflow", "strict", "refusals"],
+};
+assert.deepEqual(Object.keys(columnOptions), columns);
 for (const [name, has] of Object.entries(columnOptions)) {
   for (const option of Object.keys({ ...OPTIONS, ...OF_COLUMNS, exact: [] })) {
     const isNamed = (error) => error instanceof TypeError && error.message.includes(option);
@@ -117,6 +124,8 @@ for (const [name, has] of Object.entries(columnOptions)) {
 }
 assert.throws(() => speedate.dateTimeColumn("", { strict: true, timestamps: "s" }), /strict and timestamps/);
 assert.throws(() => speedate.dateTimeColumn("", { timestampOffset: 0 }), /timestampOffset/);
+assert.throws(() => speedate.dateTimeOffsetColumn("", { strict: true, timestamps: "s" }), /strict and timestamps/);
+assert.throws(() => speedate.dateTimeClockColumn("", { timestampOffset: 0 }), /timestampOffset/);
 
 // ---- A missing offset ----
 
@@ -192,7 +201,8 @@ for (const [call, text, options, expected] of [
 }
 assert.equal(thrown(() => toDate({ ...dateTime, offsetSeconds: null })).expected, "a value that has an offset");
 assert.equal(thrown(() => addDays({ year: 9999, month: 12, day: 31 }, 1)).expected, "a date in the years 0000 to 9999");
-assert.equal(thrown(() => speedate.dateTimeColumn("2020-02-29T12:13")).expected, "an offset: Z or +01:00");
+for (const [read, text] of [[speedate.dateTimeColumn, "2020-02-29T12:13"], [speedate.dateTimeOffsetColumn, "2020-02-29T12:13"], [speedate.timeOffsetColumn, "12:13"]])
+  assert.equal(thrown(() => read(text)).expected, "an offset: Z or +01:00");
 {
   const refusals = [];
   speedate.dateTimeColumn("2020-02-29 12:13Z\nx", { strict: true, refusals });

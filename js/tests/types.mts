@@ -69,6 +69,26 @@ const uses: Record<keyof typeof speedate, unknown> = {
     ((it: Float64Array): number => it.length)(speedate.dateTimeColumnReader().read(new Uint8Array(0))),
     ((it: BigInt64Array): bigint => it[0])(speedate.dateTimeColumnReader({ unit: "us", overflow: "truncate" }).end("1970-01-01T00:00Z")),
   ],
+  dateTimeClockColumn: [
+    ((it: Float64Array): number => it[0])(speedate.dateTimeClockColumn("1", { timestamps: "s", timestampOffset: 3600, unit: "ms" })),
+    same<BigInt64Array, ReturnType<typeof speedate.dateTimeClockColumn>>(true, speedate.dateTimeClockColumn("1970-01-01T00:00:00Z", { strict: true, unit: "us", refusals })),
+  ],
+  dateTimeOffsetColumn: same<Int32Array, ReturnType<typeof speedate.dateTimeOffsetColumn>>(true, speedate.dateTimeOffsetColumn("1", { timestamps: "s", timestampOffset: 0, refusals })),
+  timeColumn: [
+    ((it: Float64Array): number => it[0])(speedate.timeColumn("12:13", { overflow: "truncate", unit: "ms" })),
+    same<BigInt64Array, ReturnType<typeof speedate.timeColumn>>(true, speedate.timeColumn("12:13:14Z", { strict: true, unit: "us", refusals })),
+  ],
+  timeOffsetColumn: same<Int32Array, ReturnType<typeof speedate.timeOffsetColumn>>(true, speedate.timeOffsetColumn("12:13Z", { overflow: "error", refusals })),
+  dateTimeClockColumnReader: [
+    ((it: Float64Array): number => it.length)(speedate.dateTimeClockColumnReader().read(new Uint8Array(0))),
+    ((it: BigInt64Array): bigint => it[0])(speedate.dateTimeClockColumnReader({ unit: "us" }).end("1970-01-01T00:00")),
+  ],
+  dateTimeOffsetColumnReader: ((it: Int32Array): number => it[0])(speedate.dateTimeOffsetColumnReader({ refusals }).end("1970-01-01T00:00Z")),
+  timeColumnReader: [
+    ((it: Float64Array): number => it.length)(speedate.timeColumnReader().read(new Uint8Array(0))),
+    ((it: BigInt64Array): bigint => it[0])(speedate.timeColumnReader({ unit: "us" }).end("12:13")),
+  ],
+  timeOffsetColumnReader: ((it: Int32Array): number => it[0])(speedate.timeOffsetColumnReader({ strict: true }).end("12:13:14Z")),
   dateFromTimestamp: same<SpeedateDate, ReturnType<typeof speedate.dateFromTimestamp>>(true, speedate.dateFromTimestamp(1n, "s", { exact: false })),
   timeFromTimestamp: same<SpeedateTime, ReturnType<typeof speedate.timeFromTimestamp>>(true, speedate.timeFromTimestamp(1, "us", { timestampOffset: 0 })),
   dateTimeFromTimestamp: same<SpeedateDateTime, ReturnType<typeof speedate.dateTimeFromTimestamp>>(true, speedate.dateTimeFromTimestamp(1n, "infer", { timestampOffset: 0 })),
@@ -121,6 +141,12 @@ const refused = [
   () => speedate.schema("date", { strict: true }),
   // @ts-expect-error
   () => speedate.dateTimeColumn("", { strict: true, timestamps: "s" }),
+  // @ts-expect-error
+  () => speedate.dateTimeClockColumn("", { missingOffset: "utc" }),
+  // @ts-expect-error
+  () => speedate.dateTimeOffsetColumn("", { unit: "us" }),
+  // @ts-expect-error
+  () => speedate.timeColumn("", { timestamps: "s" }),
   // @ts-expect-error
   () => speedate.dateTimeColumn(["2020-02-29T12:13Z"]),
   // @ts-expect-error
