@@ -16,6 +16,10 @@ CASES = {
         "[pandas.Timestamp('2026-11-01T08:00Z'), pandas.NaT, pandas.Timestamp('2026-11-02T08:30Z')]"),
     "csv.DictReader": ("import csv", "list(column)", "[1793520000000000, -2**63, 1793608200000000]"),
     ".read()": ("import numpy", "[str(it) for it in moments]", "['1970-01-01T00:00:01.000000', *['NaT'] * 2, '1970-01-01T00:00:02.000000', *['NaT'] * 3]"),
+    "shown": (
+        "import numpy; opens = ['2026-11-27T09:00:00+05:30', '2026-11-27T08:30:00.5Z', '2026-11-27T10:00']; "
+        "clocks, offsets = speedate.date_time_clock_column(opens), speedate.date_time_offset_column(opens, faults='nat')",
+        "[str(it) for it in moments]", "['2026-11-27T03:30:00.000000', '2026-11-27T08:30:00.500000', 'NaT']"),
     "mmap": ("import mmap", "[it for it in column if it > 0]", "[1000000, 2000000]"),
     "BaseModel": ("from pydantic_fields import *", "Payment(day='2020-02-29', wait='PT90M').wait", "datetime.timedelta(seconds=5400)"),
     "dask": (
