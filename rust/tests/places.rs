@@ -40,7 +40,7 @@ fn times() {
             each_text(template, BYTES, FEW_BYTES, |text| {
                 let whole = whole_time(text, behavior);
                 same(text, Time::parse_bytes_with_config(text, &config), Time::error_place(text, &config), whole);
-                let strict = whole_time(text, behavior).and_then(|_| standard_time(text));
+                let strict = whole_time(text, behavior).and_then(|_| strict_time(text));
                 same(text, Time::parse_bytes_strict(text, behavior), Time::error_place_strict(text, behavior), strict);
                 let front = time(text, behavior).map(|(size, _)| size);
                 same(text, Time::parse_front(text, &config), Time::error_place_front(text, &config), front);
@@ -58,7 +58,7 @@ fn date_times() {
         each_text(template, BYTES, FEW_BYTES, |text| {
             let place = DateTime::error_place_rfc3339(text, &config);
             same(text, DateTime::parse_bytes_rfc3339_with_config(text, &config), place, whole_date_time(text));
-            let strict = whole_date_time(text).and_then(|_| standard_date_time(text));
+            let strict = whole_date_time(text).and_then(|_| strict_date_time(text));
             same(text, DateTime::parse_bytes_strict(text, Error), DateTime::error_place_strict(text, Error), strict);
             let front = date_time(text).map(|(size, _)| size);
             same(text, DateTime::parse_front(text, &config), DateTime::error_place_front(text, &config), front);
@@ -246,7 +246,7 @@ fn whole_time(text: &[u8], behavior: MicrosecondsPrecisionOverflowBehavior) -> T
 }
 
 /// The rows of RFC 3339 alone of a text that is a time.
-fn standard_time(text: &[u8]) -> Taken {
+fn strict_time(text: &[u8]) -> Taken {
     first(&[
         (at(text, 5) == b':', ParseError::InvalidCharTimeSep, 5),
         (at(text, 8) != b',', ParseError::InvalidCharTzSign, 8),
@@ -275,9 +275,9 @@ fn whole_date_time(text: &[u8]) -> Taken {
     Ok(size)
 }
 
-fn standard_date_time(text: &[u8]) -> Taken {
+fn strict_date_time(text: &[u8]) -> Taken {
     first(&[(matches!(at(text, 10), b'T' | b't'), ParseError::InvalidCharDateTimeSep, 10)])?;
-    moved(standard_time(&text[11..]), 11)
+    moved(strict_time(&text[11..]), 11)
 }
 
 fn duration(text: &[u8], behavior: MicrosecondsPrecisionOverflowBehavior) -> Taken {

@@ -6,7 +6,7 @@ use Rattle.std.proofs.lemmas.List.{length-append}
 use Rattle.speedate_base.specs.Ascii.{capital_p}
 use Rattle.speedate_base.specs.Numbers.{IsSign, has_minus, sign_size}
 use Rattle.speedate_base.specs.Requirement.{first_fault_or, result_and_then}
-use Rattle.speedate.specs.Duration.{iso_after, iso_after_or, iso_from, iso_form, form_answer}
+use Rattle.speedate.specs.Duration.{iso_after, iso_after_or, iso_from, iso_form, days_or_clock}
 use Rattle.speedate.specs.Duration.{unsigned_answer_or, duration_answer}
 use Rattle.speedate.specs.DurationNumbers.{signed_form}
 use Rattle.speedate.specs.IsoForm.{Item, item_text, IsoSums, item_at, item_table, with_item}
@@ -61,7 +61,7 @@ pub duration_answer-form : (order : IsoOrder) (behavior : Behavior) (text : List
     ≡ result_and_then (signed_form (not (has_minus text)))
     (if slice_index (drop (sign_size text) text) 0 == capital_p
     then iso_form order (drop 1 (drop (sign_size text) text))
-    else form_answer behavior (drop (sign_size text) text))
+    else days_or_clock behavior (drop (sign_size text) text))
 unfolding unsigned_answer_or
 duration_answer-form order behavior text = refl
 

@@ -18,7 +18,7 @@ use Rattle.speedate_civil.specs.Time.{minute_table}
 use Rattle.speedate.specs.ClockForm.{clock_end, clock_form_or, clock_numbers, colon_place}
 use Rattle.speedate.specs.ClockForm.{from_minute, hours, hours_range, hours_table, rest_table}
 use Rattle.speedate.specs.DayForm.{after_days_or, day_form_or, days_size, days_table, hours_of_day}
-use Rattle.speedate.specs.Duration.{duration_answer_or, form_answer_or, has_days, iso_after_or}
+use Rattle.speedate.specs.Duration.{duration_answer_or, days_or_clock_or, has_days, iso_after_or}
 use Rattle.speedate.specs.Duration.{iso_form, iso_form_or, iso_from_or, unsigned_answer_or}
 use Rattle.speedate.specs.DurationNumbers.{DurationNumbers, UnsignedDuration, amount_microseconds}
 use Rattle.speedate.specs.DurationNumbers.{normal_table, of_amount}
@@ -101,12 +101,12 @@ day_form-view view refuse behavior text =
     (λ (days : ℕ × ℕ). after_days-view view (shifted days.1 refuse) behavior days.0 _)
     (first_refusal_or-view view refuse (days_table text) _)
 
-form_answer-view : {E D : Type 0} (view : E → D) (refuse : ParseError → ℕ → E)
+days_or_clock-view : {E D : Type 0} (view : E → D) (refuse : ParseError → ℕ → E)
     (behavior : Behavior) (text : List ℕ)
-    → refusal_map view (form_answer_or refuse behavior text)
-    ≡ form_answer_or (through view refuse) behavior text
-unfolding form_answer_or
-form_answer-view view refuse behavior text =
+    → refusal_map view (days_or_clock_or refuse behavior text)
+    ≡ days_or_clock_or (through view refuse) behavior text
+unfolding days_or_clock_or
+days_or_clock-view view refuse behavior text =
     let days = day_form-view view refuse behavior text in
     let clock = clock_form-view view refuse behavior text in
     let form = if-view view (has_days text) _ _ _ _ days clock in
@@ -119,7 +119,7 @@ unsigned_answer-view : {E D : Type 0} (view : E → D) (refuse : ParseError → 
 unfolding unsigned_answer_or
 unsigned_answer-view view refuse order behavior text =
     let iso = iso_after-view view (shifted 1 refuse) 0 (no_sums order) (drop 1 text) in
-    let form = form_answer-view view refuse behavior text in
+    let form = days_or_clock-view view refuse behavior text in
     if-view view (slice_index text 0 == capital_p) _ _ _ _ iso form
 
 pub duration_answer-view : {E D : Type 0} (view : E → D) (refuse : ParseError → ℕ → E)
@@ -388,7 +388,7 @@ abbrev answer_by : (ParseError → ℕ → Refused) → IsoOrder → Behavior �
     → Result UnsignedDuration Refused
 answer_by refuse order behavior text iso =
     if iso then iso_form_or (shifted 1 refuse) order (drop 1 text)
-    else form_answer_or refuse behavior text
+    else days_or_clock_or refuse behavior text
 
 -- a duration that is read has read items
 pub iso-read : (start : ℕ) (order : IsoOrder) (behavior : Behavior) (text : List ℕ)

@@ -9,7 +9,7 @@ use Rattle.speedate_civil.specs.Date.{date_answer, date_front, date_timestamp_an
 use Rattle.speedate_civil.specs.DateTime.{DateAndTime, date_time_answer, date_time_front}
 use Rattle.speedate_civil.specs.DateTime.{date_time_number_answer, utc_microsecond}
 use Rattle.speedate_civil.specs.ParserParts.{refusal_size}
-use Rattle.speedate_civil.specs.Standard.{standard_date_time, strict_date_time_answer}
+use Rattle.speedate_civil.specs.Strict.{strict_date_time, strict_date_time_answer}
 use Rattle.speedate_civil.specs.Time.{end_fault}
 use Rattle.speedate_civil.proofs.LongerTextLemmas.{date_answer-longer, date_or_timestamp-longer}
 use Rattle.speedate_civil.proofs.LongerTextLemmas.{date_time_answer-longer}
@@ -99,7 +99,7 @@ number_of reader answer =
 
 -- a value whose text meets the rows of RFC 3339
 abbrev strict_value : List ℕ → DateAndTime → Result DateAndTime ParseError
-strict_value line found = first_fault_or (standard_date_time line) (Ok found)
+strict_value line found = first_fault_or (strict_date_time line) (Ok found)
 
 date_time_of_line-read : (parser : DateTimeParser) (line : List ℕ) (value : DateAndTime)
     → date_time_answer (text_behavior parser) line ≡ Ok value

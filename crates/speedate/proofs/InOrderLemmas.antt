@@ -10,7 +10,7 @@ use Rattle.speedate_base.specs.Numbers.{has_minus, sign_size}
 use Rattle.speedate_base.proofs.NumberLemmas.{sign-of_text}
 use Rattle.speedate_base.specs.Requirement.{fault_alone, first_fault_or, AllHold, result_and_then}
 use Rattle.speedate.specs.DurationNumbers.{DurationNumbers, signed_form}
-use Rattle.speedate.specs.Duration.{form_answer, iso_after, iso_after_or, iso_from, iso_form}
+use Rattle.speedate.specs.Duration.{days_or_clock, iso_after, iso_after_or, iso_from, iso_form}
 use Rattle.speedate.specs.Duration.{unsigned_answer_or, duration_answer}
 use Rattle.speedate.proofs.DurationAnswerLemmas.{duration_answer-form, iso_from-item}
 use Rattle.speedate.proofs.DurationAnswerLemmas.{duration_answer-iso}
@@ -72,8 +72,8 @@ both-signed positive lax answer both = search rules
 
 unsigned-both : (asked : IsoOrder) (behavior : Behavior) (text : List ℕ) (iso : Bool)
     → IsLaxOrRefused
-    (if iso then iso_form IsoOrder.Lax (drop 1 text) else form_answer behavior text)
-    (if iso then iso_form asked (drop 1 text) else form_answer behavior text)
+    (if iso then iso_form IsoOrder.Lax (drop 1 text) else days_or_clock behavior text)
+    (if iso then iso_form asked (drop 1 text) else days_or_clock behavior text)
 unsigned-both asked behavior text iso = search (rules, iso-both)
 
 -- so the answer in any order is the lax one, or the text is refused for its order

@@ -8,8 +8,9 @@ use Rattle.std.proofs.Math.Seq.{drop-nil}
 use Rattle.speedate_base.specs.Ascii.{capital_p}
 use Rattle.speedate_base.specs.Numbers.{has_minus, sign_size}
 use Rattle.speedate_base.specs.Requirement.{fault_alone, first_fault_or, AllHold, result_and_then}
-use Rattle.speedate.specs.Duration.{iso_after, iso_after_or, iso_form, form_answer, unsigned_answer}
-use Rattle.speedate.specs.Duration.{unsigned_answer_or, duration_answer, IsGrammarAnswer}
+use Rattle.speedate.specs.Duration.{iso_after, iso_after_or, iso_form, days_or_clock}
+use Rattle.speedate.specs.Duration.{unsigned_answer, unsigned_answer_or, duration_answer}
+use Rattle.speedate.specs.Duration.{IsGrammarAnswer}
 use Rattle.speedate.specs.DurationNumbers.{DurationNumbers, UnsignedDuration, signed_form}
 use Rattle.speedate.specs.IsoForm.{Item, item_text, IsItem, item_at, IsoSums, no_sums, with_item}
 use Rattle.speedate.specs.IsoForm.{with_items, item_table, AreGood, sums_amount, Ends, IsEndedFront}
@@ -148,9 +149,9 @@ iso_after-is (suc skipped) sums (byte ∷ rest) = iso_after-is skipped sums rest
 form-is : (order : IsoOrder) (behavior : Behavior) (text : List ℕ) (iso : Bool)
     → MatchBool iso
     (IsAnswerFrom (no_sums order) (drop 1 text)
-    (if iso then iso_form order (drop 1 text) else form_answer behavior text))
-    ((if iso then iso_form order (drop 1 text) else form_answer behavior text)
-    ≡ form_answer behavior text)
+    (if iso then iso_form order (drop 1 text) else days_or_clock behavior text))
+    ((if iso then iso_form order (drop 1 text) else days_or_clock behavior text)
+    ≡ days_or_clock behavior text)
 form-is order behavior text true = iso_after-is 0 (no_sums order) (drop 1 text)
 form-is order behavior text false = refl
 
@@ -171,7 +172,7 @@ duration_answer-grammar order behavior text answer same =
     let iso = slice_index rest 0 == capital_p in
     let is = form-is order behavior rest iso in
     let signed = result_and_then (signed_form (not (has_minus text))) in
-    let only = form-only order (drop 1 rest) iso (form_answer behavior rest) in
+    let only = form-only order (drop 1 rest) iso (days_or_clock behavior rest) in
     record {
       is_allowed = (unsigned_answer order behavior rest, is, same);
       is_only = λ other there. there.2 ∙ ap signed (only there.0 _ there.1 is) ∙ sym same;

@@ -9,8 +9,8 @@ use Rattle.speedate_civil.specs.Calendar.{Ymd, days_between}
 use Rattle.speedate_civil.specs.Date.{date_answer, date_or_timestamp}
 use Rattle.speedate_civil.specs.DateTime.{DateAndTime, date_time_answer, date_time_by_config}
 use Rattle.speedate_civil.specs.DateTime.{local_microsecond, utc_microsecond}
-use Rattle.speedate_civil.specs.Standard.{standard_date_time, strict_date_time_answer}
-use Rattle.speedate_civil.specs.Standard.{strict_time_answer}
+use Rattle.speedate_civil.specs.Strict.{strict_date_time, strict_date_time_answer}
+use Rattle.speedate_civil.specs.Strict.{strict_time_answer}
 use Rattle.speedate_civil.specs.Time.{TimeOfDay, microsecond_of_day, time_answer}
 pub use Rattle.speedate.specs.declared.column.LineConfig.{LineConfig}
 pub use Rattle.speedate.specs.declared.column.LineError.{LineError}
@@ -152,7 +152,7 @@ text_behavior (DateTimeParser.Strict behavior) = behavior
 abbrev pub text_table : DateTimeParser → List ℕ → List TextRow
 text_table (DateTimeParser.Rfc3339 config) text = []
 text_table (DateTimeParser.OrTimestamp config) text = []
-text_table (DateTimeParser.Strict behavior) text = standard_date_time text
+text_table (DateTimeParser.Strict behavior) text = strict_date_time text
 
 -- the date-time of a line, or the error
 abbrev pub date_time_of_line : DateTimeParser → List ℕ → Result DateAndTime ParseError

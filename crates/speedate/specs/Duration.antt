@@ -86,9 +86,9 @@ abbrev pub has_days : List ℕ → Bool
 has_days text = nat_lt (length text) 5 || list_any is_day_letter text
 
 -- the amount that a text says as days or as a clock, or the text's refusal
-unfoldable pub form_answer_or : {E : Type 0} → (ParseError → ℕ → E) → Behavior → List ℕ
+unfoldable pub days_or_clock_or : {E : Type 0} → (ParseError → ℕ → E) → Behavior → List ℕ
     → Result UnsignedDuration E
-form_answer_or refuse behavior text =
+days_or_clock_or refuse behavior text =
     if length text == 0 then Err (refuse ParseError.TooShort 0)
     else (if has_days text then day_form_or refuse behavior text
     else clock_form_or refuse behavior text)
@@ -99,7 +99,7 @@ unfoldable pub unsigned_answer_or : {E : Type 0} → (ParseError → ℕ → E) 
     → List ℕ → Result UnsignedDuration E
 unsigned_answer_or refuse order behavior text =
     if slice_index text 0 == capital_p then iso_form_or (shifted 1 refuse) order (drop 1 text)
-    else form_answer_or refuse behavior text
+    else days_or_clock_or refuse behavior text
 
 -- the answer to a text of a duration: the duration that it is, or its refusal. The sign and the
 -- normal form are applied last
@@ -114,8 +114,8 @@ duration_answer_or refuse order behavior text =
     (unsigned_answer_or (shifted size refuse) order behavior rest)
 
 -- the same, with faults
-abbrev pub form_answer : Behavior → List ℕ → Result UnsignedDuration ParseError
-form_answer behavior text = form_answer_or fault_alone behavior text
+abbrev pub days_or_clock : Behavior → List ℕ → Result UnsignedDuration ParseError
+days_or_clock behavior text = days_or_clock_or fault_alone behavior text
 
 abbrev pub unsigned_answer : IsoOrder → Behavior → List ℕ → Result UnsignedDuration ParseError
 unsigned_answer order behavior text = unsigned_answer_or fault_alone order behavior text
@@ -135,7 +135,7 @@ IsDurationAnswer order behavior text answer =
     let rest = drop (sign_size text) text in
     (form : Result UnsignedDuration ParseError)
     × MatchBool (slice_index rest 0 == capital_p)
-    (IsAnswerFrom (no_sums order) (iso_body text) form) (form ≡ form_answer behavior rest)
+    (IsAnswerFrom (no_sums order) (iso_body text) form) (form ≡ days_or_clock behavior rest)
     × (answer ≡ result_and_then (signed_form (not (has_minus text))) form)
 
 -- an answer to a text of a duration is the grammar's: the relation `IsDurationAnswer` allows it,

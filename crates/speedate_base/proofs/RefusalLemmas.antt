@@ -4,7 +4,7 @@ use mathlib.Core.Path.{fun_ext}
 use Rattle.std.specs.Result.{result_and}
 use Rattle.speedate_base.specs.Requirement.{AllHold, ParseError, Requirement, TextRow}
 use Rattle.speedate_base.specs.Requirement.{first_refusal_or, moved, refusal_map, result_and_then}
-use Rattle.speedate_base.specs.Requirement.{result_map, shifted, whole_or_refusal}
+use Rattle.speedate_base.specs.Requirement.{result_map, shifted, with_no_more_or}
 use Rattle.speedate_base.specs.Refused.{Refused, refused_place, without_place}
 
 -- a table's refusal in another way is made so of each row
@@ -81,12 +81,12 @@ refusal-read refuse rows value answer met read is =
 
 pub refusal-whole : {A E : Type 0} (refuse : ParseError → ℕ → E) (fault : A → ParseError)
     (text : List ℕ) (value : A) (size : ℕ) → length text ≡ size
-    → whole_or_refusal refuse fault text (value, size) ≡ Ok value
+    → with_no_more_or refuse fault text (value, size) ≡ Ok value
 refusal-whole refuse fault text value size same = search rules
 
 pub refusal-longer : {A E : Type 0} (refuse : ParseError → ℕ → E) (fault : A → ParseError)
     (text : List ℕ) (value : A) (size : ℕ) → (length text ≡ size → ⊥)
-    → whole_or_refusal refuse fault text (value, size) ≡ Err (refuse (fault value) size)
+    → with_no_more_or refuse fault text (value, size) ≡ Err (refuse (fault value) size)
 refusal-longer refuse fault text value size other = search rules
 
 pub refusal-all : {Place A E : Type 0} (refuse : ParseError → Place → E)

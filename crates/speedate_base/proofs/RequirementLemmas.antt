@@ -3,15 +3,15 @@ use Rattle.std.proofs.Common.{◌≡◌, ◌↔◌, ◌+◌, ◌≤◌, ◌∙�
 use Rattle.std.specs.Option.{option_map}
 use Rattle.speedate_base.specs.Requirement.{Requirement, TextRow, first_fault_or, fault_at_byte}
 use Rattle.speedate_base.specs.Requirement.{first_place, moved, IsAnswerOf, or_number}
-use Rattle.speedate_base.specs.Requirement.{or_number_place, whole_or_fault, result_and_then}
+use Rattle.speedate_base.specs.Requirement.{or_number_place, with_no_more, result_and_then}
 use Rattle.speedate_base.specs.Requirement.{result_map, ParseError}
 
 -- a value is alone in a text if and only if it takes all bytes
-pub whole_or_fault-iff : {A : Type 0} (fault : A → ParseError) (text : List ℕ)
+pub with_no_more-iff : {A : Type 0} (fault : A → ParseError) (text : List ℕ)
     (front : Result (A × ℕ) ParseError) (value : A)
-    → (result_and_then (whole_or_fault fault text) front ≡ Ok value)
+    → (result_and_then (with_no_more fault text) front ≡ Ok value)
     ↔ (front ≡ Ok (value, length text))
-whole_or_fault-iff fault text front value = search rules
+with_no_more-iff fault text front value = search rules
 
 -- where the answer to what was read is a value, something was read
 pub and_then-ok : {A B E : Type 0} (next : A → Result B E) (answer : Result A E)

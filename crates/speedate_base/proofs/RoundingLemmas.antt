@@ -11,7 +11,7 @@ use Rattle.std.proofs.lemmas.Nat.{pow-add}
 use Rattle.speedate_base.specs.Digits.{digits_value}
 use Rattle.speedate_base.proofs.BlockLemmas.{block-more, is_number}
 use Rattle.speedate_base.proofs.DigitRunLemmas.{below-power, digits_value-append, digits_value-lt}
-use Rattle.speedate_base.specs.Nearest.{quotient, rest_bounds, told_by_sixteen}
+use Rattle.speedate_base.specs.Nearest.{quotient, rest_bounds, sixteen_digits_suffice}
 use Rattle.speedate_base.proofs.NearestLemmas.{part_below, part_down, part_some, part_up}
 use Rattle.speedate_base.proofs.NearestLemmas.{quotient-carried, quotient-filled, quotient-le}
 use Rattle.speedate_base.proofs.NearestLemmas.{quotient-none, scale-some}
@@ -245,7 +245,7 @@ pub sixteen-tells : (up : Bool) (unit : ℕ) (digits : List ℕ) (value smallest
     → (smallest, largest) ≡ rest_bounds up unit (drop 16 digits)
     → least ≡ quotient up (2 * (value * unit) + smallest) (10 ^ 16)
     → most ≡ quotient up (2 * (value * unit) + largest) (10 ^ 16)
-    → (told_by_sixteen up unit digits ≡ (least == most))
+    → (sixteen_digits_suffice up unit digits ≡ (least == most))
     × (least ≡ most → least ≡ quotient up (2 * (digits_value digits * unit)) (10 ^ length digits))
 sixteen-tells up unit digits value smallest largest least most long all is bounds one two =
     let lies = rest-bounded up unit (drop 16 digits) (rest_all digits 16 all) in

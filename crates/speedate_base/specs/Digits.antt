@@ -121,7 +121,7 @@ fit_digits (suc count) (form ∷ forms) (byte ∷ bytes) = (byte - form) ∷ fit
 
 -- the numbers that any two neighbours spell, and the last one before a 0: 12, 23 and 30 for the
 -- digits 1, 2 and 3
-abbrev pub neighbours : List ℕ → List ℕ
-neighbours [] = []
-neighbours (tens ∷ []) = 10 * tens ∷ []
-neighbours (tens ∷ ones ∷ digits) = (10 * tens + ones) ∷ neighbours (ones ∷ digits)
+abbrev pub digit_pairs : List ℕ → List ℕ
+digit_pairs [] = []
+digit_pairs (tens ∷ []) = 10 * tens ∷ []
+digit_pairs (tens ∷ ones ∷ digits) = (10 * tens + ones) ∷ digit_pairs (ones ∷ digits)

@@ -27,8 +27,8 @@ rest_bounds up unit digits =
 
 -- twice the unit times the fraction that sixteen digits are, rounded, is the same for both bounds
 -- of the digits after them
-abbrev pub told_by_sixteen : Bool → ℕ → List ℕ → Bool
-told_by_sixteen up unit digits =
+abbrev pub sixteen_digits_suffice : Bool → ℕ → List ℕ → Bool
+sixteen_digits_suffice up unit digits =
     let size = 2 * (digits_value (take 16 digits) * unit) in
     let bounds = rest_bounds up unit (drop 16 digits) in
     quotient up (size + bounds.0) (10 ^ 16) == quotient up (size + bounds.1) (10 ^ 16)

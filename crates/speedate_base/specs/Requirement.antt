@@ -94,14 +94,14 @@ end_table fault size text = (length text == size else_fault fault at_byte size) 
 
 -- the value at the front of a text, with how many bytes it takes, if the text ends with it;
 -- otherwise the refusal
-abbrev pub whole_or_refusal : {A E : Type 0} → (ParseError → ℕ → E) → (A → ParseError) → List ℕ
+abbrev pub with_no_more_or : {A E : Type 0} → (ParseError → ℕ → E) → (A → ParseError) → List ℕ
     → A × ℕ → Result A E
-whole_or_refusal refuse fault text front =
+with_no_more_or refuse fault text front =
     first_refusal_or refuse (end_table (fault front.0) front.1 text) (Ok front.0)
 
 -- the same, otherwise its fault
-abbrev pub whole_or_fault : {A : Type 0} → (A → ParseError) → List ℕ → A × ℕ → Result A ParseError
-whole_or_fault fault text front = whole_or_refusal fault_alone fault text front
+abbrev pub with_no_more : {A : Type 0} → (A → ParseError) → List ℕ → A × ℕ → Result A ParseError
+with_no_more fault text front = with_no_more_or fault_alone fault text front
 
 -- what is answered to a value that was read; a fault stays
 abbrev pub result_and_then : {A B E : Type 0} → (A → Result B E) → Result A E → Result B E

@@ -13,10 +13,12 @@ mod int_float;
 pub(crate) mod lanes;
 
 use digits::{MOST_DIGITS, number_by_eights, spelled_number, without_zeros};
-pub use digits::{DigitRun, byte_at, digit_run, few_digits, is_decimal_mark, run_end, two_digits};
+pub use digits::{
+    DigitRun, byte_at, digit_run, is_decimal_mark, run_end, two_digits, up_to_six_digits,
+};
 pub use fraction::{Fraction, takes_digits};
 pub use int_float::{Decimal, IntFloat};
-pub use lanes::{LANES, are_between, eight_bytes, first_eight, fit_length, two_digit_numbers};
+pub use lanes::{LANES, are_between, digit_pairs, eight_bytes, first_eight, fit_length};
 
 /// The whole number that a text is: -12 for `"-012"`.
 ///

@@ -8,7 +8,7 @@ use Rattle.speedate.specs.Config.{Choices}
 use Rattle.speedate.specs.Date.{date_answer, date_or_timestamp}
 use Rattle.speedate.specs.DateTime.{DateAndTime, date_time_answer, date_time_or_timestamp}
 use Rattle.speedate.specs.DateTime.{local_microsecond, utc_microsecond}
-use Rattle.speedate.specs.Standard.{strict_date_time_answer, strict_time_answer}
+use Rattle.speedate.specs.Strict.{strict_date_time_answer, strict_time_answer}
 use Rattle.speedate.specs.Time.{TimeOfDay, microsecond_of_day, time_answer}
 use Rattle.speedate.specs.Requirement.{result_and_then}
 use Rattle.speedate.specs.Duration.{duration_answer}

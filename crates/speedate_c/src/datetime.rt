@@ -10,7 +10,7 @@ ghost use Rattle.speedate.specs.DateTime.{date_time_instant_order, date_time_in_
 ghost use Rattle.speedate.specs.ErrorPlace.{date_time_or_timestamp_place};
 ghost use Rattle.speedate.specs.Refused.{placed, refused_place};
 ghost use Rattle.speedate.specs.Requirement.{result_map};
-ghost use Rattle.speedate.specs.Standard.{strict_date_time_answer, strict_date_time_answer_or};
+ghost use Rattle.speedate.specs.Strict.{strict_date_time_answer, strict_date_time_answer_or};
 ghost use Rattle.speedate_c.specs.Written.{written_answer, written_front, written_place};
 ghost use Rattle.speedate_c.specs.Written.{written_text, written_value, with_option, with_value};
 ghost use Rattle.speedate_c.specs.Code.{answer_code, buffer_too_small, config_out_of_range};

@@ -9,7 +9,7 @@ ghost use Rattle.speedate.specs.Time.{time_of_day, millisecond_of_day, second_of
 ghost use Rattle.speedate.specs.Time.{timestamp_answer, time_answer, time_answer_or, time_front};
 ghost use Rattle.speedate.specs.Time.{time_front_or, time_text, ◌gives◌, time_instant_order};
 ghost use Rattle.speedate.specs.Time.{time_in_timezone};
-ghost use Rattle.speedate.specs.Standard.{strict_time_answer, strict_time_answer_or};
+ghost use Rattle.speedate.specs.Strict.{strict_time_answer, strict_time_answer_or};
 ghost use Rattle.speedate_c.specs.Written.{written_answer, written_front, written_place};
 ghost use Rattle.speedate_c.specs.Written.{written_text, written_value, with_option, with_value};
 ghost use Rattle.speedate_c.specs.Code.{answer_code, buffer_too_small, config_out_of_range};

@@ -5,7 +5,7 @@ use Rattle.std.proofs.lemmas.Bool.{and_from}
 use Rattle.std.proofs.lemmas.Grind.{common_steps}
 use Rattle.speedate_base.specs.Ascii.{colon}
 use Rattle.speedate_base.specs.Digits.{two_digits_at, two_digit_value, eight_at, fit_length}
-use Rattle.speedate_base.specs.Digits.{fit_digits, neighbours}
+use Rattle.speedate_base.specs.Digits.{fit_digits, digit_pairs}
 use Rattle.speedate_base.specs.Requirement.{first_refusal_or, result_map, shifted}
 use Rattle.speedate_base.proofs.PatternLemmas.{fit_length-all}
 use Rattle.speedate_base.proofs.RefusalLemmas.{shifted-shifted}
@@ -25,16 +25,16 @@ pub record Front (text numbers : List ℕ) : Type 0 where
   pub minute_is : get_or numbers 3 0 ≡ two_digit_value (drop 3 text) 0
 
 front_is : (text : List ℕ) → 5 ≤ fit_length pattern (eight_at text 0)
-    → Front text (neighbours (fit_digits 5 pattern (eight_at text 0)))
+    → Front text (digit_pairs (fit_digits 5 pattern (eight_at text 0)))
 front_is text fits = grind (arith, common_steps, and_from, get_or-drop, fit_length-all)
 
 pub front-read : (text front numbers : List ℕ) (fits : ℕ) → front ≡ eight_at text 0
     → fits ≡ fit_length pattern front → 5 ≤ fits
-    → numbers ≡ neighbours (fit_digits 5 pattern front) → Front text numbers
+    → numbers ≡ digit_pairs (fit_digits 5 pattern front) → Front text numbers
 front-read text front numbers fits from counted enough spelled =
     let same = counted ∙ ap (fit_length pattern) from in
     let five = subst (λ (count : ℕ). 5 ≤ count) same enough in
-    let is = spelled ∙ ap (λ (block : List ℕ). neighbours (fit_digits 5 pattern block)) from in
+    let is = spelled ∙ ap (λ (block : List ℕ). digit_pairs (fit_digits 5 pattern block)) from in
     subst (λ (all : List ℕ). Front text all) (sym is) (front_is text five)
 
 -- the answer to a clock of this hour whose table up to the minute is met
@@ -105,16 +105,16 @@ pub record Minute (text numbers : List ℕ) : Type 0 where
   pub is : get_or numbers 0 0 ≡ two_digit_value text 0
 
 minute_is : (text : List ℕ) → 2 ≤ fit_length pattern (eight_at text 0)
-    → Minute text (neighbours (fit_digits 2 pattern (eight_at text 0)))
+    → Minute text (digit_pairs (fit_digits 2 pattern (eight_at text 0)))
 minute_is text fits = grind (arith, common_steps, and_from, fit_length-all)
 
 pub minute-read : (text front numbers : List ℕ) (fits : ℕ) → front ≡ eight_at text 0
     → fits ≡ fit_length pattern front → 2 ≤ fits
-    → numbers ≡ neighbours (fit_digits 2 pattern front) → Minute text numbers
+    → numbers ≡ digit_pairs (fit_digits 2 pattern front) → Minute text numbers
 minute-read text front numbers fits from counted enough spelled =
     let same = counted ∙ ap (fit_length pattern) from in
     let two = subst (λ (count : ℕ). 2 ≤ count) same enough in
-    let is = spelled ∙ ap (λ (block : List ℕ). neighbours (fit_digits 2 pattern block)) from in
+    let is = spelled ∙ ap (λ (block : List ℕ). digit_pairs (fit_digits 2 pattern block)) from in
     subst (λ (all : List ℕ). Minute text all) (sym is) (minute_is text two)
 
 -- its range holds, so what follows it decides

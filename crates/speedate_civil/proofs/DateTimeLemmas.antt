@@ -4,7 +4,7 @@ use Rattle.std.proofs.Common.{◌≡◌, ℕ, ◌+◌, true, List, [], ◌∷◌
 use Rattle.speedate_civil.specs.Base.{Behavior}
 use Rattle.speedate_base.specs.Ascii.{capital_t}
 use Rattle.speedate_base.specs.Offset.{IsWholeMinutes}
-use Rattle.speedate_base.specs.Requirement.{fault_alone, whole_or_fault, result_and_then}
+use Rattle.speedate_base.specs.Requirement.{fault_alone, with_no_more, result_and_then}
 use Rattle.speedate_civil.specs.DateTime.{DateAndTime, IsDateAndTime, date_time_front}
 use Rattle.speedate_civil.specs.DateTime.{date_time_answer, date_time_text}
 use Rattle.speedate_civil.specs.Time.{end_fault, time_text, is_after_time}
@@ -37,5 +37,5 @@ date_time_text-reads behavior value valid whole =
     let front = sym (ap (date_time_front behavior) (append-nil text))
     ∙ date_time_text-front behavior value [] valid whole (nothing-after value.time) in
     let fault = λ (read : DateAndTime). end_fault read.time.offset in
-    ap (result_and_then (whole_or_fault fault text)) front
+    ap (result_and_then (with_no_more fault text)) front
     ∙ refusal-whole fault_alone fault text value (length text) refl

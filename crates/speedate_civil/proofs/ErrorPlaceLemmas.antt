@@ -2,7 +2,7 @@
 use Rattle.std.proofs.Common.{◌≡◌, ◌∙◌, ◌+◌, ap, ℕ, ℤ, List, drop, Option, Ok, is_err, is_some, true, refl, rules}
 use Rattle.speedate_civil.specs.Base.{Behavior, ParseError, TimestampUnit}
 use Rattle.speedate_base.specs.Requirement.{end_table, fault_alone, fault_at_byte, first_refusal_or}
-use Rattle.speedate_base.specs.Requirement.{refusal_map, result_map, shifted, whole_or_refusal}
+use Rattle.speedate_base.specs.Requirement.{refusal_map, result_map, shifted, with_no_more_or}
 use Rattle.speedate_base.specs.Refused.{placed, refused_place}
 use Rattle.speedate_base.specs.declared.refusal.Refused.{Refused}
 use Rattle.speedate_base.proofs.RefusalLemmas.{chain-view, first_refusal_or-view, map-view}
@@ -16,8 +16,8 @@ use Rattle.speedate_civil.specs.Date.{date_timestamp_answer}
 use Rattle.speedate_civil.specs.DateTime.{DateAndTime, date_time_answer_or, date_time_front_or}
 use Rattle.speedate_civil.specs.DateTime.{separator_table}
 use Rattle.speedate_civil.specs.ErrorPlace.{date_or_timestamp_place}
-use Rattle.speedate_civil.specs.Standard.{standard_date_time, standard_time}
-use Rattle.speedate_civil.specs.Standard.{strict_date_time_answer_or, strict_time_answer_or}
+use Rattle.speedate_civil.specs.Strict.{strict_date_time, strict_time, strict_date_time_answer_or}
+use Rattle.speedate_civil.specs.Strict.{strict_time_answer_or}
 use Rattle.speedate_civil.specs.Time.{Clock, TimeOfDay, at_hour, clock_front_or, clock_with_offset}
 use Rattle.speedate_civil.specs.Time.{end_fault, hour_range, hour_table, minute_clock}
 use Rattle.speedate_civil.specs.Time.{minute_digits, minute_table, offset_front_or, time_answer_or}
@@ -28,8 +28,8 @@ use Rattle.std.specs.Option.{option_map}
 
 whole-view : {A E D : Type 0} (view : E → D) (refuse : ParseError → ℕ → E) (fault : A → ParseError)
     (text : List ℕ) (front : A × ℕ)
-    → refusal_map view (whole_or_refusal refuse fault text front)
-    ≡ whole_or_refusal (through view refuse) fault text front
+    → refusal_map view (with_no_more_or refuse fault text front)
+    ≡ with_no_more_or (through view refuse) fault text front
 whole-view view refuse fault text front =
     first_refusal_or-view view refuse (end_table (fault front.0) front.1 text) (Ok front.0)
 
@@ -105,7 +105,7 @@ pub strict_time_answer-view : {E D : Type 0} (view : E → D) (refuse : ParseErr
     ≡ strict_time_answer_or (through view refuse) behavior text
 strict_time_answer-view view refuse behavior text =
     let answer = time_answer-view view refuse behavior text in
-    let table = standard_time text in
+    let table = strict_time text in
     then-view view _ _ _ _ (λ time. first_refusal_or-view view refuse table (Ok time)) answer
 
 -- a date-time by the date and the time that are read
@@ -142,7 +142,7 @@ pub strict_date_time_answer-view : {E D : Type 0} (view : E → D) (refuse : Par
     ≡ strict_date_time_answer_or (through view refuse) behavior text
 strict_date_time_answer-view view refuse behavior text =
     let answer = date_time_answer-view view refuse behavior text in
-    let table = standard_date_time text in
+    let table = strict_date_time text in
     then-view view _ _ _ _ (λ value. first_refusal_or-view view refuse table (Ok value)) answer
 
 pub date_or_timestamp-is_some : (unit : TimestampUnit) (text : List ℕ)

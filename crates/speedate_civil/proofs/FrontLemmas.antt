@@ -9,7 +9,7 @@ use Rattle.std.specs.List.{prefix_len}
 use Rattle.std.proofs.lemmas.List.{drop-take}
 use Rattle.speedate_base.specs.Ascii.{colon, hyphen}
 use Rattle.speedate_base.specs.Digits.{run_length, run_digits, two_digit_value, is_decimal_mark}
-use Rattle.speedate_base.specs.Requirement.{fault_alone, AllHold, whole_or_fault, first_fault_or}
+use Rattle.speedate_base.specs.Requirement.{fault_alone, AllHold, with_no_more, first_fault_or}
 use Rattle.speedate_base.specs.Requirement.{result_and_then, result_map, with_size}
 use Rattle.speedate_civil.specs.Calendar.{Ymd}
 use Rattle.speedate_civil.specs.Time.{Clock, at_hour, clock_answer, clock_front, hour_table}
@@ -224,7 +224,7 @@ time_front-taken behavior text =
 taken-alone : {A : Type 0} (fault : A → ParseError) (text : List ℕ)
     (answer : Result (A × ℕ) ParseError) (front : A × ℕ)
     → front.1 ≤ length text → answer ≡ Ok front
-    → result_and_then (whole_or_fault fault (take front.1 text)) answer ≡ Ok front.0
+    → result_and_then (with_no_more fault (take front.1 text)) answer ≡ Ok front.0
 taken-alone fault text answer front inside read = search rules
 
 pub time_front-alone : (behavior : Behavior) (text : List ℕ) (front : TimeOfDay × ℕ)

@@ -20,7 +20,7 @@ mod OffsetLemmas
 mod OffsetMoveLemmas
 mod ReadLemmas
 mod Rfc3339Lemmas
-mod StandardPlaceLemmas
+mod StrictPlaceLemmas
 mod TimeLemmas
 mod UsualLemmas
 pub mod ValueLemmas

@@ -10,7 +10,7 @@ use Rattle.speedate_base.specs.Digits.{run_length, two_digits_at, two_digit_valu
 use Rattle.speedate_base.specs.Numbers.{NoNumber, number_answer, whole_number}
 use Rattle.speedate_base.specs.Requirement.{fault_alone, NumberRow, Requirement, TextRow}
 use Rattle.speedate_base.specs.Requirement.{first_fault_or, result_and_then, result_map}
-use Rattle.speedate_base.specs.Requirement.{whole_or_fault, ◌else_fault◌, ◌implies◌, ◌>>=◌}
+use Rattle.speedate_base.specs.Requirement.{with_no_more, ◌else_fault◌, ◌implies◌, ◌>>=◌}
 use Rattle.speedate_base.proofs.RequirementLemmas.{and_then-ok}
 use Rattle.speedate_civil.specs.Calendar.{Ymd}
 use Rattle.speedate_civil.specs.Date.{date_answer, date_front, date_numbers, date_or_timestamp}
@@ -350,18 +350,18 @@ date_time_answer-refused behavior text count size fault read takes long inside =
     let shown = long-shown fault size count takes long in
     let keeps = keeps-date-time behavior text count shown inside in
     let refused = kept count size _ _ fault keeps read takes long in
-    ap (result_and_then (whole_or_fault end (take count text))) refused
+    ap (result_and_then (with_no_more end (take count text))) refused
 
 -- a text that goes on after what it begins with
 longer : {A : Type 0} (fault : A → ParseError) (text : List ℕ) (count : ℕ) (front : A × ℕ)
     (answer : Result (A × ℕ) ParseError)
     → answer ≡ Ok front → front.1 < count → count ≤ length text
-    → result_and_then (whole_or_fault fault (take count text)) answer ≡ Err (fault front.0)
+    → result_and_then (with_no_more fault (take count text)) answer ≡ Err (fault front.0)
 longer fault text count front answer read more inside =
     let line = take count text in
     let size = length-take-le count text inside in
     let other = λ (same : length line ≡ front.1). absurd (omega (arith, more, same, size)) in
-    ap (result_and_then (whole_or_fault fault line)) read
+    ap (result_and_then (with_no_more fault line)) read
     ∙ refusal-longer fault_alone fault line front.0 front.1 other
 
 -- a date at the front of a text is one of any front that is as long

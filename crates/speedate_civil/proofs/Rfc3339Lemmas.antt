@@ -20,7 +20,7 @@ use Rattle.speedate_base.specs.Digits.{four_digit_value, is_decimal_mark}
 use Rattle.speedate_base.specs.Numbers.{with_sign}
 use Rattle.speedate_base.specs.Config.{refuses_digits}
 use Rattle.speedate_base.specs.Requirement.{fault_alone, Requirement, ◌implies◌, AllHold}
-use Rattle.speedate_base.specs.Requirement.{whole_or_fault, first_fault_or, result_map}
+use Rattle.speedate_base.specs.Requirement.{with_no_more, first_fault_or, result_map}
 use Rattle.speedate_base.specs.Requirement.{result_and_then}
 use Rattle.speedate_civil.specs.Calendar.{Ymd, IsDate}
 use Rattle.speedate_civil.specs.Time.{Clock, clock_front, has_decimal_mark, has_second, minute_text}
@@ -30,14 +30,13 @@ use Rattle.speedate_civil.specs.Time.{time_front, time_answer, time_of_day, Time
 use Rattle.speedate_civil.specs.DateTime.{DateAndTime, date_time_answer, date_time_front}
 use Rattle.speedate_civil.specs.DateTime.{separator_table, date_and_time, DateTime}
 use Rattle.speedate_civil.specs.Date.{date_front, date_table, date_text}
-use Rattle.speedate_civil.specs.Standard.{IsFullDate, IsDateTime, IsTwoDigits, IsSecfrac}
-use Rattle.speedate_civil.specs.Standard.{IsPartialTime, IsNumoffset, IsTimeOffset, IsFullTime}
-use Rattle.speedate_civil.specs.Standard.{offset_place, standard_date_time, standard_offset}
-use Rattle.speedate_civil.specs.Standard.{standard_time, strict_date_time_answer}
-use Rattle.speedate_civil.specs.Standard.{strict_time_answer}
+use Rattle.speedate_civil.specs.Strict.{IsFullDate, IsDateTime, IsTwoDigits, IsSecfrac}
+use Rattle.speedate_civil.specs.Strict.{IsPartialTime, IsNumoffset, IsTimeOffset, IsFullTime}
+use Rattle.speedate_civil.specs.Strict.{offset_place, strict_date_time, strict_offset, strict_time}
+use Rattle.speedate_civil.specs.Strict.{strict_date_time_answer, strict_time_answer}
 use Rattle.speedate_base.proofs.DigitRunLemmas.{run_length-append}
 use Rattle.speedate_base.proofs.NumberLemmas.{run-digits}
-use Rattle.speedate_base.proofs.RequirementLemmas.{whole_or_fault-iff}
+use Rattle.speedate_base.proofs.RequirementLemmas.{with_no_more-iff}
 use Rattle.speedate_civil.proofs.ClockLemmas.{run_length-none, clock-secfrac, clock-whole}
 use Rattle.speedate_civil.proofs.DateLemmas.{date_text-front}
 use Rattle.speedate_civil.proofs.FrontLemmas.{ClockRead, bytes_from, clock-read, clock-size}
@@ -161,7 +160,7 @@ numoffset byte numbers some there =
     inr (inr (subst (λ (text : List ℕ). IsNumoffset (byte ∷ text)) bytes numbered))))
 
 -- an offset of the rules, by what it begins with
-offset-all : (rest : List ℕ) → AllHold (standard_offset rest)
+offset-all : (rest : List ℕ) → AllHold (strict_offset rest)
     → IfOk (offset_front rest) (λ front. front.1 ≡ length rest → IsTimeOffset rest)
 offset-all [] rows = absurd (cc)
 offset-all (byte ∷ numbers) rows =
@@ -197,23 +196,23 @@ partial-time-of behavior text clock read inside second plain =
     of_bytes (clock-parts behavior _ _ _ _ _ _ _ _ (drop 8 text) clock _ refl) read second plain
 
 -- what the strict reader takes as a time is one by the rules
-full-time-of : (behavior : Behavior) (text : List ℕ) → AllHold (standard_time text)
+full-time-of : (behavior : Behavior) (text : List ℕ) → AllHold (strict_time text)
     → IfOk (time_front behavior text) (λ front. front.1 ≡ length text → IsFullTime behavior text)
 full-time-of behavior text rows =
-    let Meets = λ (place : ℕ). AllHold (standard_offset (drop place text)) in
+    let Meets = λ (place : ℕ). AllHold (strict_offset (drop place text)) in
     let plain = not-true (slice_index text 8 == comma) rows.1.0 in
     read-then _ _ (clock_front behavior text) (λ clock read.
     let rest : List ℕ = drop clock.size text in
     read-then _ _ (offset_front rest) (λ offset after whole.
     let inside : clock.size ≤ length text = omega (arith, whole) in
     let parts = partial-time-of behavior text clock read inside rows.0 plain in
-    let standard = subst Meets (sym parts.1) rows.1.1 in
+    let meets = subst Meets (sym parts.1) rows.1.1 in
     let all : offset.1 ≡ length rest = omega (arith, whole, length-drop clock.size text) in
     record {
       time = take clock.size text;
       offset = rest;
       is_time = parts.0;
-      is_offset = read-value _ _ offset after (offset-all rest standard) all;
+      is_offset = read-value _ _ offset after (offset-all rest meets) all;
       together = sym (take-append-drop clock.size text);
     }))
 
@@ -224,7 +223,7 @@ record OffsetRead (text : List ℕ) : Type 0 where
   whole : front.1 ≡ length text
   no_digit : is_ascii_digit (slice_index text 0) ≡ false
   no_mark : is_decimal_mark (slice_index text 0) ≡ false
-  standard : AllHold (standard_offset text)
+  meets : AllHold (strict_offset text)
 
 numoffset-read : (sign hour minute : ℕ) → (sign ≡ plus_sign) ⊎ (sign ≡ hyphen) → hour ≤ 23
     → minute ≤ 59
@@ -235,7 +234,7 @@ numoffset-read sign hour minute is small_hour small_minute = record {
   whole = refl;
   no_digit = search rules;
   no_mark = search rules;
-  standard = search rules;
+  meets = search rules;
 }
 
 utc-read : (byte : ℕ) → (byte ≡ capital_z) ⊎ (byte ≡ small_z) → OffsetRead (byte ∷ [])
@@ -245,7 +244,7 @@ utc-read byte is = record {
   whole = refl;
   no_digit = search rules;
   no_mark = search rules;
-  standard = search rules;
+  meets = search rules;
 }
 
 offset-read : (text : List ℕ) → IsTimeOffset text → OffsetRead text
@@ -254,7 +253,7 @@ offset-read text is = grind (arith, nat_tests, numoffset-read, utc-read)
 -- a text that the strict reader takes
 abbrev Taken : Behavior → List ℕ → Type 0
 Taken behavior text =
-    (time : TimeOfDay) × ((time_answer behavior text ≡ Ok time) × AllHold (standard_time text))
+    (time : TimeOfDay) × ((time_answer behavior text ≡ Ok time) × AllHold (strict_time text))
 
 -- a clock and an offset after it, which are the whole text
 taken-of : (behavior : Behavior) (text offset : List ℕ) (clock : Clock) → OffsetRead offset
@@ -270,8 +269,8 @@ taken-of behavior text offset clock after read rest long second plain place =
     let front = time_front-is behavior text clock after.front read offset_is in
     let all : length text ≡ size = omega (arith, long, after.whole) in
     let whole = refusal-whole fault_alone fault text time size all in
-    let is = ap (result_and_then (whole_or_fault fault text)) front ∙ whole in
-    let rows : AllHold (standard_offset (drop (offset_place text) text)) = search rules in
+    let is = ap (result_and_then (with_no_more fault text)) front ∙ whole in
+    let rows : AllHold (strict_offset (drop (offset_place text) text)) = search rules in
     (time, (is, (second, (search rules, rows))))
 
 -- the text of a time by its parts
@@ -355,7 +354,7 @@ full-date-of text =
     }))
 
 -- what the strict reader takes as a date-time is one by the rules
-date-time-of : (behavior : Behavior) (text : List ℕ) → AllHold (standard_date_time text)
+date-time-of : (behavior : Behavior) (text : List ℕ) → AllHold (strict_date_time text)
     → IfOk (date_time_front behavior text)
     (λ front. front.1 ≡ length text → IsDateTime behavior text)
 date-time-of behavior text rows =
@@ -388,18 +387,18 @@ date-time-parts behavior date separator time valid parted value read =
     let whole : DateAndTime = record { date = date; time = value } in
     let fault = λ (found : DateAndTime). end_fault found.time.offset in
     let time_fault = λ (found : TimeOfDay). end_fault found.offset in
-    let timed = (whole_or_fault-iff time_fault time (time_front behavior time) value).0 read in
+    let timed = (with_no_more-iff time_fault time (time_front behavior time) value).0 read in
     let dated = date_text-front date (separator ∷ time) valid in
     let rows : AllHold (separator_table text) = (search rules, tt) in
     let is = date_time_front-is behavior text (date, 10) (value, length time) dated rows timed in
-    ap (result_and_then (whole_or_fault fault text)) is
+    ap (result_and_then (with_no_more fault text)) is
     ∙ refusal-whole fault_alone fault text whole (11 + length time) (omega arith)
 
 -- a text that the strict reader takes as a date-time
 abbrev DateTimeTaken : Behavior → List ℕ → Type 0
 DateTimeTaken behavior text =
     (value : DateAndTime) × ((date_time_answer behavior text ≡ Ok value)
-    × AllHold (standard_date_time text))
+    × AllHold (strict_date_time text))
 
 -- and a date-time of the rules is taken
 date-time-taken : (behavior : Behavior) (text : List ℕ) → IsDateTime behavior text
@@ -430,34 +429,34 @@ strict view result rows answer IsOne is to from =
 
 -- what is read and meets the rows of the rules is one of them
 is-full-time : (behavior : Behavior) (text : List ℕ) (time : TimeOfDay)
-    → time_answer behavior text ≡ Ok time → AllHold (standard_time text)
+    → time_answer behavior text ≡ Ok time → AllHold (strict_time text)
     → IsFullTime behavior text
 is-full-time behavior text time read rows =
     let fault = λ (value : TimeOfDay). end_fault value.offset in
-    let whole = (whole_or_fault-iff fault text (time_front behavior text) time).0 read in
+    let whole = (with_no_more-iff fault text (time_front behavior text) time).0 read in
     read-value _ _ (time, length text) whole (full-time-of behavior text rows) refl
 
 is-date-time : (behavior : Behavior) (text : List ℕ) (value : DateAndTime)
-    → date_time_answer behavior text ≡ Ok value → AllHold (standard_date_time text)
+    → date_time_answer behavior text ≡ Ok value → AllHold (strict_date_time text)
     → IsDateTime behavior text
 is-date-time behavior text value read rows =
     let fault = λ (found : DateAndTime). end_fault found.time.offset in
-    let whole = (whole_or_fault-iff fault text (date_time_front behavior text) value).0 read in
+    let whole = (with_no_more-iff fault text (date_time_front behavior text) value).0 read in
     read-value _ _ (value, length text) whole (date-time-of behavior text rows) refl
 
 -- so a text is taken if and only if it is one of the rules
-pub time-standard : (behavior : Behavior) (text : List ℕ) (result : Result Time ParseError)
+pub time-strict : (behavior : Behavior) (text : List ℕ) (result : Result Time ParseError)
     → result_map time_of_day result ≡ strict_time_answer behavior text
     → IsOk result ↔ IsFullTime behavior text
-time-standard behavior text result is =
+time-strict behavior text result is =
     let answer = time_answer behavior text in
-    strict time_of_day result (standard_time text) answer (IsFullTime behavior text) is
+    strict time_of_day result (strict_time text) answer (IsFullTime behavior text) is
     (is-full-time behavior text) (full-time-taken behavior text)
 
-pub date-time-standard : (behavior : Behavior) (text : List ℕ) (result : Result DateTime ParseError)
+pub date-time-strict : (behavior : Behavior) (text : List ℕ) (result : Result DateTime ParseError)
     → result_map date_and_time result ≡ strict_date_time_answer behavior text
     → IsOk result ↔ IsDateTime behavior text
-date-time-standard behavior text result is =
+date-time-strict behavior text result is =
     let answer = date_time_answer behavior text in
-    strict date_and_time result (standard_date_time text) answer (IsDateTime behavior text) is
+    strict date_and_time result (strict_date_time text) answer (IsDateTime behavior text) is
     (is-date-time behavior text) (date-time-taken behavior text)

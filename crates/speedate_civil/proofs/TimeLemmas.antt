@@ -6,7 +6,7 @@ use Rattle.std.specs.Char.{is_ascii_digit}
 use Rattle.speedate_base.specs.Ascii.{colon, full_stop}
 use Rattle.speedate_base.specs.Digits.{two_digit_text, six_digit_text, is_decimal_mark}
 use Rattle.speedate_base.specs.Offset.{IsWholeMinutes}
-use Rattle.speedate_base.specs.Requirement.{fault_alone, shifted, whole_or_fault, result_and_then}
+use Rattle.speedate_base.specs.Requirement.{fault_alone, shifted, with_no_more, result_and_then}
 use Rattle.speedate_civil.specs.Time.{Clock, at_hour, clock_answer, clock_front, clock_with_offset}
 use Rattle.speedate_civil.specs.Time.{minute_text, end_fault, offset_front_or, offset_text}
 use Rattle.speedate_civil.specs.Time.{TimeOfDay, IsTime, time_after_clock_or, time_front}
@@ -86,5 +86,5 @@ time_text-reads behavior time valid whole =
     let fault = λ (read : TimeOfDay). end_fault read.offset in
     let front = sym (ap (time_front behavior) (append-nil text))
     ∙ time_text-front behavior time [] valid whole (nothing-after time) in
-    ap (result_and_then (whole_or_fault fault text)) front
+    ap (result_and_then (with_no_more fault text)) front
     ∙ refusal-whole fault_alone fault text time (length text) refl

@@ -9,7 +9,7 @@ use Rattle.speedate_base.specs.Numbers.{whole_number}
 use Rattle.speedate_base.specs.Timestamp.{seconds_per_day, Instant, instant_answer, range_answer}
 use Rattle.speedate_base.specs.Requirement.{NumberRow, TextRow, ◌else_fault◌, ◌at_byte◌}
 use Rattle.speedate_base.specs.Requirement.{fault_alone, first_fault_or, first_refusal_or}
-use Rattle.speedate_base.specs.Requirement.{whole_or_refusal, ◌implies◌, or_number, result_map}
+use Rattle.speedate_base.specs.Requirement.{with_no_more_or, ◌implies◌, or_number, result_map}
 use Rattle.speedate_base.specs.Requirement.{with_size, ◌>>=◌}
 pub use Rattle.speedate_civil.specs.declared.date.Date.{Date}
 use Rattle.speedate_civil.specs.Calendar.{Ymd, month_length, epoch_day, date_of_number}
@@ -80,7 +80,7 @@ date_front_or refuse text = first_refusal_or refuse (date_table text) (Ok (date_
 abbrev pub date_answer_or : {E : Type 0} → (ParseError → ℕ → E) → List ℕ → Result Ymd E
 date_answer_or refuse text = do
   date ← date_front_or refuse text
-  whole_or_refusal refuse (λ read. ParseError.ExtraCharacters) text date
+  with_no_more_or refuse (λ read. ParseError.ExtraCharacters) text date
 
 -- the date at the front of a text, and how many bytes it takes, or the text's fault
 abbrev pub date_front : List ℕ → Result (Ymd × ℕ) ParseError

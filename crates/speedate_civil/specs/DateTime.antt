@@ -12,7 +12,7 @@ use Rattle.speedate_base.specs.Timestamp.{timestamp_microsecond, instant_answer,
 use Rattle.speedate_base.specs.Timestamp.{last_second, later_answer}
 use Rattle.speedate_base.specs.Requirement.{TextRow, ◌else_fault◌, ◌at_byte◌, fault_alone}
 use Rattle.speedate_base.specs.Requirement.{first_fault_or, first_refusal_or, shifted}
-use Rattle.speedate_base.specs.Requirement.{whole_or_refusal, result_map, or_number, with_size}
+use Rattle.speedate_base.specs.Requirement.{with_no_more_or, result_map, or_number, with_size}
 use Rattle.speedate_base.specs.Requirement.{◌>>=◌}
 pub use Rattle.speedate_civil.specs.declared.datetime.DateTime.{DateTime}
 use Rattle.speedate_civil.specs.declared.datetime.now.Moment.{Moment}
@@ -107,7 +107,7 @@ abbrev pub date_time_answer_or : {E : Type 0} → (ParseError → ℕ → E) →
     → Result DateAndTime E
 date_time_answer_or refuse behavior text = do
   value ← date_time_front_or refuse behavior text
-  whole_or_refusal refuse (λ read. end_fault read.time.offset) text value
+  with_no_more_or refuse (λ read. end_fault read.time.offset) text value
 
 -- the same, with the text's fault
 abbrev pub date_time_front : Behavior → List ℕ → Result (DateAndTime × ℕ) ParseError

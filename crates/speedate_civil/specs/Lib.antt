@@ -5,5 +5,5 @@ pub mod Date
 pub mod DateTime
 pub mod Time
 pub mod ParserParts
-pub mod Standard
+pub mod Strict
 pub mod ErrorPlace

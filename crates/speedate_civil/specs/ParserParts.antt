@@ -3,15 +3,16 @@ use Rattle.std.specs.Prelude.{◌≡◌, ℕ, ◌≤◌, List, Bool, true, false
 use Rattle.speedate_civil.specs.Base.{ParseError}
 use Rattle.speedate_base.specs.Digits.{eight_at, fit_length, two_digits_at, two_digit_value}
 use Rattle.speedate_civil.specs.declared.time.pure.AfterMinute.{AfterMinute}
-use Rattle.speedate_civil.specs.declared.time.pure.Second.{Second}
+use Rattle.speedate_civil.specs.declared.time.pure.SecondField.{SecondField}
 use Rattle.speedate_civil.specs.Time.{Clock, has_second}
 
 -- the second of a clock that is given from its minute on
-abbrev pub second_of : List ℕ → Second
+abbrev pub second_of : List ℕ → SecondField
 second_of rest =
     if has_second rest then
-    (if two_digits_at rest 3 then Second.Number (two_digit_value rest 3) else Second.Faulty)
-    else Second.Absent
+    (if two_digits_at rest 3 then SecondField.Number (two_digit_value rest 3)
+    else SecondField.Faulty)
+    else SecondField.Absent
 
 -- the clock of hour 0 of a minute and what was read after it
 abbrev pub clock_after : ℕ → AfterMinute → Clock

@@ -15,7 +15,7 @@ use Rattle.speedate_base.specs.Offset.{IsOffset, offset_table}
 use Rattle.speedate_base.specs.Timestamp.{Instant, seconds_per_day}
 use Rattle.speedate_base.specs.Requirement.{NumberRow, TextRow, ◌else_fault◌, ◌at_byte◌}
 use Rattle.speedate_base.specs.Requirement.{fault_alone, first_fault_or, first_refusal_or}
-use Rattle.speedate_base.specs.Requirement.{◌implies◌, result_map, shifted, whole_or_refusal}
+use Rattle.speedate_base.specs.Requirement.{◌implies◌, result_map, shifted, with_no_more_or}
 use Rattle.speedate_base.specs.Requirement.{with_size, ◌>>=◌}
 pub use Rattle.speedate_civil.specs.declared.time.Time.{Time}
 use Rattle.speedate_civil.specs.declared.time.pure.PureTime.{PureTime}
@@ -376,7 +376,7 @@ abbrev pub time_answer_or : {E : Type 0} → (ParseError → ℕ → E) → Beha
     → Result TimeOfDay E
 time_answer_or refuse behavior text = do
   time ← time_front_or refuse behavior text
-  whole_or_refusal refuse (λ read. end_fault read.offset) text time
+  with_no_more_or refuse (λ read. end_fault read.offset) text time
 
 -- the same, with the text's fault
 abbrev pub time_front : Behavior → List ℕ → Result (TimeOfDay × ℕ) ParseError

@@ -1,3 +1,3 @@
 mod AnswerLemmas
-mod CarryLemmas
+mod KeptLineLemmas
 mod SentLemmas

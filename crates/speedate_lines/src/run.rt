@@ -87,7 +87,7 @@ pub fn run<R: Read, W: Write>(
         let Ok(start) = answer_lines(&block[..filled], kept, &mut pending, output) else {
             return Err(RunError::Write);
         };
-        kept = carry(&mut block, start, filled);
+        kept = keep_line(&mut block, start, filled);
     }
     match finish(&block[..kept], &mut pending, output) {
         Ok(()) => Ok(()),
@@ -181,7 +181,7 @@ fn write_all<W: Write>(bytes: &[u8], output: &mut Watched<W>) -> Result<(), Fail
 
 /// Moves the unfinished line, which stands from `start` up to `filled`, to the front of the block,
 /// and returns how much of it is kept.
-fn carry(block: &mut [u8; BLOCK], start: usize, filled: usize) -> usize
+fn keep_line(block: &mut [u8; BLOCK], start: usize, filled: usize) -> usize
     requires ordered { start ≤ filled }
     requires within { filled ≤ BLOCK }
     ensures short { result ≤ KEPT_MAX }

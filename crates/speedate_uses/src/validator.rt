@@ -3,7 +3,7 @@
 ghost use Rattle.std.specs.Prelude.{◌≡◌, Err, MatchResult, Ok};
 ghost use Rattle.speedate.specs.DateTime.{date_and_time, ◌gives◌};
 ghost use Rattle.speedate.specs.Fault.{fault_documentation, fault_name};
-ghost use Rattle.speedate.specs.Standard.{strict_date_time_answer};
+ghost use Rattle.speedate.specs.Strict.{strict_date_time_answer};
 
 use speedate::{DateTime, MicrosecondsPrecisionOverflowBehavior as Behavior, ParseError};
 

@@ -18,7 +18,7 @@ use super::unsigned::UnsignedDuration;
 pub(super) use error_place::{Bound, first_item};
 use speedate_base::config::IsoOrder;
 use speedate_base::faults::ParseError;
-use speedate_base::numbers::{Fraction, byte_at, digit_run, few_digits, is_decimal_mark};
+use speedate_base::numbers::{Fraction, byte_at, digit_run, is_decimal_mark, up_to_six_digits};
 use speedate_base::refusal::Refusal;
 use speedate_base::util::{SECONDS_PER_DAY, twice_microseconds};
 
@@ -243,7 +243,7 @@ impl Sums {
         ensures some { IfSome result (λ next. 0 < next.1) }
         ensures within { IfSome result (λ next. next.1 ≤ length text.now) }
     {
-        let (number, size) = few_digits(text)?;
+        let (number, size) = up_to_six_digits(text)?;
         if size == 0 {
             return None;
         }

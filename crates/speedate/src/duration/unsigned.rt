@@ -6,7 +6,7 @@ ghost use Rattle.speedate_base.specs.Digits.{run_length, run_value};
 ghost use Rattle.speedate_base.specs.Requirement.{shifted};
 ghost use Rattle.speedate.specs.ClockForm.{clock_form_or};
 ghost use Rattle.speedate.specs.DayForm.{is_day_letter};
-ghost use Rattle.speedate.specs.Duration.{has_days, form_answer_or, unsigned_answer_or};
+ghost use Rattle.speedate.specs.Duration.{has_days, days_or_clock_or, unsigned_answer_or};
 
 use super::days::is_day_letter;
 use super::iso::Sums;
@@ -47,14 +47,14 @@ impl UnsignedDuration {
 
     /// Parses a duration of days, or one that a clock shows, which begins at `start` of the whole text.
     #[inline(always)]
-    #[tactic(auto, unfolding(crate::specs::Duration::form_answer_or))]
+    #[tactic(auto, unfolding(crate::specs::Duration::days_or_clock_or))]
     fn days_or_clock<E: Refusal, const COLUMN: bool>(
         bytes: &[u8],
         start: usize,
         behavior: Behavior,
     ) -> Result<Self, E>
         requires { start + length bytes.now + 16 ≤ usize.MAX }
-        ensures answer { result ≡ form_answer_or (shifted start E.refusal) behavior bytes.now }
+        ensures answer { result ≡ days_or_clock_or (shifted start E.refusal) behavior bytes.now }
         ensures placed { IfErr result (E.lies_within (start + length bytes.now)) }
     {
         if bytes.is_empty() {

@@ -37,7 +37,7 @@ pub fn digit_run(bytes: &[u8]) -> DigitRun
     ensures value { result.value ≡ min (run_value bytes.now 0) (2 ^ 64 - 1) }
 {
     // Most runs are short, and one pass gives their length and their value.
-    match few_digits(bytes) {
+    match up_to_six_digits(bytes) {
         Some((value, length)) => DigitRun {
             length,
             value: u64::from(value),
@@ -49,7 +49,7 @@ pub fn digit_run(bytes: &[u8]) -> DigitRun
 /// The number that the digits at the front of bytes spell, and how many they are: 120 and 3 for `b"120."`,
 /// 0 and 0 for `b"."`. `None` if there are more than six.
 #[inline(always)]
-pub fn few_digits(bytes: &[u8]) -> Option<(u32, usize)>
+pub fn up_to_six_digits(bytes: &[u8]) -> Option<(u32, usize)>
     ensures answer { result ≡ (if nat_le (run_length bytes.now 0) FEW
         then Some (run_value bytes.now 0, run_length bytes.now 0) else None) }
     ensures small { IfSome result (λ few. few.0 < 1000000) }
@@ -237,7 +237,7 @@ pub(crate) fn number_by_eights(digits: &[u8]) -> Result<u64, usize>
     // The digits that are left over from eights come first: after them each eight multiplies what was
     // read by the same power of ten.
     let mut place = digits.len() % LANES;
-    let mut value = one_by_one(&digits[..place])?;
+    let mut value = digit_by_digit(&digits[..place])?;
     while place < digits.len() {
         let lanes = u8x8::from_slice(&digits[place..]);
         let count = digits_in_front(lanes);
@@ -255,7 +255,7 @@ pub(crate) fn number_by_eights(digits: &[u8]) -> Result<u64, usize>
 /// The number that fewer than eight bytes spell if they are digits; otherwise, as an error, the place
 /// of the first byte that is no digit.
 #[tactic(auto, using(crate::proofs::DigitRunLemmas::one_more_digit))]
-pub(crate) fn one_by_one(digits: &[u8]) -> Result<u64, usize>
+pub(crate) fn digit_by_digit(digits: &[u8]) -> Result<u64, usize>
     requires { length digits.now < LANES }
     ensures answer { result ≡ (if run_length digits.now 0 == length digits.now
         then Ok (digits_value digits.now) else Err (run_length digits.now 0)) }

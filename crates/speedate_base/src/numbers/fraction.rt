@@ -7,7 +7,7 @@ ghost use Rattle.speedate_base.specs.Digits.{run_length, run_digits, fraction_va
 ghost use Rattle.speedate_base.specs.Requirement.{◌implies◌};
 
 use super::digits::run_end;
-use super::lanes::{LANES, digits_in_front, eight_bytes, two_digit_numbers};
+use super::lanes::{LANES, digit_pairs, digits_in_front, eight_bytes};
 use crate::config::MicrosecondsPrecisionOverflowBehavior as Behavior;
 use std::simd::prelude::*;
 
@@ -59,7 +59,7 @@ fn six_places(front: u8x8, count: usize) -> u32
     ensures microsecond { result ≡ fraction_value 6 (take count front) }
     ensures small { result ≤ 999999 }
 {
-    let [a, _, b, _, c, _, _, _] = two_digit_numbers(front, u8x8::splat(b'0'), count);
+    let [a, _, b, _, c, _, _, _] = digit_pairs(front, u8x8::splat(b'0'), count);
     10_000 * u32::from(a) + 100 * u32::from(b) + u32::from(c)
 }
 

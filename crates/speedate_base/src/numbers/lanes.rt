@@ -4,7 +4,7 @@ ghost use Rattle.std.specs.Prelude.{◌≡◌, ℕ, ◌+◌, ◌-◌, ◌*◌, �
 ghost use Rattle.std.specs.Char.{is_ascii_digit};
 ghost use Rattle.std.specs.List.{list_all, prefix_len};
 ghost use Rattle.speedate_base.specs.Digits.{are_at_most, digits_value, eight_at, fit_length};
-ghost use Rattle.speedate_base.specs.Digits.{fit_digits, neighbours, zeros_length};
+ghost use Rattle.speedate_base.specs.Digits.{fit_digits, digit_pairs, zeros_length};
 
 use super::digits::byte_at;
 use std::simd::prelude::*;
@@ -28,9 +28,9 @@ pub fn eight_bytes(bytes: &[u8], place: usize) -> u8x8
     }
     // One load, which begins before the place, in place of two.
     if bytes.len() >= LANES {
-        return last_bytes(&bytes[bytes.len() - LANES..], left);
+        return load_tail(&bytes[bytes.len() - LANES..], left);
     }
-    short_bytes(&bytes[place..])
+    load_short(&bytes[place..])
 }
 
 /// The first eight bytes of a text that has as many, which is a condition on the caller.
@@ -44,7 +44,7 @@ pub fn first_eight(bytes: &[u8]) -> u8x8
 
 /// The last `left` of eight bytes, and 0 after them.
 #[inline(always)]
-fn last_bytes(bytes: &[u8], left: usize) -> u8x8
+fn load_tail(bytes: &[u8], left: usize) -> u8x8
     requires long { length bytes.now ≡ LANES }
     requires few { left < LANES }
     ensures bytes { result ≡ eight_at (drop (LANES - left) bytes.now) 0 }
@@ -56,7 +56,7 @@ fn last_bytes(bytes: &[u8], left: usize) -> u8x8
 
 /// Fewer than eight bytes, and 0 after them.
 #[inline(always)]
-fn short_bytes(bytes: &[u8]) -> u8x8
+fn load_short(bytes: &[u8]) -> u8x8
     requires few { length bytes.now < LANES }
     ensures bytes { result ≡ eight_at bytes.now 0 }
 {
@@ -98,10 +98,10 @@ pub fn fit_length(lanes: u8x8, pattern: u8x8) -> usize
 /// the pattern: 20, 2, 20, 0, 0, 2, 20 and 0 for all of `b"2020-02-"`. A byte that is no digit counts
 /// as 0, and so does each byte after the first `count`.
 #[inline(always)]
-pub fn two_digit_numbers(lanes: u8x8, pattern: u8x8, count: usize) -> [u8; 8]
+pub fn digit_pairs(lanes: u8x8, pattern: u8x8, count: usize) -> [u8; 8]
     requires some { 1 ≤ count }
     requires fits { count ≤ fit_length pattern lanes }
-    ensures numbers { result ≡ neighbours (fit_digits count pattern lanes) }
+    ensures numbers { result ≡ digit_pairs (fit_digits count pattern lanes) }
     ensures small { (k : ℕ) → slice_index result k ≤ 99 }
 {
     let word = u64::from_le_bytes((lanes - pattern).to_array());
@@ -155,6 +155,6 @@ pub(crate) fn eight_digits(lanes: u8x8) -> u64
     ensures value { result ≡ digits_value lanes }
     ensures small { result < 100000000 }
 {
-    let [a, _, b, _, c, _, d, _] = two_digit_numbers(lanes, u8x8::splat(b'0'), LANES);
+    let [a, _, b, _, c, _, d, _] = digit_pairs(lanes, u8x8::splat(b'0'), LANES);
     1_000_000 * u64::from(a) + 10_000 * u64::from(b) + 100 * u64::from(c) + u64::from(d)
 }

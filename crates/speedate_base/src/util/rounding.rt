@@ -5,10 +5,10 @@ ghost use Rattle.std.specs.Char.{is_ascii_digit};
 ghost use Rattle.std.specs.List.{list_all};
 ghost use Rattle.speedate_base.specs.Digits.{digits_value};
 ghost use Rattle.speedate_base.specs.Nearest.{IsNearest, nearest, quotient, rest_bounds};
-ghost use Rattle.speedate_base.specs.Nearest.{told_by_sixteen};
+ghost use Rattle.speedate_base.specs.Nearest.{sixteen_digits_suffice};
 ghost use Rattle.speedate_base.specs.Numbers.{with_sign};
 
-use crate::numbers::digits::{are_zeros, one_by_one};
+use crate::numbers::digits::{are_zeros, digit_by_digit};
 use crate::numbers::lanes::{LANES, eight_digits};
 use std::simd::prelude::*;
 
@@ -52,21 +52,21 @@ pub fn twice_microseconds(digits: &[u8], unit: u64, up: bool) -> u64
 {
     // Sixteen digits nearly always tell, however many more there are.
     if digits.len() > SIXTEEN {
-        if let Some(twice) = told_by_sixteen(digits, unit, up) {
+        if let Some(twice) = from_sixteen_digits(digits, unit, up) {
             return twice;
         }
     }
-    taken_by_eights(digits, unit, up)
+    rounded_by_eights(digits, unit, up)
 }
 
 /// Twice the microseconds of a fraction, if its first sixteen digits tell them: 1 for
 /// `b"00000075000000009"` of a second, rounded down. `None` if they depend on the digits after
 /// those, as for `b"33333333333333333"` of three seconds.
-fn told_by_sixteen(digits: &[u8], unit: u64, up: bool) -> Option<u64>
+fn from_sixteen_digits(digits: &[u8], unit: u64, up: bool) -> Option<u64>
     requires long { SIXTEEN ≤ length digits.now }
     requires digits { IsTrue (list_all is_ascii_digit digits.now) }
     requires unit { unit ≤ LARGEST_UNIT_MICROSECONDS }
-    ensures told { result ≡ (if told_by_sixteen up unit digits.now
+    ensures told { result ≡ (if sixteen_digits_suffice up unit digits.now
         then Some (quotient up (2 * (digits_value digits.now * unit)) (10 ^ length digits.now))
         else None) }
     ensures within { IfSome result (λ twice. twice ≤ 2 * unit) }
@@ -111,15 +111,15 @@ fn sixteen_taken(first: u64, second: u64, rest: u64, unit: u64, up: bool) -> u64
         ≡ quotient up (2 * ((first * 100000000 + second) * unit) + rest) (10 ^ SIXTEEN) }
     ensures within { result ≤ 2 * unit }
 {
-    let later = halves_taken(second, rest, unit, up);
-    halves_taken(first, later, unit, up)
+    let later = quotient_by_halves(second, rest, unit, up);
+    quotient_by_halves(first, later, unit, up)
 }
 
 /// Twice the microseconds of a fraction of a unit, from all of its digits.
 ///
 /// A step takes eight digits, the last ones first, and rounds. What is rounded so early is less than
 /// one of what is counted next, so the whole is rounded once.
-fn taken_by_eights(digits: &[u8], unit: u64, up: bool) -> u64
+fn rounded_by_eights(digits: &[u8], unit: u64, up: bool) -> u64
     requires digits { IsTrue (list_all is_ascii_digit digits.now) }
     requires unit { unit ≤ LARGEST_UNIT_MICROSECONDS }
     ensures twice { result
@@ -159,7 +159,7 @@ pub(super) fn number_to_places(digits: &[u8], places: usize) -> u64
     ensures value { result ≡ digits_value digits.now * 10 ^ (places - length digits.now) }
     ensures small { result < 10 ^ places }
 {
-    one_by_one(digits).unwrap() * power_of_ten(places - digits.len())
+    digit_by_digit(digits).unwrap() * power_of_ten(places - digits.len())
 }
 
 /// Ten to a power up to the eighth.
@@ -193,7 +193,7 @@ fn digits_taken(value: u64, rest: u64, unit: u64, up: bool) -> u64
 {
     // Up to a unit of a day the sum fits 64 bits; above that it needs 128, whose division is a call.
     if unit <= DAY_MICROSECONDS {
-        return part_taken(value, rest, unit, 100_000_000, up);
+        return scaled_quotient(value, rest, unit, 100_000_000, up);
     }
     let sum = 2 * (u128::from(value) * u128::from(unit)) + u128::from(rest);
     if up {
@@ -205,22 +205,22 @@ fn digits_taken(value: u64, rest: u64, unit: u64, up: bool) -> u64
 
 /// What [`digits_taken`] returns, in 64 bits for all units: a step for each four of the eight digits.
 #[inline(always)]
-fn halves_taken(value: u64, rest: u64, unit: u64, up: bool) -> u64
+fn quotient_by_halves(value: u64, rest: u64, unit: u64, up: bool) -> u64
     requires value { value < 100000000 }
     requires rest { rest ≤ 2 * unit }
     requires unit { unit ≤ LARGEST_UNIT_MICROSECONDS }
     ensures twice { result ≡ quotient up (2 * (value * unit) + rest) 100000000 }
     ensures within { result ≤ 2 * unit }
 {
-    let later = part_taken(value % 10_000, rest, unit, 10_000, up);
-    part_taken(value / 10_000, later, unit, 10_000, up)
+    let later = scaled_quotient(value % 10_000, rest, unit, 10_000, up);
+    scaled_quotient(value / 10_000, later, unit, 10_000, up)
 }
 
 /// Twice the microseconds of digits that spell a value below the scale, where `rest` is that of the
 /// digits after them.
 #[inline(always)]
 #[tactic(auto, using(crate::proofs::NearestLemmas::part_rules))]
-fn part_taken(value: u64, rest: u64, unit: u64, scale: u64, up: bool) -> u64
+fn scaled_quotient(value: u64, rest: u64, unit: u64, scale: u64, up: bool) -> u64
     requires value { value < scale }
     requires rest { rest ≤ 2 * unit }
     requires fits { 2 * (scale * unit) + scale < 2 ^ 64 }

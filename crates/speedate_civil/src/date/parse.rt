@@ -15,7 +15,7 @@ use super::{Date, TEXT_LENGTH, is_day};
 use speedate_base::config::DateConfig;
 use speedate_base::faults::ParseError;
 use speedate_base::numbers::{
-    LANES, first_eight, fit_length, int_parse_bytes, two_digit_numbers, two_digits,
+    LANES, digit_pairs, first_eight, fit_length, int_parse_bytes, two_digits,
 };
 use speedate_base::refusal::Refusal;
 use std::simd::prelude::*;
@@ -190,11 +190,7 @@ impl Date {
         ensures placed { IfErr result (E.lies_within (length bytes.now)) }
     {
         let form = u8x8::from_array(*b"0000-00-");
-        let [century, _, year, _, _, month, _, _] = two_digit_numbers(
-            first_eight(bytes),
-            form,
-            LANES,
-        );
+        let [century, _, year, _, _, month, _, _] = digit_pairs(first_eight(bytes), form, LANES);
         let year = 100 * u16::from(century) + u16::from(year);
         let Some(day) = two_digits(bytes, 8) else {
             return Err(E::at(ParseError::InvalidCharDay, 8));

@@ -10,7 +10,7 @@ ghost use Rattle.speedate_civil.specs.DateTime.{date_time_answer, date_time_answ
 ghost use Rattle.speedate_civil.specs.DateTime.{date_time_by_config, date_time_front};
 ghost use Rattle.speedate_civil.specs.DateTime.{date_time_front_or};
 ghost use Rattle.speedate_civil.specs.ErrorPlace.{date_time_or_timestamp_place, decimal_table};
-ghost use Rattle.speedate_civil.specs.Standard.{strict_date_time_answer, strict_date_time_answer_or};
+ghost use Rattle.speedate_civil.specs.Strict.{strict_date_time_answer, strict_date_time_answer_or};
 
 use super::DateTime;
 use speedate_base::config::{DateTimeConfig, MicrosecondsPrecisionOverflowBehavior, TimeConfig};

@@ -18,9 +18,8 @@ ghost use Rattle.speedate_civil.specs.DateTime.{decimal_text_instant, is_separat
 ghost use Rattle.speedate_civil.specs.DateTime.{whole_instant, separator_table, ◌gives◌};
 ghost use Rattle.speedate_civil.specs.DateTime.{◌gives_front◌};
 ghost use Rattle.speedate_civil.specs.ParserParts.{LooksUsual};
-ghost use Rattle.speedate_civil.specs.Standard.{IsDateTime, standard_date_time};
-ghost use Rattle.speedate_civil.specs.Standard.{strict_date_time_answer};
-ghost use Rattle.speedate_civil.specs.Standard.{strict_date_time_answer_or};
+ghost use Rattle.speedate_civil.specs.Strict.{IsDateTime, strict_date_time};
+ghost use Rattle.speedate_civil.specs.Strict.{strict_date_time_answer, strict_date_time_answer_or};
 ghost use Rattle.speedate_civil.specs.Time.{time_front, time_front_or, time_of_day};
 
 use super::DateTime;
@@ -299,7 +298,7 @@ impl DateTime {
         ensures minutes { IfOk result (λ value. IsWholeMinutes value.time.tz_offset) }
     {
         let value = Self::parse_whole::<E>(bytes, behavior)?;
-        require_standard::<E>(bytes)?;
+        require_strict::<E>(bytes)?;
         Ok(value)
     }
 
@@ -463,25 +462,25 @@ pub(super) fn has_separator(bytes: &[u8]) -> bool
 /// Those of [RFC 3339 alone](docs/GRAMMAR.md#rfc-3339-alone), in the order of the rows.
 #[inline(always)]
 pub fn require_standard_date_time(text: &[u8]) -> Result<(), ParseError>
-    ensures answer { result ≡ first_fault_or (standard_date_time text.now) (Ok tt) }
+    ensures answer { result ≡ first_fault_or (strict_date_time text.now) (Ok tt) }
 {
-    require_standard(text)
+    require_strict(text)
 }
 
 /// What [`require_standard_date_time`] does, with any refusal.
 #[inline]
 #[tactic(auto, using(std::proofs::lemmas::List::take_rest))]
-fn require_standard<E: Refusal>(text: &[u8]) -> Result<(), E>
+fn require_strict<E: Refusal>(text: &[u8]) -> Result<(), E>
     ensures answer { result
-        ≡ first_refusal_or E.refusal (standard_date_time text.now) (Ok tt) }
+        ≡ first_refusal_or E.refusal (strict_date_time text.now) (Ok tt) }
     ensures placed { (size : ℕ)
-        → IfSome (first_place (standard_date_time text.now)) (λ place. place ≤ size)
+        → IfSome (first_place (strict_date_time text.now)) (λ place. place ≤ size)
         → IfErr result (E.lies_within size) }
 {
     if !has_letter_t(text) {
         return Err(E::at(ParseError::InvalidCharDateTimeSep, SEPARATOR_PLACE));
     }
-    Time::require_standard(&text[TIME_PLACE..], TIME_PLACE)
+    Time::require_strict(&text[TIME_PLACE..], TIME_PLACE)
 }
 
 /// Whether `T` or `t` follows the ten bytes of a date.

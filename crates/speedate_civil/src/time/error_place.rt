@@ -3,7 +3,7 @@
 ghost use Rattle.std.specs.Prelude.{◌≡◌, ◌≤◌, IfSome, is_err, is_some, length};
 ghost use Rattle.speedate_base.specs.Config.{time_choices};
 ghost use Rattle.speedate_base.specs.Refused.{placed, refused_place, without_place};
-ghost use Rattle.speedate_civil.specs.Standard.{strict_time_answer, strict_time_answer_or};
+ghost use Rattle.speedate_civil.specs.Strict.{strict_time_answer, strict_time_answer_or};
 ghost use Rattle.speedate_civil.specs.Time.{time_answer, time_answer_or, time_front, time_front_or};
 
 use super::Time;

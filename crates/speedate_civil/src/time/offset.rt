@@ -18,7 +18,7 @@ ghost use Rattle.speedate_civil.specs.Time.{offset_text};
 use crate::text::two_digit_text;
 use arrayvec::ArrayString;
 use speedate_base::faults::ParseError;
-use speedate_base::numbers::{byte_at, eight_bytes, fit_length, two_digit_numbers};
+use speedate_base::numbers::{byte_at, digit_pairs, eight_bytes, fit_length};
 use speedate_base::refusal::Refusal;
 use speedate_base::util::SECONDS_PER_DAY;
 use std::simd::prelude::*;
@@ -147,7 +147,7 @@ fn hour_and_minute<E: Refusal>(front: u8x8, start: usize) -> Result<((u8, u8), u
         return Err(E::at(ParseError::InvalidCharTzHour, start));
     }
     if fits >= 5 {
-        let [hour, _, _, minute, _, _, _, _] = two_digit_numbers(front, pattern, 5);
+        let [hour, _, _, minute, _, _, _, _] = digit_pairs(front, pattern, 5);
         return Ok(((hour, minute), 5));
     }
     if fits > 2 {
@@ -171,7 +171,7 @@ fn hour_then_minute<E: Refusal>(front: u8x8, start: usize) -> Result<((u8, u8), 
     if fit_length(front, pattern) < 4 {
         return Err(E::at(ParseError::InvalidCharTzMinute, start + 2));
     }
-    let [hour, _, minute, _, _, _, _, _] = two_digit_numbers(front, pattern, 4);
+    let [hour, _, minute, _, _, _, _, _] = digit_pairs(front, pattern, 4);
     Ok(((hour, minute), 4))
 }
 

@@ -7,8 +7,8 @@ ghost use Rattle.speedate_base.specs.Digits.{eight_at, fit_length};
 ghost use Rattle.speedate_base.specs.Offset.{IsWholeMinutes};
 ghost use Rattle.speedate_base.specs.Requirement.{first_place, first_refusal_or, moved, shifted};
 ghost use Rattle.speedate_civil.specs.Base.{Behavior};
-ghost use Rattle.speedate_civil.specs.Standard.{standard_offset, standard_time, strict_time_answer};
-ghost use Rattle.speedate_civil.specs.Standard.{strict_time_answer_or, IsFullTime};
+ghost use Rattle.speedate_civil.specs.Strict.{strict_offset, strict_time, strict_time_answer};
+ghost use Rattle.speedate_civil.specs.Strict.{strict_time_answer_or, IsFullTime};
 ghost use Rattle.speedate_civil.specs.Time.{clock_parts, time_after_clock_or, time_of_day};
 ghost use Rattle.speedate_civil.specs.Time.{TimeOfDay, time_front, time_front_or, time_answer};
 ghost use Rattle.speedate_civil.specs.Time.{time_answer_or, ◌gives◌, ◌gives_front◌};
@@ -242,19 +242,19 @@ impl Time {
         ensures minutes { IfOk result (λ time. IsWholeMinutes time.tz_offset) }
     {
         let time = Self::parse_whole::<E>(bytes, behavior)?;
-        Self::require_standard::<E>(bytes, 0)?;
+        Self::require_strict::<E>(bytes, 0)?;
         Ok(time)
     }
 
     /// Refuses a text that is parsed as a time, but is none of RFC 3339. It begins at `start` of the
     /// whole text.
     #[inline(always)]
-    pub(crate) fn require_standard<E: Refusal>(text: &[u8], start: usize) -> Result<(), E>
+    pub(crate) fn require_strict<E: Refusal>(text: &[u8], start: usize) -> Result<(), E>
         requires { start + 12 + length text.now ≤ usize.MAX }
         ensures answer { result
-            ≡ first_refusal_or (shifted start E.refusal) (standard_time text.now) (Ok tt) }
+            ≡ first_refusal_or (shifted start E.refusal) (strict_time text.now) (Ok tt) }
         ensures placed { (size : ℕ)
-            → IfSome (first_place (standard_time text.now)) (λ place. start + place ≤ size)
+            → IfSome (first_place (strict_time text.now)) (λ place. start + place ≤ size)
             → IfErr result (E.lies_within size) }
     {
         if byte_at(text, 5) != b':' {
@@ -262,18 +262,18 @@ impl Time {
         }
         match byte_at(text, 8) {
             b',' => Err(E::at(ParseError::InvalidCharTzSign, start + 8)),
-            b'.' => Self::require_standard_offset(text, run_end(text, 9), start),
-            _ => Self::require_standard_offset(text, 8, start),
+            b'.' => Self::require_strict_offset(text, run_end(text, 9), start),
+            _ => Self::require_strict_offset(text, 8, start),
         }
     }
 
     /// Refuses an offset that is parsed at `place`, but is none of RFC 3339.
-    fn require_standard_offset<E: Refusal>(text: &[u8], place: usize, start: usize) -> Result<(), E>
+    fn require_strict_offset<E: Refusal>(text: &[u8], place: usize, start: usize) -> Result<(), E>
         requires { start + place + 3 ≤ usize.MAX }
         ensures answer { result ≡ first_refusal_or (shifted start E.refusal)
-            (moved place (standard_offset (drop place text.now))) (Ok tt) }
+            (moved place (strict_offset (drop place text.now))) (Ok tt) }
         ensures placed { (size : ℕ)
-            → IfSome (first_place (moved place (standard_offset (drop place text.now))))
+            → IfSome (first_place (moved place (strict_offset (drop place text.now))))
             (λ place. start + place ≤ size)
             → IfErr result (E.lies_within size) }
     {

@@ -8,7 +8,7 @@ use super::Time;
 use speedate_base::config::MicrosecondsPrecisionOverflowBehavior as Behavior;
 use speedate_base::faults::ParseError;
 use speedate_base::numbers::{
-    Fraction, byte_at, eight_bytes, fit_length, is_decimal_mark, takes_digits, two_digit_numbers,
+    Fraction, byte_at, digit_pairs, eight_bytes, fit_length, is_decimal_mark, takes_digits,
 };
 use speedate_base::refusal::Refusal;
 use std::simd::prelude::*;
@@ -46,7 +46,7 @@ struct AfterMinute {
 
 /// The second after the minute of a clock.
 #[derive(Clone, Copy)]
-enum Second {
+enum SecondField {
     /// No `:`, so there is no second.
     Absent,
     /// A `:`, but not two digits after it.
@@ -130,14 +130,14 @@ impl PureTime {
         ensures within { IfOk result (λ time. time.size ≤ length text.now) }
     {
         let pattern = u8x8::from_array(*b"00:00:00");
-        let [hour, _, _, minute, _, _, _, _] = two_digit_numbers(front, pattern, 5);
+        let [hour, _, _, minute, _, _, _, _] = digit_pairs(front, pattern, 5);
         if hour > 23 {
             return Err(E::at(ParseError::OutOfRangeHour, start));
         }
         if minute > 59 {
             return Err(E::at(ParseError::OutOfRangeMinute, start + 3));
         }
-        let second = Second::in_front(front, fits, 3);
+        let second = SecondField::in_front(front, fits, 3);
         let after = Self::after_minute::<E>(second, text, 3, start + 3, behavior)?;
         Ok(PureTime {
             hour,
@@ -191,11 +191,11 @@ impl PureTime {
         if fits < 2 {
             return Err(E::at(ParseError::InvalidCharMinute, start));
         }
-        let [minute, _, _, _, _, _, _, _] = two_digit_numbers(front, pattern, 2);
+        let [minute, _, _, _, _, _, _, _] = digit_pairs(front, pattern, 2);
         if minute > 59 {
             return Err(E::at(ParseError::OutOfRangeMinute, start));
         }
-        let second = Second::in_front(front, fits, 0);
+        let second = SecondField::in_front(front, fits, 0);
         let after = Self::after_minute::<E>(second, rest, 0, start, behavior)?;
         Ok(PureTime {
             hour: 0,
@@ -226,7 +226,7 @@ impl PureTime {
     /// fraction after it. The minute begins at `minute` of the text, and at `start` of the whole.
     #[inline(always)]
     fn after_minute<E: Refusal>(
-        second: Second,
+        second: SecondField,
         bytes: &[u8],
         minute: usize,
         start: usize,
@@ -244,9 +244,9 @@ impl PureTime {
         ensures within { IfOk result (λ after. minute + after.size ≤ length bytes.now) }
     {
         let second = match second {
-            Second::Number(second) => second,
-            Second::Faulty => return Err(E::at(ParseError::InvalidCharSecond, start + 3)),
-            Second::Absent => {
+            SecondField::Number(second) => second,
+            SecondField::Faulty => return Err(E::at(ParseError::InvalidCharSecond, start + 3)),
+            SecondField::Absent => {
                 return Ok(AfterMinute {
                     second: 0,
                     microsecond: 0,
@@ -287,7 +287,7 @@ impl PureTime {
     }
 }
 
-impl Second {
+impl SecondField {
     ghost use Rattle.speedate_civil.specs.ParserParts.{second_of};
 
     /// The second that follows the minute at place 0 or 3 of the front of a text, whose first `fits`
@@ -301,11 +301,11 @@ impl Second {
     {
         match fits - minute {
             5.. => {
-                let numbers = two_digit_numbers(front, u8x8::from_array(*b"00:00:00"), minute + 5);
-                Second::Number(numbers[minute + 3])
+                let numbers = digit_pairs(front, u8x8::from_array(*b"00:00:00"), minute + 5);
+                SecondField::Number(numbers[minute + 3])
             }
-            2 => Second::Absent,
-            _ => Second::Faulty,
+            2 => SecondField::Absent,
+            _ => SecondField::Faulty,
         }
     }
 }

@@ -5,8 +5,8 @@ use Rattle.std.proofs.KnownBytes.{Appends-trans, Consumes-trans, Consumes-whole}
 use Rattle.speedate.specs.Lines.{complete_lines, unfinished_line, last_line, lines}
 use Rattle.speedate_lines.specs.Answer.{answers}
 use Rattle.speedate_lines.specs.Run.{kept_part}
-use Rattle.speedate_lines.proofs.CarryLemmas.{IsOneLine-from_kept, answers-more, kept-more}
-use Rattle.speedate_lines.proofs.CarryLemmas.{answers-all}
+use Rattle.speedate_lines.proofs.KeptLineLemmas.{IsOneLine-from_kept, answers-more, kept-more}
+use Rattle.speedate_lines.proofs.KeptLineLemmas.{answers-all}
 use Rattle.std.proofs.Math.Bool.{or-false}
 use Rattle.speedate_lines.proofs.SentLemmas.{Appends-all, AppendsFrom-beginning}
 use Rattle.speedate_lines.proofs.run.run.Goals as goal
@@ -32,12 +32,12 @@ loop-filled-preserved g c =
       input_failed = search (rules, or-false);
       output_failed = search (rules, or-false);
       unflushed = search rules;
-      short = c.carry-kept.ensures.short;
+      short = c.keep_line-kept.ensures.short;
       answered = (
         read ++ filled.more,
         Consumes-trans _ _ _ read filled.more before.answered.1 filled.consumed,
         subst (Appends _ _) due (Appends-trans _ _ _ complete _ before.answered.2 sent),
-        c.carry-kept.ensures.kept
+        c.keep_line-kept.ensures.kept
             ∙ ap kept_part done.unfinished
             ∙ sym (kept-more read filled.more _ _ before.answered.3 filled.text),
       );

@@ -1,5 +1,5 @@
 use Rattle.std.proofs.Common.{◌≡◌, ℕ, ◌+◌, ◌*◌, List, [], ◌∷◌, length, get_or, arith}
-use Rattle.speedate_base.specs.Digits.{digits_value, fit_digits, neighbours}
+use Rattle.speedate_base.specs.Digits.{digits_value, fit_digits, digit_pairs}
 use Rattle.speedate_base.proofs.PatternLemmas.{by_eight}
 use Rattle.speedate_base.proofs.numbers.lanes.eight_digits.Goals as goal
 
@@ -10,11 +10,11 @@ joined numbers =
     + get_or numbers 6 0
 
 joined-spells : (lanes : List ℕ) → length lanes ≡ 8
-    → joined (neighbours (fit_digits 8 (48 ∷ 48 ∷ 48 ∷ 48 ∷ 48 ∷ 48 ∷ 48 ∷ 48 ∷ []) lanes))
+    → joined (digit_pairs (fit_digits 8 (48 ∷ 48 ∷ 48 ∷ 48 ∷ 48 ∷ 48 ∷ 48 ∷ 48 ∷ []) lanes))
     ≡ digits_value lanes
 joined-spells =
     by_eight (λ (lanes : List ℕ). joined
-    (neighbours (fit_digits 8 (48 ∷ 48 ∷ 48 ∷ 48 ∷ 48 ∷ 48 ∷ 48 ∷ 48 ∷ []) lanes))
+    (digit_pairs (fit_digits 8 (48 ∷ 48 ∷ 48 ∷ 48 ∷ 48 ∷ 48 ∷ 48 ∷ 48 ∷ []) lanes))
     ≡ digits_value lanes)
     (λ a b c d e f g h. omega arith)
 

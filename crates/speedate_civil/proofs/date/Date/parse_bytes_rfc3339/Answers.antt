@@ -1,7 +1,7 @@
 use Rattle.std.proofs.Common.{◌≡◌, rules}
 use Rattle.speedate_civil.specs.Base.{ParseError}
 use Rattle.speedate_base.specs.Numbers.{NoNumber, number_answer}
-use Rattle.speedate_base.specs.Requirement.{whole_or_fault}
+use Rattle.speedate_base.specs.Requirement.{with_no_more}
 use Rattle.speedate_civil.specs.Calendar.{Ymd}
 use Rattle.speedate_civil.specs.Date.{date_front, ymd}
 use Rattle.speedate_civil.proofs.NumberTextLemmas.{number_answer-date}
@@ -14,6 +14,6 @@ returns-clause-no_number c =
     let end = λ (read : Ymd). ParseError.ExtraCharacters in
     read-result ymd (λ (read : Ymd). number_answer bytes ≡ NoNumber) c.whole.result _
     c.whole.ensures.answer
-    (read-then (λ (read : Ymd). number_answer bytes ≡ NoNumber) (whole_or_fault end bytes)
+    (read-then (λ (read : Ymd). number_answer bytes ≡ NoNumber) (with_no_more end bytes)
     (date_front bytes)
     (λ front is. let none = number_answer-date bytes front is in search rules))

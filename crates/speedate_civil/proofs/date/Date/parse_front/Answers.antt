@@ -1,6 +1,6 @@
 use Rattle.std.proofs.Common.{◌≡◌, ℕ, ◌≤◌, length, take, Ok}
 use Rattle.speedate_civil.specs.Base.{ParseError}
-use Rattle.speedate_base.proofs.RequirementLemmas.{whole_or_fault-iff}
+use Rattle.speedate_base.proofs.RequirementLemmas.{with_no_more-iff}
 use Rattle.speedate_base.specs.Requirement.{with_size}
 use Rattle.speedate_civil.specs.Calendar.{Ymd}
 use Rattle.speedate_civil.specs.Date.{ymd, date_answer}
@@ -19,7 +19,7 @@ returns-clause-within c =
 pub returns-clause-whole : goal.returns-clause-whole
 returns-clause-whole c =
     λ date. rw c.front.ensures.answer
-    (whole_or_fault-iff (λ (read : Ymd). ParseError.ExtraCharacters) c.args.bytes.now _ date)
+    (with_no_more-iff (λ (read : Ymd). ParseError.ExtraCharacters) c.args.bytes.now _ date)
 
 pub returns-clause-alone : goal.returns-clause-alone
 returns-clause-alone c =

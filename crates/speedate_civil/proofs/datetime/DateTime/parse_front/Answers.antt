@@ -2,7 +2,7 @@ use Rattle.std.proofs.Common.{ℕ}
 use Rattle.speedate_base.specs.Requirement.{with_size}
 use Rattle.speedate_civil.specs.DateTime.{DateAndTime, date_and_time}
 use Rattle.speedate_civil.specs.Time.{end_fault}
-use Rattle.speedate_base.proofs.RequirementLemmas.{whole_or_fault-iff}
+use Rattle.speedate_base.proofs.RequirementLemmas.{with_no_more-iff}
 use Rattle.speedate_base.specs.Ascii.{HasNoControl}
 use Rattle.speedate_civil.proofs.ReadLemmas.{read-result}
 use Rattle.speedate_civil.proofs.NoControlLemmas.{date_time_front-no_control}
@@ -11,7 +11,7 @@ use Rattle.speedate_civil.proofs.datetime.DateTime.parse_front.Goals as goal
 
 pub returns-clause-whole : goal.returns-clause-whole
 returns-clause-whole c = λ value.
-    rw (c.front.ensures.answer) (whole_or_fault-iff
+    rw (c.front.ensures.answer) (with_no_more-iff
     (λ (read : DateAndTime). end_fault read.time.offset) c.args.bytes.now _ value)
 
 pub returns-clause-alone : goal.returns-clause-alone

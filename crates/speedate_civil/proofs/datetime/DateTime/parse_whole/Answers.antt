@@ -1,6 +1,6 @@
 use Rattle.std.proofs.Common.{◌∙◌, ap, sym, Err}
 use Rattle.speedate_civil.specs.Base.{ParseError}
-use Rattle.speedate_base.specs.Requirement.{whole_or_refusal, result_and_then}
+use Rattle.speedate_base.specs.Requirement.{with_no_more_or, result_and_then}
 use Rattle.speedate_civil.specs.Time.{end_fault}
 use Rattle.speedate_civil.specs.DateTime.{DateAndTime, date_and_time}
 use Rattle.speedate_base.proofs.RefusalLemmas.{refusal-longer, refusal-whole}
@@ -17,7 +17,7 @@ returns-then-size-bytes-clause-answer g c =
     let longer = refusal-longer refuse fault bytes value size in
     ap Err (c.at.ensures.refusal ∙ fault_is)
     ∙ sym (longer (λ same. c.if-size-bytes.true (sym same)))
-    ∙ ap (result_and_then (whole_or_refusal refuse fault bytes)) c.in_ok-value.ensures.answer
+    ∙ ap (result_and_then (with_no_more_or refuse fault bytes)) c.in_ok-value.ensures.answer
 
 pub returns-clause-answer : goal.returns-clause-answer
 returns-clause-answer g c =
@@ -27,4 +27,4 @@ returns-clause-answer g c =
     let fault = λ (read : DateAndTime). end_fault read.time.offset in
     let whole = refusal-whole refuse fault bytes value c.in_ok-value.size in
     sym (whole (sym c.if-size-bytes.false))
-    ∙ ap (result_and_then (whole_or_refusal refuse fault bytes)) c.in_ok-value.ensures.answer
+    ∙ ap (result_and_then (with_no_more_or refuse fault bytes)) c.in_ok-value.ensures.answer

@@ -3,7 +3,7 @@ use Rattle.speedate_civil.specs.Base.{Behavior, ParseError}
 use Rattle.speedate_base.specs.Requirement.{result_map, with_size}
 use Rattle.speedate_civil.specs.Time.{end_fault, TimeOfDay, time_front, time_answer, time_of_day}
 use Rattle.speedate_civil.specs.Time.{Time}
-use Rattle.speedate_base.proofs.RequirementLemmas.{whole_or_fault-iff}
+use Rattle.speedate_base.proofs.RequirementLemmas.{with_no_more-iff}
 use Rattle.speedate_base.specs.Ascii.{HasNoControl}
 use Rattle.speedate_civil.proofs.ReadLemmas.{read-result}
 use Rattle.speedate_civil.proofs.NoControlLemmas.{time_front-no_control}
@@ -12,7 +12,7 @@ use Rattle.speedate_civil.proofs.time.Time.parse_front.Goals as goal
 
 pub returns-clause-whole : goal.returns-clause-whole
 returns-clause-whole c = λ time.
-    rw (c.front.ensures.answer) (whole_or_fault-iff (λ (read : TimeOfDay). end_fault read.offset)
+    rw (c.front.ensures.answer) (with_no_more-iff (λ (read : TimeOfDay). end_fault read.offset)
     c.args.bytes.now _ time)
 
 read-alone : (behavior : Behavior) (text : List ℕ) (result : Result (Time × ℕ) ParseError)

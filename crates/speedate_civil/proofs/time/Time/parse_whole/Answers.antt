@@ -1,6 +1,6 @@
 use Rattle.std.proofs.Common.{◌∙◌, ap, sym, Err}
 use Rattle.speedate_civil.specs.Base.{ParseError}
-use Rattle.speedate_base.specs.Requirement.{whole_or_refusal, result_and_then}
+use Rattle.speedate_base.specs.Requirement.{with_no_more_or, result_and_then}
 use Rattle.speedate_civil.specs.Time.{end_fault, TimeOfDay, time_of_day}
 use Rattle.speedate_base.proofs.RefusalLemmas.{refusal-longer, refusal-whole}
 use Rattle.speedate_civil.proofs.time.Time.parse_whole.Goals as goal
@@ -16,7 +16,7 @@ returns-then-size-bytes-clause-answer g c =
     let longer = refusal-longer refuse fault bytes value size in
     ap Err (c.at.ensures.refusal ∙ fault_is)
     ∙ sym (longer (λ same. c.if-size-bytes.true (sym same)))
-    ∙ ap (result_and_then (whole_or_refusal refuse fault bytes)) c.in_ok-time.ensures.answer
+    ∙ ap (result_and_then (with_no_more_or refuse fault bytes)) c.in_ok-time.ensures.answer
 
 pub returns-clause-answer : goal.returns-clause-answer
 returns-clause-answer g c =
@@ -26,4 +26,4 @@ returns-clause-answer g c =
     let fault = λ (read : TimeOfDay). end_fault read.offset in
     let whole = refusal-whole refuse fault bytes value c.in_ok-time.size in
     sym (whole (sym c.if-size-bytes.false))
-    ∙ ap (result_and_then (whole_or_refusal refuse fault bytes)) c.in_ok-time.ensures.answer
+    ∙ ap (result_and_then (with_no_more_or refuse fault bytes)) c.in_ok-time.ensures.answer

@@ -1,6 +1,6 @@
 use Rattle.std.proofs.Common.{◌≡◌, ◌∙◌, rules, refl, sym, true, Result, Ok, Err, is_ok}
 use Rattle.speedate_base.specs.Requirement.{shifted}
-use Rattle.speedate.specs.Duration.{form_answer_or}
+use Rattle.speedate.specs.Duration.{days_or_clock_or}
 use Rattle.speedate.proofs.ClockFormLemmas.{clock-no_letter}
 use Rattle.speedate.proofs.duration.unsigned.UnsignedDuration.days_or_clock.Goals as goal
 
@@ -11,7 +11,7 @@ seen (Ok found) ok = (found, refl)
 seen (Err fault) ok = absurd (cc)
 
 pub returns-then-is_ok-clause-answer : goal.returns-then-is_ok-clause-answer
-unfolding form_answer_or
+unfolding days_or_clock_or
 returns-then-is_ok-clause-answer g c =
     let read = seen c.from_clock-clock.result (search rules) in
     let none = clock-no_letter (shifted c.args.start g.E.Refusal.refusal) c.args.behavior

@@ -20,7 +20,7 @@ pub returns-in_err-after-clause-answer : goal.returns-in_err-after-clause-answer
 returns-in_err-after-clause-answer g c =
     let minute =
     minute-read c.args.rest.now _ _ _ c.eight_bytes-front.ensures.bytes
-    c.fit_length-fits.ensures.count c.if-fits-lt2.false c.two_digit_numbers.ensures.numbers in
+    c.fit_length-fits.ensures.count c.if-fits-lt2.false c.digit_pairs.ensures.numbers in
     let is =
     minute-decided (shifted c.args.start g.E.Refusal.refusal) c.args.behavior c.args.rest.now _
     minute c.if-minute-gt59.false
@@ -32,7 +32,7 @@ pub returns-clause-answer : goal.returns-clause-answer
 returns-clause-answer g c =
     let minute =
     minute-read c.args.rest.now _ _ _ c.eight_bytes-front.ensures.bytes
-    c.fit_length-fits.ensures.count c.if-fits-lt2.false c.two_digit_numbers.ensures.numbers in
+    c.fit_length-fits.ensures.count c.if-fits-lt2.false c.digit_pairs.ensures.numbers in
     let is =
     minute-decided (shifted c.args.start g.E.Refusal.refusal) c.args.behavior c.args.rest.now _
     minute c.if-minute-gt59.false

@@ -10,21 +10,21 @@ pub returns-in_err-after-clause-answer : goal.returns-in_err-after-clause-answer
 returns-in_err-after-clause-answer g c =
     let front =
     front-read c.args.text.now _ _ _ c.requires.front c.requires.looks c.requires.minute
-    c.two_digit_numbers.ensures.numbers in
+    c.digit_pairs.ensures.numbers in
     let is =
     decided g.E.Refusal.refusal c.args.start c.args.behavior c.args.text.now _ front
     c.requires.long c.if-hour-gt23.false c.if-minute-gt59.false
-    ∙ ap (result_map (at_hour (get_or c.two_digit_numbers.result 0 0)))
+    ∙ ap (result_map (at_hour (get_or c.digit_pairs.result 0 0)))
     (sym c.in_err-after.ensures.answer) in
     let p = err_from_is_err_and c.from_residual.result c.from_residual.ensures.1 in
     rw (p.1, p.2) (sym is)
 
 pub returns-clause-answer : goal.returns-clause-answer
 returns-clause-answer g c =
-    let hour = get_or c.two_digit_numbers.result 0 0 in
+    let hour = get_or c.digit_pairs.result 0 0 in
     let front =
     front-read c.args.text.now _ _ _ c.requires.front c.requires.looks c.requires.minute
-    c.two_digit_numbers.ensures.numbers in
+    c.digit_pairs.ensures.numbers in
     let is =
     decided g.E.Refusal.refusal c.args.start c.args.behavior c.args.text.now _ front
     c.requires.long c.if-hour-gt23.false c.if-minute-gt59.false
