@@ -216,7 +216,7 @@ clock-no_letter refuse behavior text value same =
     let clock = refusal-value inner table (minute_clock rest) found minute.1 in
     let numbers : Result UnsignedDuration _ = Ok (clock_numbers count found) in
     let whole = refusal-ok inner (clock_end found rest) numbers value read.2 in
-    let sized = ap (λ (clock : Clock). clock.size == length rest) clock.1 ∙ whole.0.0 in
+    let sized = ap (λ (clock : Clock). clock.size == length rest) {y = found} clock.1 ∙ whole.0.0 in
     let none = minute-no_letter rest minute.0.0 clock.0.1.0 sized in
     let within : first < length text = grind (arith, nat_tests, front.0.1.0) in
     let at_colon = passes_at_first (λ byte. byte == colon) text 0 within in
