@@ -633,7 +633,7 @@ typedef struct SpeedateColumnConfig {
 /* How far a column has come. */
 typedef struct SpeedateProgress {
     size_t lines;  /* how many lines have a number in the column */
-    size_t bytes;  /* how many bytes of the text these lines take, with their ends */
+    size_t bytes;  /* how many bytes of the text these lines take, with their ends: the next line begins after them */
     int32_t error; /* the code of the next line, if it is refused and ends the column; otherwise SPEEDATE_OK */
 } SpeedateProgress;
 
