@@ -65,9 +65,9 @@ decided refuse start behavior text numbers front long early short =
       le-leb (two_digit_value (drop 3 text) 0) 59 minute,
       front.hour_is,
     ) refl in
-    rows
-    ∙ ap (λ (refuse : ParseError → ℕ → _). after_table refuse behavior text (get_or numbers 0 0))
-    (shifted-shifted start 3 refuse)
+    let number = get_or numbers 0 0 in
+    let after = λ (refuse : ParseError → ℕ → _). after_table refuse behavior text number in
+    rows ∙ ap after (shifted-shifted start 3 refuse)
 
 -- the fourth or the fifth of five does not hold
 fourth-of : (a b c d e : Bool) (rest count : ℕ)

@@ -5,7 +5,9 @@ use Rattle.speedate_civil.proofs.time.pure.PureTime.front_at.Goals as goal
 
 pub returns-in_default-clause-answer : goal.returns-in_default-clause-answer
 returns-in_default-clause-answer g c =
-    ap Err c.at-in_default.ensures.refusal
-    ∙ sym (no-minute (shifted c.args.start g.E.Refusal.refusal) c.args.behavior c.args.text.now
-    _ _ c.if-text-lt5.false c.eight_bytes-front.ensures.bytes c.fit_length-fits.ensures.count
-    (omega arith) c.if-fits-lt5.true)
+    let refuse = shifted c.args.start g.E.Refusal.refusal in
+    let long = c.if-text-lt5.false in
+    let loaded = c.eight_bytes-front.ensures.bytes in
+    let counted = c.fit_length-fits.ensures.count in
+    let none = no-minute refuse c.args.behavior c.args.text.now _ _ long loaded counted in
+    ap Err c.at-in_default.ensures.refusal ∙ sym (none (omega arith) c.if-fits-lt5.true)

@@ -8,33 +8,35 @@ use Rattle.speedate_civil.proofs.time.pure.PureTime.minute_front_at.Goals as goa
 
 pub returns-then-fits-lt2-clause-answer : goal.returns-then-fits-lt2-clause-answer
 returns-then-fits-lt2-clause-answer g c =
-    let rest = c.args.rest.now in
     let start = c.args.start in
-    let refuse = shifted start g.E.Refusal.refusal in
-    ap Err (c.at.ensures.refusal
-    ∙ ap (g.E.Refusal.refusal ParseError.InvalidCharMinute) (sym (add-zero start)))
-    ∙ sym (minute-none refuse c.args.behavior rest _ _ c.eight_bytes-front.ensures.bytes
-    c.fit_length-fits.ensures.count c.if-fits-lt2.true)
+    let refusal = g.E.Refusal.refusal in
+    let loaded = c.eight_bytes-front.ensures.bytes in
+    let counted = c.fit_length-fits.ensures.count in
+    let none = minute-none (shifted start refusal) c.args.behavior c.args.rest.now _ _ loaded in
+    let begins = ap (refusal ParseError.InvalidCharMinute) (sym (add-zero start)) in
+    ap Err (c.at.ensures.refusal ∙ begins) ∙ sym (none counted c.if-fits-lt2.true)
 
 pub returns-in_err-after-clause-answer : goal.returns-in_err-after-clause-answer
 returns-in_err-after-clause-answer g c =
-    let minute =
-    minute-read c.args.rest.now _ _ _ c.eight_bytes-front.ensures.bytes
-    c.fit_length-fits.ensures.count c.if-fits-lt2.false c.digit_pairs.ensures.numbers in
-    let is =
-    minute-decided (shifted c.args.start g.E.Refusal.refusal) c.args.behavior c.args.rest.now _
-    minute c.if-minute-gt59.false
+    let rest = c.args.rest.now in
+    let refuse = shifted c.args.start g.E.Refusal.refusal in
+    let loaded = c.eight_bytes-front.ensures.bytes in
+    let counted = c.fit_length-fits.ensures.count in
+    let read = minute-read rest _ _ _ loaded counted c.if-fits-lt2.false in
+    let minute = read c.digit_pairs.ensures.numbers in
+    let is = minute-decided refuse c.args.behavior rest _ minute c.if-minute-gt59.false
     ∙ sym c.in_err-after.ensures.answer in
     let p = err_from_is_err_and c.from_residual.result c.from_residual.ensures.1 in
     rw (p.1, p.2) (sym is)
 
 pub returns-clause-answer : goal.returns-clause-answer
 returns-clause-answer g c =
-    let minute =
-    minute-read c.args.rest.now _ _ _ c.eight_bytes-front.ensures.bytes
-    c.fit_length-fits.ensures.count c.if-fits-lt2.false c.digit_pairs.ensures.numbers in
-    let is =
-    minute-decided (shifted c.args.start g.E.Refusal.refusal) c.args.behavior c.args.rest.now _
-    minute c.if-minute-gt59.false
+    let rest = c.args.rest.now in
+    let refuse = shifted c.args.start g.E.Refusal.refusal in
+    let loaded = c.eight_bytes-front.ensures.bytes in
+    let counted = c.fit_length-fits.ensures.count in
+    let read = minute-read rest _ _ _ loaded counted c.if-fits-lt2.false in
+    let minute = read c.digit_pairs.ensures.numbers in
+    let is = minute-decided refuse c.args.behavior rest _ minute c.if-minute-gt59.false
     ∙ sym c.in_ok-after.ensures.answer in
     ap (λ (minute : ℕ). Ok (clock_after minute c.in_ok-after.after)) minute.is ∙ sym is

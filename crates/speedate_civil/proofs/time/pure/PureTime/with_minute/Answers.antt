@@ -8,26 +8,24 @@ use Rattle.speedate_civil.proofs.time.pure.PureTime.with_minute.Goals as goal
 
 pub returns-in_err-after-clause-answer : goal.returns-in_err-after-clause-answer
 returns-in_err-after-clause-answer g c =
-    let front =
-    front-read c.args.text.now _ _ _ c.requires.front c.requires.looks c.requires.minute
-    c.digit_pairs.ensures.numbers in
-    let is =
-    decided g.E.Refusal.refusal c.args.start c.args.behavior c.args.text.now _ front
-    c.requires.long c.if-hour-gt23.false c.if-minute-gt59.false
-    ∙ ap (result_map (at_hour (get_or c.digit_pairs.result 0 0)))
-    (sym c.in_err-after.ensures.answer) in
+    let text = c.args.text.now in
+    let read = front-read text _ _ _ c.requires.front c.requires.looks c.requires.minute in
+    let front = read c.digit_pairs.ensures.numbers in
+    let hour = get_or c.digit_pairs.result 0 0 in
+    let rows = decided g.E.Refusal.refusal c.args.start c.args.behavior text _ front in
+    let decides = rows c.requires.long c.if-hour-gt23.false c.if-minute-gt59.false in
+    let is = decides ∙ ap (result_map (at_hour hour)) (sym c.in_err-after.ensures.answer) in
     let p = err_from_is_err_and c.from_residual.result c.from_residual.ensures.1 in
     rw (p.1, p.2) (sym is)
 
 pub returns-clause-answer : goal.returns-clause-answer
 returns-clause-answer g c =
+    let text = c.args.text.now in
+    let read = front-read text _ _ _ c.requires.front c.requires.looks c.requires.minute in
+    let front = read c.digit_pairs.ensures.numbers in
     let hour = get_or c.digit_pairs.result 0 0 in
-    let front =
-    front-read c.args.text.now _ _ _ c.requires.front c.requires.looks c.requires.minute
-    c.digit_pairs.ensures.numbers in
-    let is =
-    decided g.E.Refusal.refusal c.args.start c.args.behavior c.args.text.now _ front
-    c.requires.long c.if-hour-gt23.false c.if-minute-gt59.false
-    ∙ ap (result_map (at_hour hour)) (sym c.in_ok-after.ensures.answer) in
-    ap (λ (minute : ℕ). Ok (at_hour hour (clock_after minute c.in_ok-after.after))) front.minute_is
-    ∙ sym is
+    let rows = decided g.E.Refusal.refusal c.args.start c.args.behavior text _ front in
+    let decides = rows c.requires.long c.if-hour-gt23.false c.if-minute-gt59.false in
+    let is = decides ∙ ap (result_map (at_hour hour)) (sym c.in_ok-after.ensures.answer) in
+    let after = c.in_ok-after.after in
+    ap (λ (minute : ℕ). Ok (at_hour hour (clock_after minute after))) front.minute_is ∙ sym is
