@@ -269,11 +269,12 @@ iso_from-part refuse end sums next text rest less within same =
     ∙ sym (iso_from-shifted refuse start size next rest)
     ∙ iso_from-any (shifted start refuse) size sums next text rest same
 
--- where nothing is left, the text is refused at its end, or its sums are the answer
+-- the answer of sums after which nothing is left
 abbrev ended : {E : Type 0} → (ParseError → ℕ → E) → IsoSums → Bool → Result UnsignedDuration E
 ended refuse sums some =
     if some then Ok (sums_amount sums) else Err (refuse ParseError.TooShort 0)
 
+-- where nothing is left, the text is refused at its end, or its sums are the answer
 pub iso_from-short : {E : Type 0} (refuse : ParseError → ℕ → E) (sums : IsoSums) (end : ℕ)
     (rest : List ℕ) → length rest ≡ 0 → sums.has_component ≡ false
     → Err (refuse ParseError.TooShort end)

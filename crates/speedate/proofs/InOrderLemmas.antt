@@ -111,6 +111,7 @@ lax_end sums = if sums.has_component then Ok (sums_amount sums) else Err ParseEr
 abbrev strict_end : Bool → IsoSums → Answer
 strict_end in_order sums = if in_order then lax_end sums else Err ParseError.DurationUnitOrder
 
+-- an answer, or that a duration is not in order
 abbrev in_order_or : {A : Type 0} → Bool → Result A ParseError → Result A ParseError
 in_order_or in_order answer = if in_order then answer else Err ParseError.DurationUnitOrder
 

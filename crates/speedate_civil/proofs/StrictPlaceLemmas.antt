@@ -39,14 +39,16 @@ offset_place-is behavior text clock read second plain =
     let run = drop-drop 6 3 text in
     grind (arith, nat_tests)
 
--- an offset in numbers goes on after its hour
+-- an offset that is neither `Z` nor has its `:` goes on after its hour
 abbrev IsLong : List ℕ → Type 0
 IsLong rest = 0 < length rest → not (has_minus_sign rest) ≡ true
     → (is_utc (slice_index rest 0) || (slice_index rest 3 == colon)) ≡ false → 3 ≤ length rest
 
+-- one that takes all bytes does
 abbrev WholeIsLong : List ℕ → Option ℤ × ℕ → Type 0
 WholeIsLong rest front = front.1 ≡ length rest → IsLong rest
 
+-- and so does each offset that is read
 offset-long : (rest : List ℕ) → IfOk (offset_front rest) (WholeIsLong rest)
 offset-long rest =
     offset-cases (λ answer. IfOk answer (WholeIsLong rest)) rest
@@ -57,7 +59,7 @@ offset-long rest =
     read-rows _ (offset_ranges (drop 3 rest)) _ (λ ranges whole long plain fails. search rules)))
     (λ none other nothing whole long plain fails. absurd (omega (arith, whole, long)))
 
--- so does the one that ends a time
+-- also at the end of a time
 ending-long : (text : List ℕ) (size : ℕ) (offset : Option ℤ × ℕ) → size ≡ offset_place text
     → offset_front (drop size text) ≡ Ok offset → offset.1 ≡ length (drop size text)
     → IsLong (drop (offset_place text) text)
