@@ -8,7 +8,7 @@
  * - It returns a code: 0 (SPEEDATE_OK) on success, otherwise the SpeedateCode that says why it fails. A call that fails
  *   writes nothing. Only speedate_version, speedate_version_minor and speedate_code_string return something else.
  * - A call with _error_place in its name is the exception: it returns the code of a parser, and writes only if that is
- *   a fault of the text.
+ *   a fault of the text. One with _parse_or_part writes the value or the part, never both.
  * - If several things are wrong, SPEEDATE_CONFIG_OUT_OF_RANGE comes first, then SPEEDATE_VALUE_OUT_OF_RANGE.
  * - A text is passed as an address and a size in bytes. It may hold any bytes, and needs no zero byte at its end. If
  *   the size is 0, the address may be NULL.
@@ -19,7 +19,7 @@
  *   text needs. Bytes after the zero byte keep their values. If the size is 0, the buffer may be NULL.
  * - Values and configurations are passed by value. So `out` may point to the variable that is passed:
  *   speedate_date_add_days(date, 1, &date).
- * - `out`, `taken`, `place`, `length` and `progress` point to variables of their types. They are not NULL, and do not
+ * - `out`, `taken`, `place`, `end`, `part`, `length` and `progress` point to variables of their types. They are not NULL, and do not
  *   overlap a text, a buffer or one another.
  * - No call allocates memory or keeps anything for the next one. Any thread may make any call at any time.
  *
@@ -241,6 +241,13 @@ SPEEDATE_NODISCARD int speedate_code_documentation(int code, char *buffer, size_
  * not a kind. */
 SPEEDATE_NODISCARD int speedate_code_expected(int code, int kind, char *buffer, size_t size, size_t *length);
 
+/* Where the part of a text ends that a fault is about, which begins at its place: 7 for 21, "2020-13-01" and 5, so that a
+ * form underlines the bytes 5 and 6. The code is one with which a call refuses the text, and the place the one that an
+ * _error_place call gives. *end is at least `place`, and at most `size` if `place` is. It is `place` if the part is missing,
+ * and lies within no character of UTF-8. GRAMMAR.md has the part of each fault. It fails with SPEEDATE_VALUE_OUT_OF_RANGE for
+ * a number that is no error of the library: 0, and those over SPEEDATE_LAST_FAULT. */
+SPEEDATE_NODISCARD int speedate_code_part_end(int code, const char *text, size_t size, size_t place, size_t *end);
+
 /* ---- Configurations ---- */
 
 /* How texts and timestamps are parsed. In each field 0 is the default. A field that a call does not use has to be in
@@ -328,6 +335,12 @@ typedef struct SpeedateDuration {
 #define SPEEDATE_DATETIME_TEXT_SIZE 33
 #define SPEEDATE_DURATION_TEXT_SIZE 32
 
+/* The part of a text for which it is refused: the bytes from `place` on that come before `end`. */
+typedef struct SpeedatePart {
+    size_t place; /* where the part begins, or would begin, as an _error_place call gives it */
+    size_t end;   /* where it ends, as speedate_code_part_end gives it: `place` if it is missing */
+} SpeedatePart;
+
 /* Every call below that takes a value fails with SPEEDATE_VALUE_OUT_OF_RANGE if the value is out of range. The
  * exceptions are the _check calls, which say what is out of range, and speedate_duration_normalize. */
 
@@ -335,7 +348,11 @@ typedef struct SpeedateDuration {
  * _error_place where the parser's has _parse. It takes the same text and configuration, and returns the parser's code.
  * If that is a fault of the text, it writes the place of the fault to *place: the byte, counted from 0, at which the
  * part of the text begins that the fault is about, or would begin if it is missing. That is at most `size`. If the code
- * is another one, nothing is written. GRAMMAR.md has the place of each fault. */
+ * is another one, nothing is written. GRAMMAR.md has the place of each fault.
+ *
+ * It also has one for forms, which mostly get texts that are refused. Its name has _parse_or_part where the parser's has
+ * _parse. It takes, returns and writes what the parser does, and if the code is a fault of the text it writes the part for
+ * which the text is refused to *part. If the code is another one, *part stays as it is. */
 
 /* ---- Dates ---- */
 
@@ -359,6 +376,14 @@ SPEEDATE_NODISCARD int speedate_date_error_place_rfc3339(const char *text, size_
 
 /* Where a text has no date at its front: at 9, its end, in "2026-11-2". */
 SPEEDATE_NODISCARD int speedate_date_error_place_front(const char *text, size_t size, size_t *place);
+
+/* The date, or the part for which a text is refused: 5 to 7, the month, in "2020-13-01". */
+SPEEDATE_NODISCARD int speedate_date_parse_or_part(const char *text, size_t size, SpeedateConfig config,
+                                                   SpeedateDate *out, SpeedatePart *part);
+SPEEDATE_NODISCARD int speedate_date_parse_or_part_rfc3339(const char *text, size_t size, SpeedateDate *out,
+                                                           SpeedatePart *part);
+SPEEDATE_NODISCARD int speedate_date_parse_or_part_front(const char *text, size_t size, SpeedateDate *out,
+                                                         size_t *taken, SpeedatePart *part);
 
 /* SPEEDATE_OK if the numbers are those of a date; otherwise the first of SPEEDATE_DATE_TOO_LARGE,
  * SPEEDATE_OUT_OF_RANGE_MONTH and SPEEDATE_OUT_OF_RANGE_DAY that applies. */
@@ -423,6 +448,14 @@ SPEEDATE_NODISCARD int speedate_time_error_place_strict(const char *text, size_t
 /* Where a text has no time at its front: at 9, after the sign, in "12:00:00-ERROR". */
 SPEEDATE_NODISCARD int speedate_time_error_place_front(const char *text, size_t size, SpeedateConfig config,
                                                        size_t *place);
+
+/* The time, or the part for which a text is refused: 6 to 8, the second, in "12:13:60". */
+SPEEDATE_NODISCARD int speedate_time_parse_or_part(const char *text, size_t size, SpeedateConfig config,
+                                                   SpeedateTime *out, SpeedatePart *part);
+SPEEDATE_NODISCARD int speedate_time_parse_or_part_strict(const char *text, size_t size, SpeedateConfig config,
+                                                          SpeedateTime *out, SpeedatePart *part);
+SPEEDATE_NODISCARD int speedate_time_parse_or_part_front(const char *text, size_t size, SpeedateConfig config,
+                                                         SpeedateTime *out, size_t *taken, SpeedatePart *part);
 
 /* SPEEDATE_OK if the numbers are those of a time; otherwise the first of SPEEDATE_OUT_OF_RANGE_HOUR,
  * SPEEDATE_OUT_OF_RANGE_MINUTE, SPEEDATE_OUT_OF_RANGE_SECOND, SPEEDATE_TIME_TOO_LARGE (the microsecond) and
@@ -493,6 +526,16 @@ SPEEDATE_NODISCARD int speedate_datetime_error_place_strict(const char *text, si
 SPEEDATE_NODISCARD int speedate_datetime_error_place_front(const char *text, size_t size, SpeedateConfig config,
                                                            size_t *place);
 
+/* The date-time, or the part for which a text is refused: 17 to 19, the second, in "2020-02-29T12:13:60". */
+SPEEDATE_NODISCARD int speedate_datetime_parse_or_part(const char *text, size_t size, SpeedateConfig config,
+                                                       SpeedateDateTime *out, SpeedatePart *part);
+SPEEDATE_NODISCARD int speedate_datetime_parse_or_part_rfc3339(const char *text, size_t size, SpeedateConfig config,
+                                                               SpeedateDateTime *out, SpeedatePart *part);
+SPEEDATE_NODISCARD int speedate_datetime_parse_or_part_strict(const char *text, size_t size, SpeedateConfig config,
+                                                              SpeedateDateTime *out, SpeedatePart *part);
+SPEEDATE_NODISCARD int speedate_datetime_parse_or_part_front(const char *text, size_t size, SpeedateConfig config,
+                                                             SpeedateDateTime *out, size_t *taken, SpeedatePart *part);
+
 /* SPEEDATE_OK if the numbers are those of a date-time; otherwise what speedate_date_check returns for the date, or, if
  * the date is in range, what speedate_time_check returns for the time. */
 SPEEDATE_NODISCARD int speedate_datetime_check(SpeedateDateTime value);
@@ -545,6 +588,10 @@ SPEEDATE_NODISCARD int speedate_duration_parse(const char *text, size_t size, Sp
 /* Where a text is wrong as a duration: at 4, the unit, in "P1D1Q". */
 SPEEDATE_NODISCARD int speedate_duration_error_place(const char *text, size_t size, SpeedateConfig config,
                                                      size_t *place);
+
+/* The duration, or the part for which a text is refused: 4 to 5, the unit, in "P1D1Q". */
+SPEEDATE_NODISCARD int speedate_duration_parse_or_part(const char *text, size_t size, SpeedateConfig config,
+                                                       SpeedateDuration *out, SpeedatePart *part);
 
 /* Brings days, seconds and microseconds of any size into their ranges: 2 days, 101 seconds and 123 microseconds for 1,
  * 86,500 and 1,000,123. It fails with SPEEDATE_VALUE_OUT_OF_RANGE if `negative` is over 1,

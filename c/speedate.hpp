@@ -64,6 +64,13 @@ class Error {
         return failed == SPEEDATE_OK ? std::string(text, length) : "unknown code or kind";
     }
 
+    /* Where the part ends that it is about, in a text that is refused for it at a place: 7 in "2020-13-01", from 5 on. It is
+     * the place for a code that is no fault of a text. */
+    std::size_t part_end(std::string_view text, std::size_t place) const noexcept {
+        std::size_t end = place;
+        return speedate_code_part_end(code_, text.data(), text.size(), place, &end) == SPEEDATE_OK ? end : place;
+    }
+
     friend bool operator==(Error first, Error second) noexcept { return first.code_ == second.code_; }
     friend bool operator!=(Error first, Error second) noexcept { return first.code_ != second.code_; }
     friend std::ostream &operator<<(std::ostream &to, Error error) { return to << error.name(); }
@@ -299,6 +306,22 @@ class Date : public detail::Ordered<Date> {
             [&](auto... out) { return speedate_date_parse_front(text.data(), text.size(), out...); });
     }
 
+    /* What the parser of that name returns; of a text that is refused the part is written for which it is. */
+    static Result<Date> parse_or_part(std::string_view text, SpeedatePart &part, const Config &config = {}) {
+        return from_c([&](auto *out) {
+            return speedate_date_parse_or_part(text.data(), text.size(), config.c(), out, &part);
+        });
+    }
+    static Result<Date> parse_or_part_rfc3339(std::string_view text, SpeedatePart &part) {
+        return from_c([&](auto *out) {
+            return speedate_date_parse_or_part_rfc3339(text.data(), text.size(), out, &part);
+        });
+    }
+    static Result<Front<Date>> parse_or_part_front(std::string_view text, SpeedatePart &part) {
+        return detail::front<Date, SpeedateDate>(
+            [&](auto... out) { return speedate_date_parse_or_part_front(text.data(), text.size(), out..., &part); });
+    }
+
     /* Where a text is wrong for the parser of that name; nothing if it is accepted, or the configuration is out of range. */
     static std::optional<std::size_t> error_place(std::string_view text, const Config &config = {}) {
         return detail::place(
@@ -414,6 +437,22 @@ class Time : public detail::Equal<Time> {
             [&](auto... out) { return speedate_time_parse_front(text.data(), text.size(), config.c(), out...); });
     }
 
+    /* What the parser of that name returns; of a text that is refused the part is written for which it is. */
+    static Result<Time> parse_or_part(std::string_view text, SpeedatePart &part, const Config &config = {}) {
+        return from_c([&](auto *out) {
+            return speedate_time_parse_or_part(text.data(), text.size(), config.c(), out, &part);
+        });
+    }
+    static Result<Time> parse_or_part_strict(std::string_view text, SpeedatePart &part, const Config &config = {}) {
+        return from_c([&](auto *out) {
+            return speedate_time_parse_or_part_strict(text.data(), text.size(), config.c(), out, &part);
+        });
+    }
+    static Result<Front<Time>> parse_or_part_front(std::string_view text, SpeedatePart &part, const Config &config = {}) {
+        return detail::front<Time, SpeedateTime>(
+            [&](auto... out) { return speedate_time_parse_or_part_front(text.data(), text.size(), config.c(), out..., &part); });
+    }
+
     /* Where a text is wrong for the parser of that name; nothing if it is accepted, or the configuration is out of range. */
     static std::optional<std::size_t> error_place(std::string_view text, const Config &config = {}) {
         return detail::place(
@@ -495,6 +534,27 @@ class DateTime : public detail::Equal<DateTime> {
     static Result<Front<DateTime>> parse_front(std::string_view text, const Config &config = {}) {
         return detail::front<DateTime, SpeedateDateTime>(
             [&](auto... out) { return speedate_datetime_parse_front(text.data(), text.size(), config.c(), out...); });
+    }
+
+    /* What the parser of that name returns; of a text that is refused the part is written for which it is. */
+    static Result<DateTime> parse_or_part(std::string_view text, SpeedatePart &part, const Config &config = {}) {
+        return from_c([&](auto *out) {
+            return speedate_datetime_parse_or_part(text.data(), text.size(), config.c(), out, &part);
+        });
+    }
+    static Result<DateTime> parse_or_part_rfc3339(std::string_view text, SpeedatePart &part, const Config &config = {}) {
+        return from_c([&](auto *out) {
+            return speedate_datetime_parse_or_part_rfc3339(text.data(), text.size(), config.c(), out, &part);
+        });
+    }
+    static Result<DateTime> parse_or_part_strict(std::string_view text, SpeedatePart &part, const Config &config = {}) {
+        return from_c([&](auto *out) {
+            return speedate_datetime_parse_or_part_strict(text.data(), text.size(), config.c(), out, &part);
+        });
+    }
+    static Result<Front<DateTime>> parse_or_part_front(std::string_view text, SpeedatePart &part, const Config &config = {}) {
+        return detail::front<DateTime, SpeedateDateTime>(
+            [&](auto... out) { return speedate_datetime_parse_or_part_front(text.data(), text.size(), config.c(), out..., &part); });
     }
 
     /* Where a text is wrong for the parser of that name; nothing if it is accepted, or the configuration is out of range. */
@@ -607,6 +667,13 @@ class Duration : public detail::Ordered<Duration> {
     static Result<Duration> parse(std::string_view text, const Config &config = {}) {
         return from_c([&](auto *out) { return speedate_duration_parse(text.data(), text.size(), config.c(), out); });
     }
+    /* What the parser of that name returns; of a text that is refused the part is written for which it is. */
+    static Result<Duration> parse_or_part(std::string_view text, SpeedatePart &part, const Config &config = {}) {
+        return from_c([&](auto *out) {
+            return speedate_duration_parse_or_part(text.data(), text.size(), config.c(), out, &part);
+        });
+    }
+
     /* Where a text is wrong; nothing if it is accepted, or the configuration is out of range. */
     static std::optional<std::size_t> error_place(std::string_view text, const Config &config = {}) {
         return detail::place(

@@ -192,6 +192,10 @@ static void say_number(long long it) {
     say("%lld", it);
 }
 
+static void say_size(size_t it) {
+    say("%lld", (long long)it);
+}
+
 static void say_progress(SpeedateProgress it) {
     say("%lld ", (long long)it.lines);
     say("%lld ", (long long)it.bytes);
@@ -242,6 +246,31 @@ static void say_progress(SpeedateProgress it) {
             strcat(answer, " but wrote where it may not");                                                             \
         if (is_fault)                                                                                                  \
             say("|%lld", (long long)*place);                                                                           \
+        return 1;                                                                                                      \
+    }
+
+/* A call that writes a value, or the part for which a text is refused: the same as two calls, and where the part ends. */
+#define WRITES_PART(TYPE, SAY, CALL)                                                                                   \
+    {                                                                                                                  \
+        OUTPUT(TYPE, out)                                                                                              \
+        OUTPUT(size_t, taken)                                                                                          \
+        OUTPUT(SpeedatePart, part)                                                                                     \
+        size_t end = 0;                                                                                                \
+        int is_front = strstr(#CALL, "_front(") != NULL;                                                               \
+        int code = CALL;                                                                                               \
+        int is_fault = code >= SPEEDATE_TOO_SHORT && code <= SPEEDATE_LAST_FAULT;                                      \
+        int kept = IS_KEPT(code, out) && IS_KEPT(is_front ? code : SPEEDATE_VALUE_OUT_OF_RANGE, taken) &&              \
+                   IS_KEPT(is_fault ? SPEEDATE_OK : SPEEDATE_CONFIG_OUT_OF_RANGE, part);                               \
+        if (said(code, kept))                                                                                          \
+            SAY(*out);                                                                                                 \
+        if (is_front && code == SPEEDATE_OK)                                                                           \
+            say("|%lld", (long long)*taken);                                                                           \
+        if (is_fault) {                                                                                                \
+            say("|%lld ", (long long)part->place);                                                                     \
+            say("%lld", (long long)part->end);                                                                         \
+            if (speedate_code_part_end(code, text, size, part->place, &end) != SPEEDATE_OK || end != part->end)        \
+                strcat(answer, " with another end");                                                                   \
+        }                                                                                                              \
         return 1;                                                                                                      \
     }
 
@@ -362,6 +391,12 @@ static int is_call(const char *name) {
         WRITES_PLACE(speedate_##NAME(text, size, it, place))                                                           \
     }
 
+#define PART(TYPE, SAY, NAME)                                                                                          \
+    if (is_call(#NAME)) {                                                                                              \
+        SpeedateConfig it = config();                                                                                  \
+        WRITES_PART(TYPE, SAY, speedate_##NAME(text, size, it, out, part))                                             \
+    }
+
 #define CHECK(NAME, TYPE, READ)                                                                                        \
     if (is_call(#NAME)) {                                                                                              \
         TYPE it = READ();                                                                                              \
@@ -393,6 +428,23 @@ static int run_text(const char *text, size_t size) {
         WRITES_PLACE(speedate_date_error_place_rfc3339(text, size, place))
     if (is_call("date_error_place_front"))
         WRITES_PLACE(speedate_date_error_place_front(text, size, place))
+    if (is_call("date_parse_or_part_rfc3339"))
+        WRITES_PART(SpeedateDate, say_date, speedate_date_parse_or_part_rfc3339(text, size, out, part))
+    if (is_call("date_parse_or_part_front"))
+        WRITES_PART(SpeedateDate, say_date, speedate_date_parse_or_part_front(text, size, out, taken, part))
+    if (is_call("time_parse_or_part_front")) {
+        SpeedateConfig it = config();
+        WRITES_PART(SpeedateTime, say_time, speedate_time_parse_or_part_front(text, size, it, out, taken, part))
+    }
+    if (is_call("datetime_parse_or_part_front")) {
+        SpeedateConfig it = config();
+        WRITES_PART(SpeedateDateTime, say_datetime, speedate_datetime_parse_or_part_front(text, size, it, out, taken, part))
+    }
+    if (is_call("code_part_end")) {
+        int of = (int)number();
+        size_t place = (size_t)number();
+        WRITES(size_t, say_size, speedate_code_part_end(of, text, size, place, out))
+    }
     if (is_call("int_parse"))
         WRITES(int64_t, say_number, speedate_int_parse(text, size, out))
     PARSE(SpeedateDate, say_date, date_parse)
@@ -413,6 +465,13 @@ static int run_text(const char *text, size_t size) {
     PLACE(datetime_error_place_strict)
     PLACE(datetime_error_place_front)
     PLACE(duration_error_place)
+    PART(SpeedateDate, say_date, date_parse_or_part)
+    PART(SpeedateTime, say_time, time_parse_or_part)
+    PART(SpeedateTime, say_time, time_parse_or_part_strict)
+    PART(SpeedateDateTime, say_datetime, datetime_parse_or_part)
+    PART(SpeedateDateTime, say_datetime, datetime_parse_or_part_rfc3339)
+    PART(SpeedateDateTime, say_datetime, datetime_parse_or_part_strict)
+    PART(SpeedateDuration, say_duration, duration_parse_or_part)
     COLUMN(int64_t, datetime_column)
     COLUMN(int64_t, datetime_clock_column)
     COLUMN(int32_t, datetime_offset_column)

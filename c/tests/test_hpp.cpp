@@ -56,6 +56,7 @@ static void results() {
     CHECK(bad.error().name() == "out_of_range_day" && Error(1000).name() == "unknown code");
     CHECK(bad.error().documentation() == "day value is outside expected range");
     CHECK(bad.error().expected(SPEEDATE_KIND_DATE) == "a day that the month has");
+    CHECK(bad.error().part_end("2021-02-29", 8) == 10 && Error(1000).part_end("2021-02-29", 8) == 8);
     CHECK(bad.value_or(*good) == *good && good.value_or(date("2020-03-01")) == *good);
     bool throws = false;
     try {
@@ -81,6 +82,10 @@ static void dates() {
     CHECK(at(Date::error_place("2020-13-01")) == 5 && at(Date::error_place("86400")) == -1);
     CHECK(at(Date::error_place("86400", microseconds)) == 0);
     CHECK(at(Date::error_place("x", with(Unit::Infer, Overflow::Error, Order::Lax, 86400))) == -1);
+    SpeedatePart part{0, 0};
+    CHECK(!Date::parse_or_part("2020-13-01", part) && part.place == 5 && part.end == 7);
+    CHECK(!Date::parse_or_part_rfc3339("2020-01-01T12:13", part) && part.place == 10 && part.end == 16);
+    CHECK(Date::parse_or_part_front("2020-02-29 rent", part)->size == 10 && part.place == 10);
     CHECK(at(Date::error_place_rfc3339("2020-01-01T12:13")) == 10 && at(Date::error_place_front("2026-11-2")) == 9);
     CHECK(said(Date::from_timestamp(86401, false)) == "1970-01-02" &&
           said(Date::from_timestamp(86401, true)) == "date_not_exact");
@@ -117,6 +122,10 @@ static void times() {
     CHECK(said(Time::parse_strict("12:13:14.1234567Z", cut)) == "12:13:14.123456Z");
     CHECK(said(Time::parse_front("12:13:14.1234567Z GET /", cut)) == "12:13:14.123456Z 17");
     CHECK(at(Time::error_place("12:13:60")) == 6 && at(Time::error_place("12:13:14.1234567", cut)) == -1);
+    SpeedatePart part{0, 0};
+    CHECK(!Time::parse_or_part("12:13:60", part) && part.place == 6 && part.end == 8);
+    CHECK(!Time::parse_or_part_strict("12:13+01:00", part) && part.place == 5 && part.end == 6);
+    CHECK(!Time::parse_or_part_front("12:00:00-ERROR", part) && part.place == 9 && part.end == 11);
     CHECK(at(Time::error_place_strict("12:13")) == 5 && at(Time::error_place_strict("12:13:14.1234567Z", cut)) == -1);
     CHECK(at(Time::error_place_front("12:00:00-ERROR")) == 9 &&
           at(Time::error_place_front("12:13:14.1234567", cut)) == -1);
@@ -146,6 +155,11 @@ static void date_times() {
           "2026-11-22T12:13:14.123456Z 28");
     CHECK(at(DateTime::error_place("2020-02-29T12:13:60")) == 17 &&
           at(DateTime::error_place("1.0000000", unix_time)) == -1);
+    SpeedatePart part{0, 0};
+    CHECK(!DateTime::parse_or_part("2020-02-29T12:13:60", part) && part.place == 17 && part.end == 19);
+    CHECK(!DateTime::parse_or_part_rfc3339("2020-02-29", part) && part.place == 10 && part.end == 10);
+    CHECK(!DateTime::parse_or_part_strict("2020-02-29 12:13:14Z", part) && part.place == 10 && part.end == 11);
+    CHECK(!DateTime::parse_or_part_front("2026-11-22T12:00:00-ERROR", part) && part.place == 20 && part.end == 22);
     CHECK(at(DateTime::error_place_rfc3339("2020-02-29")) == 10);
     CHECK(at(DateTime::error_place_rfc3339("2020-02-29T12:13:14.1234567", unix_time)) == -1);
     CHECK(at(DateTime::error_place_strict("2020-02-29T12:13:14")) == 19);
@@ -172,6 +186,8 @@ static void durations() {
     CHECK(Duration::of(std::chrono::microseconds(-1500000)).to_text() == "-PT1.5S");
     CHECK(Duration::checked(duration.c()).value() == duration);
     CHECK(said(Duration::checked(SpeedateDuration{0, 0, 86400, 0})) == "duration_value_too_large");
+    SpeedatePart part{0, 0};
+    CHECK(!Duration::parse_or_part("P1D1Q", part) && part.place == 4 && part.end == 5);
     CHECK(said(Duration::parse("P1D1Y")) == "P1Y1D" && at(Duration::error_place("P1D1Q")) == 4);
     const Config strict = with(Unit::Infer, Overflow::Error, Order::Strict);
     CHECK(said(Duration::parse("P1D1Y", strict)) == "duration_unit_order" &&

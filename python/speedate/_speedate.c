@@ -694,8 +694,26 @@ static Py_ssize_t place_in_column(int call, SpeedateConfig config, PyObject *obj
     return code == SPEEDATE_OK && call == DURATION ? -1 : place_in(object, text, place);
 }
 
-/* The code by which a call refuses a text, and the place of the error in it. */
-static int find_error(int call, SpeedateConfig config, PyObject *object, Py_ssize_t *place) {
+/* A part of a text as Python counts it. */
+typedef struct {
+    Py_ssize_t place, end;
+} Part;
+
+/* Where the part ends in bytes that a fault at a place is about. */
+static size_t end_of(const Text *text, int code, size_t place) {
+    size_t end = place;
+    return speedate_code_part_end(code, text->bytes, text->size, place, &end) == SPEEDATE_OK ? end : place;
+}
+
+/* The part for which a column refuses a text, or one with a negative place. */
+static Part part_in_column(int call, SpeedateConfig config, PyObject *object, const Text *text) {
+    size_t place = text->size;
+    int code = parsers[call].find_place(text, config, &place);
+    return (Part){place_in_column(call, config, object, text), size_in(object, text, end_of(text, code, place))};
+}
+
+/* The code by which a call refuses a text, and the part of it that the error is about. */
+static int find_error(int call, SpeedateConfig config, PyObject *object, Part *part) {
     bool front = (call == DATE_FRONT || call == TIME_FRONT || call == DATE_TIME_FRONT) && is_long(object), whole = true;
     for (Py_ssize_t size = FRONT;; size *= 8) {
         Text text;
@@ -703,23 +721,24 @@ static int find_error(int call, SpeedateConfig config, PyObject *object, Py_ssiz
         if ((front ? take_front(object, size, &text, &whole) : take_text(object, -1, &text)) < 0)
             return -1;
         int code = parsers[call].find_place(&text, config, &at);
-        bool found = whole || (code != SPEEDATE_OK && at + BEYOND <= text.size);
+        size_t end = end_of(&text, code, at);
+        bool found = whole || (code != SPEEDATE_OK && end + BEYOND <= text.size);
         if (found)
-            *place = place_in(object, &text, at);
+            *part = (Part){place_in(object, &text, at), size_in(object, &text, end)};
         Py_XDECREF(text.owner);
         if (found)
             return code;
     }
 }
 
-/* The place of an error, from what a Fault keeps. */
-static PyObject *call_place(PyObject *module, PyObject *arguments) {
+/* The place of an error and the end of its part, from what a Fault keeps. */
+static PyObject *call_part(PyObject *module, PyObject *arguments) {
     (void)module;
     PyObject *object;
     int number;
     Text text;
-    Py_ssize_t place;
-    if (!PyArg_ParseTuple(arguments, "Oi:_place", &object, &number))
+    Part part;
+    if (!PyArg_ParseTuple(arguments, "Oi:_part", &object, &number))
         return NULL;
     bool of_column = number >= OF_COLUMN;
     int call = number & 15;
@@ -730,14 +749,14 @@ static PyObject *call_place(PyObject *module, PyObject *arguments) {
     if (of_column) {
         if (take_text(object, -1, &text) < 0)
             return NULL;
-        place = place_in_column(call, config, object, &text);
+        part = part_in_column(call, config, object, &text);
         Py_XDECREF(text.owner);
-        return place < 0 ? Py_INCREF(Py_None), Py_None : PyLong_FromSsize_t(place);
+        return part.place < 0 ? PyTuple_Pack(2, Py_None, Py_None) : Py_BuildValue("nn", part.place, part.end);
     }
-    int code = find_error(call, config, object, &place);
+    int code = find_error(call, config, object, &part);
     if (code == SPEEDATE_OK || code > SPEEDATE_LAST_FAULT)
         return PyErr_SetString(PyExc_ValueError, "the text is not refused"), NULL;
-    return code < 0 ? NULL : PyLong_FromSsize_t(place);
+    return code < 0 ? NULL : Py_BuildValue("nn", part.place, part.end);
 }
 
 /* What was expected where a call gave a code, from the number of the call. */
@@ -2020,8 +2039,8 @@ static PyMethodDef methods[] = {
            ">>> text(datetime.timedelta(microseconds=-1))\n"
            "'-PT0.000001S'\n"),
     {"_words", call_words, METH_O, "_words(code)\n--\n\nThe name and the documentation of a fault."},
-    {"_place", call_place, METH_VARARGS,
-     "_place(source, call)\n--\n\nThe place of an error, from what its Fault keeps."},
+    {"_part", call_part, METH_VARARGS,
+     "_part(source, call)\n--\n\nThe place of an error and the end of its part, from what its Fault keeps."},
     {"_expected", call_expected, METH_VARARGS,
      "_expected(code, call)\n--\n\nWhat was expected, from what a Fault keeps, or of no call, from 0."},
     {NULL, NULL, 0, NULL},

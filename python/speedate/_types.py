@@ -27,8 +27,8 @@ class Refusal(ValueError):
     """
 
     __module__ = "speedate"
-    # What the place is found from, if a call has refused a text: that text, and a number for the call. In a copy the place
-    # is the source itself.
+    # What the part is found from, if a call has refused a text: that text, and a number for the call. In a copy the source is
+    # the part itself.
     __slots__ = "_source", "_call", "__weakref__"
     name: str
     index = None
@@ -45,22 +45,26 @@ class Refusal(ValueError):
 
     @property
     def place(self):
-        return self._found() if hasattr(self, "_call") else getattr(self, "_source", None)
+        return self._part()[0]
+
+    def _part(self):
+        """The place in the text, and where the part ends that begins there."""
+        return self._found() if hasattr(self, "_call") else getattr(self, "_source", (None, None))
 
     def _found(self):
-        """The place in the text."""
-        from ._speedate import _place
+        from ._speedate import _part
 
-        return _place(self._source, self._call)
+        return _part(self._source, self._call)
 
     def __reduce__(self):
-        return type(self), self.args, {**vars(self), "_source": self.place}
+        return type(self), self.args, {**vars(self), "_source": self._part()}
 
 
 class Fault(Refusal):
     """Why the library refuses a text, or a number: the `name` of the fault, its `code` in C, and its `documentation`.
 
-    Its `expected` is a phrase for people: what the call expected at the place.
+    Its `expected` is a phrase for people: what the call expected at the place. Its `end` is where the part of the text ends
+    that begins there, counted as the place is, and the place itself if the part is missing.
 
     Its `text`, `place` and `index` are those of a `Refusal`. Its `str` tells the index too, and its `hint`. This is `None`,
     or says what alone refuses the text: a byte order mark, or a line ending.
@@ -73,8 +77,8 @@ class Fault(Refusal):
     >>> try:
     ...     date("2020-02-29T12:13")
     ... except Fault as fault:
-    ...     fault.expected
-    'nothing more'
+    ...     fault.expected, fault.text[fault.place:fault.end]
+    ('nothing more', 'T12:13')
     >>> Fault(23), Fault(23, 1000)
     (<Fault out_of_range_hour>, <Fault out_of_range_hour in text 1000>)
     >>> date_column(["1970-01-01\\n"])
@@ -97,6 +101,10 @@ class Fault(Refusal):
             self.index = _integer("index", index, 0, sys.maxsize)
         self.name, self.documentation = _words(self.code)
         ValueError.__init__(self, *(it for it in (self.code, self.index) if it is not None))
+
+    @property
+    def end(self):
+        return self._part()[1]
 
     @property
     def expected(self):
@@ -134,7 +142,7 @@ class Unrepresentable(Refusal):
     __slots__ = ()
 
     def _found(self):
-        return 0
+        return 0, None
 
 
 def _wrong(name, value, *kinds):

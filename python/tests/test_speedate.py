@@ -278,6 +278,14 @@ speedate.datetime -> AttributeError: module 'speedate' has no attribute 'datetim
 text(datetime.timedelta(days=400)) -> 'P1Y35D'
 date_time_column(["13000000000", "20200229121314"], timestamps=True, naive="utc") -> array('q', [13000000000000000, 20200229121314000])
 Fault(1).place, Fault(1, 0).place, copy.copy(Fault(1)).place -> (None, None, None)
+part(date, "2020-13-01"), part(date, b"2020-01-01T12:13"), part(date, ""), part(date, "86401", timestamps=True) -> ((5, 7), (10, 16), (0, 0), (0, 5))
+part(date, "202\u00e9-01-01"), part(date, "202\u00e9-01-01".encode()), part(date, "2020\U0001f4c5") -> ((0, 4), (0, 5), (5, 5))
+part(time, "12:13:14\U0001f552"), part(time, "12:13\u221201:60"), part(time_strict, "12:13:14\u221201:00".encode()) -> ((8, 9), (9, 11), (8, 11))
+part(time_front, "12:13:14." + "5" * 1000 + "Z \u00e9"), part(time_front, b"12:13:14." + b"5" * 1000) -> ((15, 1009), (15, 1009))
+part(duration, "1h30m"), part(duration, "00:0\u00e9\u00e9\u00e9\u00e9\u00e9\u00e9\u00e9"), part(duration, "P1DT4294967296S") -> ((1, 2), (9, 10), (4, 14))
+part(date_time, "2020-02-29T1:13:14"), part(date_time_front, "2020-02-29 opening"), part(date_time, "1.00000000", timestamps=True) -> ((11, 12), (11, 12), (8, 10))
+part(date_time_column, ["1970-01-01T00:00"]), part(date_column, ["2020-1\u00e901"]), part(duration_column, b"P106751992D") -> ((16, 16), (5, 7), (None, None))
+part(date_from_timestamp, 1), Fault(1).end, copy.copy(Fault(1, 0)).end -> ((None, None), None, None)
 Fault(43) -> Fault: value_out_of_range
 Fault(2**31) -> ValueError: code has to be from 0 to 2147483647
 Fault(-1) -> ValueError: code has to be from 0 to 2147483647
@@ -379,6 +387,15 @@ def place(call, *given, **named):
     except speedate.Fault as fault:
         assert copy.copy(fault).place == copy.deepcopy(fault).place == pickle.loads(pickle.dumps(copy.copy(fault))).place == fault.place
         return fault.place
+
+
+def part(call, *given, **named):
+    """The place of the fault that a call raises and the end of its part, which its copies have too."""
+    try:
+        call(*given, **named)
+    except speedate.Fault as fault:
+        assert {(it.place, it.end) for it in (copy.copy(fault), copy.deepcopy(fault), pickle.loads(pickle.dumps(fault)))} == {(fault.place, fault.end)}
+        return fault.place, fault.end
 
 
 def expected(call, *given, **named):
@@ -518,7 +535,7 @@ def config_of(field, *names):
 
 def call_of(name, fields, text_of=str.encode):
     """The call here that is one of C, with its arguments, or nothing. For one that tells a place it is the parser."""
-    name = name.replace("_error_place", "_parse")
+    name = name.replace("_error_place", "_parse").replace("_parse_or_part", "_parse")
     kind, _, form = name.replace("datetime", "date_time").rpartition("_parse")
     if kind in ("date", "time", "date_time", "duration") and form in ("", "_rfc3339", "_front", "_strict"):
         call = getattr(speedate, kind + form.replace("_rfc3339", ""))
@@ -583,6 +600,8 @@ class Speedate(unittest.TestCase):
                 self.check_row(name, call, wanted, *fields[place + 1:])
                 if "_error_place" in name:
                     self.check_places(name, fields[:place], *fields[place + 1:])
+                if "_or_part" in name and wanted != "ok":
+                    self.check_ends(name, fields[:place], *fields[place + 1:])
                 ran[name] += 1
         self.assertGreater(sum(ran.values()), 190, (ran, left))
         self.assertEqual(sum("_error_place" in name for name in ran), 11, ran)
@@ -602,6 +621,13 @@ class Speedate(unittest.TestCase):
             self.assertEqual(told, written)
         elif "_error_place" not in name:
             self.assertEqual(repr(told), repr((value_of(written), int(size)) if size else value_of(written)))
+
+    def check_ends(self, name, fields, written="None None"):
+        """Where the part ends that C writes, in a str and in bytes: the end lies within no character."""
+        end = written.split()[1]
+        for text_of in (str.encode, str):
+            found = part(call_of(name, fields, text_of))[1]
+            self.assertEqual(str(len(fields[-1][:found].encode()) if text_of is str and found is not None else found), end)
 
     def check_places(self, name, fields, written=None):
         """The place that C writes, in texts of each type: in a str it is how many characters end there or before."""

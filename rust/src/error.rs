@@ -1,7 +1,7 @@
 use core::error::Error;
 use core::fmt;
 
-use crate::ffi::Buffer;
+use crate::ffi::{speedate_code_part_end, Buffer};
 
 /// Defines [`ParseError`]: of each variant the number in C, the name and the documentation text, each once.
 macro_rules! parse_errors {
@@ -52,6 +52,22 @@ macro_rules! parse_errors {
             #[must_use]
             pub fn expected(&self, kind: CallKind) -> impl fmt::Display + fmt::Debug {
                 Expected { number: self.number(), kind }
+            }
+
+            /// Where the part of the input ends that the error is about, which begins at its place: so these bytes are
+            /// what a form underlines. It is at most the length of the input, and the place if the part is missing; in an
+            /// input of UTF-8 it lies within no character.
+            ///
+            /// ```
+            /// use speedate::{Date, DateConfig, ParseError};
+            ///
+            /// let (input, config) = (b"2020-13-01", DateConfig::default());
+            /// let place = Date::error_place(input, &config).unwrap();
+            /// assert_eq!((place, ParseError::OutOfRangeMonth.part_end(input, place)), (5, 7));
+            /// ```
+            #[must_use]
+            pub fn part_end(&self, input: &[u8], place: usize) -> usize {
+                speedate_code_part_end(self.number(), input, place)
             }
 
             pub(crate) fn name(&self) -> &'static str {

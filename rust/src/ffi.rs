@@ -287,6 +287,23 @@ macro_rules! places {
     )*};
 }
 
+/// Functions that write where a part of a text ends, which begins at a place.
+macro_rules! ends {
+    ($(fn $name:ident($code:ident: $kind:ty, [$text:ident] $place:ident: usize);)*) => {$(
+        #[inline]
+        pub(crate) fn $name($code: impl Into<$kind>, $text: &[u8], $place: usize) -> usize {
+            unsafe extern "C" {
+                fn $name($code: $kind, $text: *const u8, size: usize, $place: usize, end: *mut usize) -> c_int;
+            }
+            let mut end = $place;
+            // SAFETY: the types are the header's; address and size are those of the text, and `end` is a variable's.
+            let code = unsafe { $name($code.into(), $text.as_ptr(), $text.len(), $place, &mut end) };
+            debug_assert_eq!(code, 0, "it is the code of an error");
+            end
+        }
+    )*};
+}
+
 /// Functions that write the numbers of the lines of a text, and how far they came.
 macro_rules! columns {
     ($(
@@ -420,6 +437,10 @@ places! {
     fn speedate_datetime_error_place_strict([text] config);
     fn speedate_datetime_error_place_front([text] config);
     fn speedate_duration_error_place([text] config);
+}
+
+ends! {
+    fn speedate_code_part_end(code: c_int, [text] place: usize);
 }
 
 columns! {

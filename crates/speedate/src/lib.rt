@@ -25,7 +25,8 @@
 //!   [`TimeReader`], a [`TimeOffsetReader`] or a [`DurationReader`]; [`line_end`] finds the end of a line.
 //! - [`DateConfig`], [`TimeConfig`], [`DateTimeConfig`] and their builders: how texts are parsed.
 //! - [`ParseError`], [`ConfigError`]: the errors. A text that is refused has exactly one, and each has
-//!   a name, such as `out_of_range_day`, and by the [`CallKind`] a phrase on what was expected.
+//!   a name, such as `out_of_range_day`, and by the [`CallKind`] a phrase on what was expected. A
+//!   [`Refused`] has its place too.
 //!
 //! # Parsers and configurations
 //!
@@ -72,6 +73,7 @@ pub use speedate_base::faults::{CallKind, ConfigError, ParseError};
 pub use speedate_base::numbers::{
     Decimal, IntFloat, float_parse_bytes, float_parse_str, int_parse_bytes, int_parse_str,
 };
+pub use speedate_base::refusal::Refused;
 pub use speedate_civil::date::{Date, is_leap_year, month_length};
 pub use speedate_civil::datetime::{DateTime, Moment};
 pub use speedate_civil::time::Time;

@@ -2,6 +2,7 @@ pub mod Ascii
 pub mod Requirement
 pub mod Fault
 pub mod Expected
+pub mod Part
 pub mod Digits
 pub mod Numbers
 pub mod Offset

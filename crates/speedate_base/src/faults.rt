@@ -4,6 +4,7 @@ ghost use Rattle.std.specs.Prelude.{◌≡◌};
 
 mod config_error;
 mod expected;
+mod part;
 
 pub use config_error::ConfigError;
 pub use expected::CallKind;

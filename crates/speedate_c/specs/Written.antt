@@ -3,7 +3,10 @@
 use Rattle.std.specs.Prelude.{ℕ, ◌+◌, ℤ, List, ◌∷◌, ◌++◌, length, drop, nat_lt, Option, Some, None, Result, Ok, Err, if◌then◌else◌}
 use Rattle.std.specs.Option.{unwrap_or}
 use Rattle.speedate.specs.Base.{ParseError}
-use Rattle.speedate_c.specs.Code.{answer_code, success, fault_code, buffer_too_small, no_such_date}
+use Rattle.speedate.specs.Part.{part_end}
+use Rattle.speedate_c.specs.Code.{answer_code, success, fault_code, fault_of, buffer_too_small}
+use Rattle.speedate_c.specs.Code.{no_such_date}
+use Rattle.speedate_c.specs.declared.part.SpeedatePart.{SpeedatePart}
 
 -- what follows from a value that is in its ranges; what is left where it is not
 abbrev pub with_value : {A B : Type 0} → Result A ParseError → B → (A → B) → B
@@ -33,6 +36,16 @@ written_front shown before size (Err fault) = (fault_code fault, before, size)
 -- and the place
 abbrev pub written_place : {A : Type 0} → Result A ParseError → Option ℕ → ℕ → ℤ × ℕ
 written_place answer found before = (answer_code answer, unwrap_or found before)
+
+-- the part of a text that a fault at a place is about
+abbrev pub part_at : ParseError → List ℕ → ℕ → SpeedatePart
+part_at fault text place = record { place = place; end = part_end fault text place }
+
+-- written of a code that a call gave for a text: if it is that of a fault, the part that the fault
+-- is about, which begins at its place
+abbrev pub written_part : ℤ → Option ℕ → List ℕ → SpeedatePart → SpeedatePart
+written_part code place text before =
+    with_option (fault_of code) before (λ fault. with_option place before (part_at fault text))
 
 -- written of a date, where there is one
 abbrev pub written_optional_date : {A B : Type 0} → (A → B) → B → Option A → ℤ × B

@@ -71,7 +71,7 @@ pub(crate) fn line_error_code(error: LineError) -> i32
 }
 
 /// The error of a code.
-fn fault_of(code: i32) -> Option<ParseError>
+pub(crate) fn fault_of(code: i32) -> Option<ParseError>
     ensures fault { result ≡ fault_of code }
 {
     if code < 1 {

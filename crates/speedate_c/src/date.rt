@@ -11,8 +11,8 @@ ghost use Rattle.speedate.specs.ErrorPlace.{date_or_timestamp_place};
 ghost use Rattle.speedate.specs.Refused.{placed, refused_place};
 ghost use Rattle.speedate.specs.Requirement.{result_map};
 ghost use Rattle.speedate_c.specs.Written.{written_answer, written_front, written_optional_date};
-ghost use Rattle.speedate_c.specs.Written.{written_place, written_text, written_value, with_option};
-ghost use Rattle.speedate_c.specs.Written.{with_value};
+ghost use Rattle.speedate_c.specs.Written.{written_part, written_place, written_text};
+ghost use Rattle.speedate_c.specs.Written.{written_value, with_option, with_value};
 ghost use Rattle.speedate_c.specs.Code.{answer_code, buffer_too_small, config_out_of_range};
 ghost use Rattle.speedate_c.specs.Code.{order_number, success, value_out_of_range};
 ghost use Rattle.speedate_c.specs.Config.{choices_of, flags};
@@ -20,8 +20,9 @@ ghost use Rattle.speedate_c.specs.Date.{date_of, shown_date};
 
 use crate::code::{NO_SUCH_DATE, SUCCESS, VALUE_OUT_OF_RANGE, order_number};
 use crate::config::{SpeedateConfig, flag};
+use crate::part::SpeedatePart;
 use crate::text::{write_place, write_text};
-use speedate::{Date, ParseError};
+use speedate::{Date, DateConfig, ParseError};
 
 /// A date.
 #[repr(C)]
@@ -128,6 +129,73 @@ pub extern "C" fn speedate_date_parse_front(
 {
     let (date, count) = answer_or_return!(Date::parse_front(text));
     *out = SpeedateDate::from_value(&date);
+    *size = count;
+    SUCCESS
+}
+
+/// Does what [`speedate_date_parse`] does, and writes the part for which a text is refused, as
+/// [`Date::parse_or_place`] does: 5 to 7 for `2020-13-01`.
+///
+/// No part is written for a text that is accepted, and where the code is `CONFIG_OUT_OF_RANGE`.
+#[unsafe(no_mangle)]
+pub extern "C" fn speedate_date_parse_or_part(
+    text: &[u8],
+    config: SpeedateConfig,
+    out: &mut SpeedateDate,
+    part: &mut SpeedatePart,
+) -> i32
+    ensures answer { (result, out.new)
+        ≡ with_option (choices_of config) (config_out_of_range, out.old)
+        (λ config. written_answer shown_date out.old (date_or_timestamp config.unit text.now)) }
+    ensures part { part.new ≡ with_option (choices_of config) part.old
+        (λ config. written_part result
+        (date_or_timestamp_place config.unit text.now)
+        text.now part.old) }
+{
+    let config = config_or_return!(config.to_config());
+    let config = DateConfig {
+        timestamp_unit: config.timestamp_unit,
+    };
+    let answer = Date::parse_or_place(text, &config);
+    let value = value_or_part!(answer, text => part);
+    *out = SpeedateDate::from_value(&value);
+    SUCCESS
+}
+
+/// The same for [`speedate_date_parse_rfc3339`], from the place that [`Date::error_place_rfc3339`]
+/// gives: 10 to 16 for `2020-01-01T12:13`.
+#[unsafe(no_mangle)]
+pub extern "C" fn speedate_date_parse_or_part_rfc3339(
+    text: &[u8],
+    out: &mut SpeedateDate,
+    part: &mut SpeedatePart,
+) -> i32
+    ensures answer { (result, out.new) ≡ written_answer shown_date out.old (date_answer text.now) }
+    ensures part { part.new
+        ≡ written_part result (refused_place (date_answer_or placed text.now)) text.now part.old }
+{
+    let answer = Date::parse_or_place_rfc3339(text);
+    let value = value_or_part!(answer, text => part);
+    *out = SpeedateDate::from_value(&value);
+    SUCCESS
+}
+
+/// The same for [`speedate_date_parse_front`], from the place that [`Date::error_place_front`] gives: 8
+/// to 10 for `2021-02-29 rent`.
+#[unsafe(no_mangle)]
+pub extern "C" fn speedate_date_parse_or_part_front(
+    text: &[u8],
+    out: &mut SpeedateDate,
+    size: &mut usize,
+    part: &mut SpeedatePart,
+) -> i32
+    ensures answer { (result, out.new, size.new) ≡ written_front shown_date out.old size.old (date_front text.now) }
+    ensures part { part.new
+        ≡ written_part result (refused_place (date_front_or placed text.now)) text.now part.old }
+{
+    let answer = Date::parse_or_place_front(text);
+    let (value, count) = value_or_part!(answer, text => part);
+    *out = SpeedateDate::from_value(&value);
     *size = count;
     SUCCESS
 }

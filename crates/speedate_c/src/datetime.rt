@@ -11,7 +11,7 @@ ghost use Rattle.speedate.specs.ErrorPlace.{date_time_or_timestamp_place};
 ghost use Rattle.speedate.specs.Refused.{placed, refused_place};
 ghost use Rattle.speedate.specs.Requirement.{result_map};
 ghost use Rattle.speedate.specs.Strict.{strict_date_time_answer, strict_date_time_answer_or};
-ghost use Rattle.speedate_c.specs.Written.{written_answer, written_front, written_place};
+ghost use Rattle.speedate_c.specs.Written.{written_answer, written_front, written_part, written_place};
 ghost use Rattle.speedate_c.specs.Written.{written_text, written_value, with_option, with_value};
 ghost use Rattle.speedate_c.specs.Code.{answer_code, buffer_too_small, config_out_of_range};
 ghost use Rattle.speedate_c.specs.Code.{order_number, success, value_out_of_range};
@@ -21,6 +21,7 @@ ghost use Rattle.speedate_c.specs.DateTime.{date_time_of, shown_date_time};
 use crate::code::{SUCCESS, fault_code, order_number};
 use crate::config::SpeedateConfig;
 use crate::date::SpeedateDate;
+use crate::part::SpeedatePart;
 use crate::text::{write_place, write_text};
 use crate::time::SpeedateTime;
 use arrayvec::ArrayString;
@@ -150,6 +151,111 @@ pub extern "C" fn speedate_datetime_parse_front(
 {
     let config = config_or_return!(config.to_config());
     let (value, count) = answer_or_return!(DateTime::parse_front(text, &config.time_config));
+    *out = SpeedateDateTime::from_value(&value);
+    *size = count;
+    SUCCESS
+}
+
+/// Does what [`speedate_datetime_parse`] does, and writes the part for which a text is refused, from the
+/// place that [`DateTime::error_place`] gives: 17 to 19 for `2020-02-29T12:13:60`.
+///
+/// No part is written for a text that is accepted, and where the code is `CONFIG_OUT_OF_RANGE`.
+#[unsafe(no_mangle)]
+pub extern "C" fn speedate_datetime_parse_or_part(
+    text: &[u8],
+    config: SpeedateConfig,
+    out: &mut SpeedateDateTime,
+    part: &mut SpeedatePart,
+) -> i32
+    ensures answer { (result, out.new)
+        ≡ with_option (choices_of config) (config_out_of_range, out.old)
+        (λ config. written_answer shown_date_time out.old
+        (date_time_or_timestamp config.unit config.behavior config.offset text.now)) }
+    ensures part { part.new ≡ with_option (choices_of config) part.old
+        (λ config. written_part result
+        (date_time_or_timestamp_place config.unit config.behavior config.offset text.now)
+        text.now part.old) }
+{
+    let config = config_or_return!(config.to_config());
+    let answer = DateTime::parse_or_place(text, &config);
+    let value = value_or_part!(answer, text => part);
+    *out = SpeedateDateTime::from_value(&value);
+    SUCCESS
+}
+
+/// The same for [`speedate_datetime_parse_rfc3339`], from the place that
+/// [`DateTime::error_place_rfc3339`] gives: 10 to 11 for `2020-02-29x12:13`.
+#[unsafe(no_mangle)]
+pub extern "C" fn speedate_datetime_parse_or_part_rfc3339(
+    text: &[u8],
+    config: SpeedateConfig,
+    out: &mut SpeedateDateTime,
+    part: &mut SpeedatePart,
+) -> i32
+    ensures answer { (result, out.new)
+        ≡ with_option (choices_of config) (config_out_of_range, out.old)
+        (λ config. written_answer shown_date_time out.old
+        (date_time_answer config.behavior text.now)) }
+    ensures part { part.new ≡ with_option (choices_of config) part.old
+        (λ config. written_part result
+        (refused_place (date_time_answer_or placed config.behavior text.now))
+        text.now part.old) }
+{
+    let config = config_or_return!(config.to_config());
+    let answer = DateTime::parse_or_place_rfc3339(text, &config.time_config);
+    let value = value_or_part!(answer, text => part);
+    *out = SpeedateDateTime::from_value(&value);
+    SUCCESS
+}
+
+/// The same for [`speedate_datetime_parse_strict`], from the place that
+/// [`DateTime::error_place_strict`] gives: 10 to 11 for `2020-02-29 12:13:14Z`.
+#[unsafe(no_mangle)]
+pub extern "C" fn speedate_datetime_parse_or_part_strict(
+    text: &[u8],
+    config: SpeedateConfig,
+    out: &mut SpeedateDateTime,
+    part: &mut SpeedatePart,
+) -> i32
+    ensures answer { (result, out.new)
+        ≡ with_option (choices_of config) (config_out_of_range, out.old)
+        (λ config. written_answer shown_date_time out.old
+        (strict_date_time_answer config.behavior text.now)) }
+    ensures part { part.new ≡ with_option (choices_of config) part.old
+        (λ config. written_part result
+        (refused_place (strict_date_time_answer_or placed config.behavior text.now))
+        text.now part.old) }
+{
+    let config = config_or_return!(config.to_config());
+    let behavior = config.time_config.microseconds_precision_overflow_behavior;
+    let answer = DateTime::parse_or_place_strict(text, behavior);
+    let value = value_or_part!(answer, text => part);
+    *out = SpeedateDateTime::from_value(&value);
+    SUCCESS
+}
+
+/// The same for [`speedate_datetime_parse_front`], from the place that [`DateTime::error_place_front`]
+/// gives: 20 to 22 for `2026-11-22T12:00:00-ERROR`.
+#[unsafe(no_mangle)]
+pub extern "C" fn speedate_datetime_parse_or_part_front(
+    text: &[u8],
+    config: SpeedateConfig,
+    out: &mut SpeedateDateTime,
+    size: &mut usize,
+    part: &mut SpeedatePart,
+) -> i32
+    ensures answer { (result, out.new, size.new)
+        ≡ with_option (choices_of config) (config_out_of_range, out.old, size.old)
+        (λ config. written_front shown_date_time out.old size.old
+        (date_time_front config.behavior text.now)) }
+    ensures part { part.new ≡ with_option (choices_of config) part.old
+        (λ config. written_part result
+        (refused_place (date_time_front_or placed config.behavior text.now))
+        text.now part.old) }
+{
+    let config = config_or_return!(config.to_config());
+    let answer = DateTime::parse_or_place_front(text, &config.time_config);
+    let (value, count) = value_or_part!(answer, text => part);
     *out = SpeedateDateTime::from_value(&value);
     *size = count;
     SUCCESS

@@ -34,6 +34,17 @@ macro_rules! answer_or_return {
     };
 }
 
+/// The value of an answer. If there is none the call writes the part for which the text is refused, and ends
+/// with the code of the error.
+macro_rules! value_or_part {
+    ($answer:expr, $text:expr => $part:expr) => {
+        match $answer {
+            Ok(value) => value,
+            Err(refused) => return $crate::part::write_part(refused, $text, $part),
+        }
+    };
+}
+
 /// The code of an answer.
 macro_rules! code_of {
     ($answer:expr) => {{
@@ -78,6 +89,7 @@ mod date;
 mod datetime;
 mod duration;
 mod number;
+mod part;
 mod text;
 mod time;
 

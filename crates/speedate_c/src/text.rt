@@ -2,12 +2,13 @@
 
 ghost use Rattle.std.specs.Option.{unwrap_or};
 ghost use Rattle.std.specs.Prelude.{◌≡◌, ◌≢◌, ◌+◌, ◌<◌, ◌≤◌, ◌∷◌, ◌++◌, drop, length};
-ghost use Rattle.speedate_c.specs.Written.{written_text, with_option};
+ghost use Rattle.speedate.specs.Part.{part_end};
+ghost use Rattle.speedate_c.specs.Written.{written_text, written_value, with_option};
 ghost use Rattle.speedate_c.specs.Code.{buffer_too_small, call_kind_of, code_expected, code_row};
-ghost use Rattle.speedate_c.specs.Code.{success, value_out_of_range};
+ghost use Rattle.speedate_c.specs.Code.{fault_of, success, value_out_of_range};
 
 use crate::code::{
-    BUFFER_TOO_SMALL, SUCCESS, VALUE_OUT_OF_RANGE, call_kind_of, code_expected, code_row,
+    BUFFER_TOO_SMALL, SUCCESS, VALUE_OUT_OF_RANGE, call_kind_of, code_expected, code_row, fault_of,
 };
 
 /// Writes a text and a zero byte after it into a buffer, and its length beside it, and gives the
@@ -110,4 +111,25 @@ pub extern "C" fn speedate_code_expected(
         return VALUE_OUT_OF_RANGE;
     };
     write_text(text, buffer, text_length)
+}
+
+/// Writes where the part ends that an error is about, as [`ParseError::part_end`] gives it, in the text
+/// that is refused with this code at this place: 7 for 21, `2020-13-01` and place 5.
+///
+/// `VALUE_OUT_OF_RANGE` for a number that is no error of the library.
+#[unsafe(no_mangle)]
+pub extern "C" fn speedate_code_part_end(
+    code: i32,
+    text: &[u8],
+    place: usize,
+    end: &mut usize,
+) -> i32
+    ensures answer { (result, end.new) ≡ with_option (fault_of code) (value_out_of_range, end.old)
+        (λ fault. written_value (part_end fault text.now place)) }
+{
+    let Some(fault) = fault_of(code) else {
+        return VALUE_OUT_OF_RANGE;
+    };
+    *end = fault.part_end(text, place);
+    SUCCESS
 }

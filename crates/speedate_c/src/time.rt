@@ -10,7 +10,7 @@ ghost use Rattle.speedate.specs.Time.{timestamp_answer, time_answer, time_answer
 ghost use Rattle.speedate.specs.Time.{time_front_or, time_text, ◌gives◌, time_instant_order};
 ghost use Rattle.speedate.specs.Time.{time_in_timezone};
 ghost use Rattle.speedate.specs.Strict.{strict_time_answer, strict_time_answer_or};
-ghost use Rattle.speedate_c.specs.Written.{written_answer, written_front, written_place};
+ghost use Rattle.speedate_c.specs.Written.{written_answer, written_front, written_part, written_place};
 ghost use Rattle.speedate_c.specs.Written.{written_text, written_value, with_option, with_value};
 ghost use Rattle.speedate_c.specs.Code.{answer_code, buffer_too_small, config_out_of_range};
 ghost use Rattle.speedate_c.specs.Code.{order_number, success, value_out_of_range};
@@ -19,6 +19,7 @@ ghost use Rattle.speedate_c.specs.Time.{shown_time, time_of};
 
 use crate::code::{SUCCESS, order_number};
 use crate::config::{SpeedateConfig, offset};
+use crate::part::SpeedatePart;
 use crate::text::{write_place, write_text};
 use arrayvec::ArrayString;
 use speedate::{ParseError, Time};
@@ -138,6 +139,83 @@ pub extern "C" fn speedate_time_parse_front(
     let config = config_or_return!(config.to_config());
     let (time, count) = answer_or_return!(Time::parse_front(text, &config.time_config));
     *out = SpeedateTime::from_value(&time);
+    *size = count;
+    SUCCESS
+}
+
+/// Does what [`speedate_time_parse`] does, and writes the part for which a text is refused, as
+/// [`Time::parse_or_place`] does: 6 to 8 for `12:13:60`.
+///
+/// No part is written for a text that is accepted, and where the code is `CONFIG_OUT_OF_RANGE`.
+#[unsafe(no_mangle)]
+pub extern "C" fn speedate_time_parse_or_part(
+    text: &[u8],
+    config: SpeedateConfig,
+    out: &mut SpeedateTime,
+    part: &mut SpeedatePart,
+) -> i32
+    ensures answer { (result, out.new)
+        ≡ with_option (choices_of config) (config_out_of_range, out.old)
+        (λ config. written_answer shown_time out.old (time_answer config.behavior text.now)) }
+    ensures part { part.new ≡ with_option (choices_of config) part.old
+        (λ config. written_part result
+        (refused_place (time_answer_or placed config.behavior text.now))
+        text.now part.old) }
+{
+    let config = config_or_return!(config.to_config());
+    let answer = Time::parse_or_place(text, &config.time_config);
+    let value = value_or_part!(answer, text => part);
+    *out = SpeedateTime::from_value(&value);
+    SUCCESS
+}
+
+/// The same for [`speedate_time_parse_strict`], from the place that [`Time::error_place_strict`] gives: 5
+/// to 6 for `12:13+01:00`.
+#[unsafe(no_mangle)]
+pub extern "C" fn speedate_time_parse_or_part_strict(
+    text: &[u8],
+    config: SpeedateConfig,
+    out: &mut SpeedateTime,
+    part: &mut SpeedatePart,
+) -> i32
+    ensures answer { (result, out.new)
+        ≡ with_option (choices_of config) (config_out_of_range, out.old)
+        (λ config. written_answer shown_time out.old (strict_time_answer config.behavior text.now)) }
+    ensures part { part.new ≡ with_option (choices_of config) part.old
+        (λ config. written_part result
+        (refused_place (strict_time_answer_or placed config.behavior text.now))
+        text.now part.old) }
+{
+    let config = config_or_return!(config.to_config());
+    let behavior = config.time_config.microseconds_precision_overflow_behavior;
+    let answer = Time::parse_or_place_strict(text, behavior);
+    let value = value_or_part!(answer, text => part);
+    *out = SpeedateTime::from_value(&value);
+    SUCCESS
+}
+
+/// The same for [`speedate_time_parse_front`], from the place that [`Time::error_place_front`] gives: 9 to
+/// 11 for `12:00:00-ERROR`.
+#[unsafe(no_mangle)]
+pub extern "C" fn speedate_time_parse_or_part_front(
+    text: &[u8],
+    config: SpeedateConfig,
+    out: &mut SpeedateTime,
+    size: &mut usize,
+    part: &mut SpeedatePart,
+) -> i32
+    ensures answer { (result, out.new, size.new)
+        ≡ with_option (choices_of config) (config_out_of_range, out.old, size.old)
+        (λ config. written_front shown_time out.old size.old (time_front config.behavior text.now)) }
+    ensures part { part.new ≡ with_option (choices_of config) part.old
+        (λ config. written_part result
+        (refused_place (time_front_or placed config.behavior text.now))
+        text.now part.old) }
+{
+    let config = config_or_return!(config.to_config());
+    let answer = Time::parse_or_place_front(text, &config.time_config);
+    let (value, count) = value_or_part!(answer, text => part);
+    *out = SpeedateTime::from_value(&value);
     *size = count;
     SUCCESS
 }

@@ -1,4 +1,4 @@
-//! The errors by name, their documentation texts, and what was expected.
+//! The errors by name, their documentation texts, what was expected, and which part of a text they are about.
 
 use crate::rows::same;
 use crate::shown::expect_written;
@@ -255,5 +255,95 @@ fn what_date_times_expect(rt: HostRuntime) {
 fn what_other_calls_expect(rt: HostRuntime) {
     for (fault, kind, phrase) in EXPECTED_BY {
         same(&rt, fault.expected(kind), phrase, phrase);
+    }
+}
+
+/// An error of each kind, a text that has it, and where the part begins and ends that it is about. The errors
+/// stand in the order of their rows.
+const PARTS: [(ParseError, &str, usize, usize); 42] = [
+    (TooShort, "2020-1-1", 8, 8),
+    (ExtraCharacters, "2020-01-01T12:13", 10, 16),
+    (InvalidCharDateTimeSep, "2020-02-29x12:13", 10, 11),
+    (InvalidCharDateSep, "2020/01/01", 4, 5),
+    (DateNotExact, "86401", 0, 5),
+    (InvalidCharYear, "202x-01-01", 0, 4),
+    (InvalidCharMonth, "2020-1x-01", 5, 7),
+    (InvalidCharDay, "2020-01-1x", 8, 10),
+    (InvalidCharTimeSep, "12.13", 2, 3),
+    (InvalidCharHour, "1:13:14", 0, 1),
+    (InvalidCharMinute, "12:1:14", 3, 5),
+    (InvalidCharSecond, "12:13:4", 6, 7),
+    (InvalidCharSecondFraction, "12:13:14.x5", 9, 10),
+    (InvalidCharTzSign, "12:13:14 +01:00", 8, 9),
+    (InvalidCharTzHour, "12:13+1:00", 6, 8),
+    (InvalidCharTzMinute, "12:13+01:x0", 9, 11),
+    (OutOfRangeTzMinute, "12:13+01:60", 9, 11),
+    (OutOfRangeTz, "12:13+24:00", 6, 8),
+    (TzRequired, "12:13:14.5", 10, 10),
+    (SystemTimeError, "x", 0, 0),
+    (OutOfRangeMonth, "2020-13-01", 5, 7),
+    (OutOfRangeDay, "2021-02-29T12:13", 8, 10),
+    (OutOfRangeHour, "24:00", 0, 2),
+    (OutOfRangeMinute, "12:60", 3, 5),
+    (OutOfRangeSecond, "23:59:60Z", 6, 8),
+    (SecondFractionTooLong, "12:13:14.1234567890Z", 15, 19),
+    (SecondFractionMissing, "12:13:14.", 9, 9),
+    (MillisecondFractionTooLong, "20000000001.00000", 15, 17),
+    (DurationInvalidNumber, "P-1D", 1, 2),
+    (DurationTRepeated, "PT1HT1M", 4, 5),
+    (DurationInvalidFraction, "P1.5DT12H", 6, 8),
+    (DurationInvalidTimeUnit, "PT1", 3, 3),
+    (DurationInvalidDateUnit, "P1H", 2, 3),
+    (DurationInvalidDays, "1  day", 2, 3),
+    (DurationValueTooLarge, "P1DT4294967296S", 4, 14),
+    (DurationHourValueTooLarge, "1 day, 24:00", 7, 9),
+    (DurationDaysTooLarge, "-1000000000d", 1, 11),
+    (DateTooSmall, "-62167219200001", 0, 15),
+    (DateTooLarge, "253402300800000.5", 0, 17),
+    (TimeTooLarge, "86400", 0, 5),
+    (DurationUnitOrder, "P1D1Y", 4, 5),
+    (MicrosecondFractionTooLong, "1.0", 2, 3),
+];
+
+/// Parts that are missing or cut off, or end within a character, and hours of any length.
+const OTHER_PARTS: [(ParseError, &str, usize, usize); 22] = [
+    (ExtraCharacters, "2020-01-01", 10, 10),
+    (InvalidCharDateTimeSep, "2020-02-29", 10, 10),
+    (InvalidCharDateTimeSep, "2020-02-29–12:13", 10, 13),
+    (InvalidCharDateSep, "2020\u{fe0f}", 4, 7),
+    (InvalidCharDateSep, "2020\u{1f4c5}", 4, 8),
+    (InvalidCharYear, "202é-01-01", 0, 5),
+    (InvalidCharYear, "20", 0, 2),
+    (InvalidCharMonth, "2020-é-01", 5, 7),
+    (InvalidCharMonth, "2020-0é-01", 5, 8),
+    (InvalidCharHour, "1x:30:00", 0, 2),
+    (InvalidCharHour, "1234567x90:00", 0, 10),
+    (InvalidCharHour, "1234567x901:00", 0, 1),
+    (InvalidCharHour, "1h30m", 1, 2),
+    (InvalidCharHour, "12345", 5, 5),
+    (InvalidCharHour, ":30:00", 0, 1),
+    (InvalidCharHour, "é2.13", 0, 2),
+    (InvalidCharTzSign, "12:13:14−01:00", 8, 11),
+    (SecondFractionTooLong, "00:0ééééééé", 15, 16),
+    (DurationHourValueTooLarge, "x0000000001:00", 0, 1),
+    (DurationInvalidDays, "1 döy", 3, 5),
+    (OutOfRangeMonth, "2020-1", 5, 6),
+    (OutOfRangeMonth, "2020", 5, 5),
+];
+
+#[test]
+fn which_part_an_error_is_about(rt: HostRuntime) {
+    for (fault, part) in FAULTS.iter().flatten().zip(PARTS) {
+        same(&rt, *fault, part.0, part.1);
+    }
+    for (fault, text, place, end) in PARTS {
+        same(&rt, fault.part_end(text.as_bytes(), place), end, text);
+    }
+}
+
+#[test]
+fn other_parts(rt: HostRuntime) {
+    for (fault, text, place, end) in OTHER_PARTS {
+        same(&rt, fault.part_end(text.as_bytes(), place), end, text);
     }
 }

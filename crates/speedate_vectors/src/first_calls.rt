@@ -218,6 +218,8 @@ fn parse_error(rt: HostRuntime) {
     assert_same(&rt, fault.get_documentation(), Some("input is too short"));
     let phrase = fault.expected(CallKind::Date);
     assert_same(&rt, phrase, "a date: YYYY-MM-DD");
+    let end = ParseError::OutOfRangeMonth.part_end(b"2020-13-01", 5);
+    assert_same(&rt, end, 7);
 }
 
 #[test]

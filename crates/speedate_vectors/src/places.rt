@@ -1,7 +1,8 @@
 //! The places of errors: refused texts of each row of each table, and the byte at which the error lies.
 
 use crate::rows::{date_time_config, quoted, same, time_config, value, words};
-use speedate::{Date, DateConfig, DateTime, Duration, Time, TimestampUnit};
+use speedate::{Date, DateConfig, DateTime, Duration, ParseError, Refused, Time, TimestampUnit};
+use std::fmt::Debug;
 use std::process::Abort;
 
 /// Texts that are refused as a date of RFC 3339, as a date or a timestamp, and at the front: the place of
@@ -312,6 +313,116 @@ fn expect_place<R: Abort>(rt: &R, found: Option<usize>, want: &str, row: &str) {
     match found {
         Some(place) => same(rt, place, value(rt, want), row),
         None => same(rt, "-", want, row),
+    }
+}
+
+/// The value or the error is to be that of the parser, and the place the one that the row wants.
+fn expect_both<T: PartialEq + Debug + Copy, R: Abort>(
+    rt: &R,
+    found: Result<T, Refused>,
+    parsed: Result<T, ParseError>,
+    want: &str,
+    row: &str,
+) {
+    expect_place(rt, Refused::place_of(found), want, row);
+    match found {
+        Ok(value) => same(rt, Ok(value), parsed, row),
+        Err(refused) => same(rt, Err(refused.fault), parsed, row),
+    }
+}
+
+#[test]
+fn dates_or_places(rt: HostRuntime) {
+    for row in DATES.lines() {
+        let (_, text, wants) = quoted(&rt, row);
+        let [alone, relaxed, front, ..] = words(wants);
+        let text = text.as_bytes();
+        let found = Date::parse_or_place_rfc3339(text);
+        expect_both(&rt, found, Date::parse_bytes_rfc3339(text), alone, row);
+        let found = Date::parse_or_place(text, &DateConfig::default());
+        expect_both(&rt, found, Date::parse_bytes(text), relaxed, row);
+        let found = Date::parse_or_place_front(text);
+        expect_both(&rt, found, Date::parse_front(text), front, row);
+    }
+}
+
+#[test]
+fn times_or_places(rt: HostRuntime) {
+    for row in TIMES.lines() {
+        let (behavior, text, wants) = quoted(&rt, row);
+        let [relaxed, strict, front, ..] = words(wants);
+        let (text, config) = (text.as_bytes(), time_config(&rt, behavior));
+        let parsed = Time::parse_bytes_with_config(text, &config);
+        expect_both(
+            &rt,
+            Time::parse_or_place(text, &config),
+            parsed,
+            relaxed,
+            row,
+        );
+        let parsed = Time::parse_bytes_strict(text, value(&rt, behavior));
+        let found = Time::parse_or_place_strict(text, value(&rt, behavior));
+        expect_both(&rt, found, parsed, strict, row);
+        let parsed = Time::parse_front(text, &config);
+        expect_both(
+            &rt,
+            Time::parse_or_place_front(text, &config),
+            parsed,
+            front,
+            row,
+        );
+    }
+}
+
+#[test]
+fn date_times_or_places(rt: HostRuntime) {
+    for row in DATE_TIMES.lines() {
+        let (behavior, text, wants) = quoted(&rt, row);
+        let [relaxed, strict, front, ..] = words(wants);
+        let (text, config) = (text.as_bytes(), time_config(&rt, behavior));
+        let parsed = DateTime::parse_bytes_rfc3339_with_config(text, &config);
+        let found = DateTime::parse_or_place_rfc3339(text, &config);
+        expect_both(&rt, found, parsed, relaxed, row);
+        let parsed = DateTime::parse_bytes_strict(text, value(&rt, behavior));
+        let found = DateTime::parse_or_place_strict(text, value(&rt, behavior));
+        expect_both(&rt, found, parsed, strict, row);
+        let parsed = DateTime::parse_front(text, &config);
+        let found = DateTime::parse_or_place_front(text, &config);
+        expect_both(&rt, found, parsed, front, row);
+    }
+}
+
+#[test]
+fn timestamps_or_places(rt: HostRuntime) {
+    for row in TIMESTAMPS.lines() {
+        let (config, text, want) = quoted(&rt, row);
+        let (text, config) = (text.as_bytes(), date_time_config(&rt, config.trim()));
+        let parsed = DateTime::parse_bytes_with_config(text, &config);
+        expect_both(
+            &rt,
+            DateTime::parse_or_place(text, &config),
+            parsed,
+            want,
+            row,
+        );
+    }
+}
+
+#[test]
+fn durations_or_places(rt: HostRuntime) {
+    for rows in [ISO_DURATIONS, DAYS, CLOCKS] {
+        for row in rows.lines() {
+            let (choices, text, want) = quoted(&rt, row);
+            let (text, config) = (text.as_bytes(), time_config(&rt, choices));
+            let parsed = Duration::parse_bytes_with_config(text, &config);
+            expect_both(
+                &rt,
+                Duration::parse_or_place(text, &config),
+                parsed,
+                want,
+                row,
+            );
+        }
     }
 }
 

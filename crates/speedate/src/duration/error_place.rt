@@ -1,10 +1,11 @@
 //! Where a text that is refused as a duration has its error.
 
-ghost use Rattle.std.specs.Prelude.{◌≡◌, ◌≤◌, IfSome, is_err, is_some, length};
+ghost use Rattle.std.specs.Prelude.{◌≡◌, ◌+◌, ◌≤◌, IfErr, IfSome, is_err, is_some, length};
 ghost use Rattle.speedate_base.specs.Config.{time_choices};
 ghost use Rattle.speedate_base.specs.Refused.{placed, refused_place, without_place};
-ghost use Rattle.speedate_base.specs.Requirement.{first_place};
-ghost use Rattle.speedate.specs.Duration.{duration_answer, duration_answer_or};
+ghost use Rattle.speedate_base.specs.Requirement.{first_place, result_map, shifted};
+ghost use Rattle.speedate.specs.Duration.{duration_answer, duration_answer_or, duration_numbers};
+ghost use Rattle.speedate.specs.Duration.{signed_form_or};
 ghost use Rattle.speedate.specs.DurationNumbers.{normal_table};
 ghost use Rattle.speedate.specs.DurationPlace.{amount_numbers, amount_place, at_bytes};
 ghost use Rattle.speedate.specs.DurationPlace.{normal_places};
@@ -40,6 +41,73 @@ impl Duration {
             config.iso_order,
             config.microseconds_precision_overflow_behavior,
         )
+    }
+
+    /// Parses a duration as [`Duration::parse_bytes_with_config`] does, and gives the place of the error too,
+    /// as [`Duration::error_place`] does: an hour and a half from `b"PT90M"`.
+    ///
+    /// # Errors
+    ///
+    /// Those of [`Duration::parse_bytes_with_config`], each with its place: `DurationInvalidDateUnit` and
+    /// 4 for `b"P1D1Q"`.
+    #[tactic(auto, using(std::proofs::lemmas::List::take_rest))]
+    pub fn parse_or_place(bytes: &[u8], config: &TimeConfig) -> Result<Self, Refused>
+        ensures answer { without_place (result_map duration_numbers result)
+            ≡ duration_answer (time_choices config.now).order (time_choices config.now).behavior
+            bytes.now }
+        ensures place { refused_place result ≡ refused_place (duration_answer_or placed
+            (time_choices config.now).order (time_choices config.now).behavior bytes.now) }
+        ensures within { IfErr result (λ refused. refused.place ≤ length bytes.now) }
+    {
+        let order = config.iso_order;
+        Self::placed(
+            bytes,
+            order,
+            config.microseconds_precision_overflow_behavior,
+        )
+    }
+
+    /// Parses a duration, or refuses the text with the place.
+    #[tactic(auto, using(std::proofs::lemmas::List::take_rest))]
+    fn placed(bytes: &[u8], order: IsoOrder, behavior: Behavior) -> Result<Self, Refused>
+        ensures answer { result_map duration_numbers result
+            ≡ duration_answer_or placed order behavior bytes.now }
+        ensures within { IfErr result (λ refused. refused.place ≤ length bytes.now) }
+    {
+        let (negative, size) = sign(bytes);
+        let rest = &bytes[size..];
+        let amount = UnsignedDuration::parse::<Refused, false>(rest, order, size, behavior)?;
+        Self::normal_form(rest, order, size, !negative, amount)
+    }
+
+    /// Puts the sign on an amount, which was parsed from a text that begins at `start` of the whole, and
+    /// brings it into its normal form.
+    fn normal_form(
+        text: &[u8],
+        order: IsoOrder,
+        start: usize,
+        positive: bool,
+        amount: UnsignedDuration,
+    ) -> Result<Self, Refused>
+        requires read { IsIsoRead order text.now }
+        requires room { start + length text.now ≤ usize.MAX }
+        ensures answer { result_map duration_numbers result ≡ signed_form_or (shifted start placed)
+            (normal_places (amount_place order text.now)) positive amount }
+        ensures within { IfErr result (λ refused. refused.place ≤ start + length text.now) }
+    {
+        match Self::with_sign(positive, amount) {
+            Ok(duration) => Ok(duration),
+            Err(fault) => match normal_error_place(text, order, amount) {
+                Some(place) => Err(Refused {
+                    fault,
+                    place: start + place,
+                }),
+                None => Err(Refused {
+                    fault,
+                    place: start,
+                }),
+            },
+        }
     }
 }
 

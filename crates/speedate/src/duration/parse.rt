@@ -160,7 +160,7 @@ impl Duration {
 
     /// Puts the sign on an amount, and brings it into its normal form.
     #[inline(always)]
-    fn with_sign(positive: bool, amount: UnsignedDuration) -> Result<Self, ParseError>
+    pub(super) fn with_sign(positive: bool, amount: UnsignedDuration) -> Result<Self, ParseError>
         ensures answer { result gives signed_form positive amount }
     {
         // Most amounts are in their normal form as they are parsed, and need no division.

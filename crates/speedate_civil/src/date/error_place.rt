@@ -1,9 +1,10 @@
 //! Where a text that is refused as a date has its error.
 
-ghost use Rattle.std.specs.Prelude.{◌≡◌, ◌≤◌, IfSome, is_err, is_some, length};
+ghost use Rattle.std.specs.Prelude.{◌≡◌, ◌≤◌, Err, IfErr, IfSome, Some, is_err, is_some, length};
+ghost use Rattle.speedate_base.specs.Requirement.{result_map, with_size};
 ghost use Rattle.speedate_base.specs.Refused.{placed, without_place, refused_place};
 ghost use Rattle.speedate_civil.specs.Date.{date_answer, date_answer_or, date_front, date_front_or};
-ghost use Rattle.speedate_civil.specs.Date.{date_or_timestamp};
+ghost use Rattle.speedate_civil.specs.Date.{date_or_timestamp, ymd};
 ghost use Rattle.speedate_civil.specs.ErrorPlace.{date_or_timestamp_place};
 
 use super::Date;
@@ -57,5 +58,78 @@ impl Date {
         ensures within { IfSome result (λ place. place ≤ length bytes.now) }
     {
         Refused::place_of(Self::front(bytes))
+    }
+
+    /// Parses a date as [`Date::parse_bytes_with_config`] does, and gives the place of the error too, as
+    /// [`Date::error_place`] does: 29 February 2020 from `b"2020-02-29"`.
+    ///
+    /// # Errors
+    ///
+    /// Those of [`Date::parse_bytes_with_config`], each with its place: `OutOfRangeMonth` and 5 for
+    /// `b"2020-13-01"`.
+    pub fn parse_or_place(bytes: &[u8], config: &DateConfig) -> Result<Self, Refused>
+        ensures answer { without_place (result_map ymd result)
+            ≡ date_or_timestamp config.now.timestamp_unit bytes.now }
+        ensures place { refused_place result
+            ≡ date_or_timestamp_place config.now.timestamp_unit bytes.now }
+        ensures within { IfErr result (λ refused. refused.place ≤ length bytes.now) }
+    {
+        match Self::parse_or_place_rfc3339(bytes) {
+            Ok(date) => Ok(date),
+            Err(refused) => Self::timestamp_or_place(bytes, refused, config),
+        }
+    }
+
+    /// Parses a date as [`Date::parse_bytes_rfc3339`] does, and gives the place of the error too, as
+    /// [`Date::error_place_rfc3339`] does: 29 February 2020 from `b"2020-02-29"`.
+    ///
+    /// # Errors
+    ///
+    /// Those of [`Date::parse_bytes_rfc3339`], each with its place: `ExtraCharacters` and 10 for
+    /// `b"2020-01-01T12:13"`.
+    pub fn parse_or_place_rfc3339(bytes: &[u8]) -> Result<Self, Refused>
+        ensures answer { without_place (result_map ymd result) ≡ date_answer bytes.now }
+        ensures place { refused_place result ≡ refused_place (date_answer_or placed bytes.now) }
+        ensures within { IfErr result (λ refused. refused.place ≤ length bytes.now) }
+    {
+        Self::whole(bytes)
+    }
+
+    /// Parses the date at the front of a text as [`Date::parse_front`] does, and gives the place of the error
+    /// too, as [`Date::error_place_front`] does: 22 November 2026 and 10 from `b"2026-11-22 rent"`.
+    ///
+    /// # Errors
+    ///
+    /// Those of [`Date::parse_front`], each with its place: `TooShort` and 9 for `b"2026-11-2"`.
+    pub fn parse_or_place_front(bytes: &[u8]) -> Result<(Self, usize), Refused>
+        ensures answer { without_place (result_map (with_size ymd) result) ≡ date_front bytes.now }
+        ensures place { refused_place result ≡ refused_place (date_front_or placed bytes.now) }
+        ensures within { IfErr result (λ refused. refused.place ≤ length bytes.now) }
+    {
+        Self::front(bytes)
+    }
+
+    /// Parses the timestamp that the bytes are, which are no date, by this refusal, or gives the place.
+    fn timestamp_or_place(
+        bytes: &[u8],
+        refused: Refused,
+        config: &DateConfig,
+    ) -> Result<Self, Refused>
+        requires fault { date_answer bytes.now ≡ Err refused.fault }
+        requires place { refused_place (date_answer_or placed bytes.now) ≡ Some refused.place }
+        requires within { refused.place ≤ length bytes.now }
+        ensures answer { without_place (result_map ymd result)
+            ≡ date_or_timestamp config.now.timestamp_unit bytes.now }
+        ensures place { refused_place result
+            ≡ date_or_timestamp_place config.now.timestamp_unit bytes.now }
+        ensures within { IfErr result (λ refused. refused.place ≤ length bytes.now) }
+    {
+        match int_parse_bytes(bytes) {
+            Some(timestamp) => match Self::from_timestamp(timestamp, true, config) {
+                Ok(date) => Ok(date),
+                Err(fault) => Err(Refused { fault, place: 0 }),
+            },
+            None => Err(refused),
+        }
     }
 }

@@ -1,14 +1,14 @@
 //! Where a text that is refused as a date-time has its error.
 
-ghost use Rattle.std.specs.Prelude.{◌≡◌, ◌≤◌, IfSome, Some, is_err, is_some, length};
+ghost use Rattle.std.specs.Prelude.{◌≡◌, ◌≤◌, IfErr, IfSome, Some, is_err, is_some, length};
 ghost use Rattle.speedate_base.specs.Config.{choices, time_choices};
 ghost use Rattle.speedate_base.specs.Numbers.{decimal_value};
-ghost use Rattle.speedate_base.specs.Requirement.{first_place};
+ghost use Rattle.speedate_base.specs.Requirement.{first_place, result_map, with_size};
 ghost use Rattle.speedate_base.specs.Refused.{placed, refused_place, without_place};
 ghost use Rattle.speedate_base.specs.Timestamp.{decimal_row};
 ghost use Rattle.speedate_civil.specs.DateTime.{date_time_answer, date_time_answer_or};
 ghost use Rattle.speedate_civil.specs.DateTime.{date_time_by_config, date_time_front};
-ghost use Rattle.speedate_civil.specs.DateTime.{date_time_front_or};
+ghost use Rattle.speedate_civil.specs.DateTime.{date_and_time, date_time_front_or};
 ghost use Rattle.speedate_civil.specs.ErrorPlace.{date_time_or_timestamp_place, decimal_table};
 ghost use Rattle.speedate_civil.specs.Strict.{strict_date_time_answer, strict_date_time_answer_or};
 
@@ -25,6 +25,7 @@ impl DateTime {
     /// It is the place that the row has that names the error, of [a date](docs/GRAMMAR.md#date), the
     /// separator, or [a time](docs/GRAMMAR.md#time), which begins at byte 11. Of a timestamp it is 0,
     /// but digits past the microsecond have their own.
+    #[inline(always)]
     pub fn error_place(bytes: &[u8], config: &DateTimeConfig) -> Option<usize>
         ensures place { result ≡ date_time_or_timestamp_place (choices config.now).unit
             (choices config.now).behavior (choices config.now).offset bytes.now }
@@ -91,7 +92,90 @@ impl DateTime {
         Refused::place_of(Self::front(bytes, behavior))
     }
 
+    /// Parses a date-time as [`DateTime::parse_bytes_with_config`] does, and gives the place of the error too,
+    /// as [`DateTime::error_place`] does: 12:13 on 29 February 2020 from `b"2020-02-29T12:13"`.
+    ///
+    /// A text that is no date-time is parsed once more, since most numbers are no errors.
+    ///
+    /// # Errors
+    ///
+    /// Those of [`DateTime::parse_bytes_with_config`], each with its place: `OutOfRangeSecond` and 17 for
+    /// `b"2020-02-29T12:13:60"`.
+    pub fn parse_or_place(bytes: &[u8], config: &DateTimeConfig) -> Result<Self, Refused>
+        ensures answer { without_place (result_map date_and_time result)
+            ≡ date_time_by_config config.now bytes.now }
+        ensures place { refused_place result ≡ date_time_or_timestamp_place
+            (choices config.now).unit (choices config.now).behavior (choices config.now).offset bytes.now }
+        ensures within { IfErr result (λ refused. refused.place ≤ length bytes.now) }
+    {
+        match Self::parse_bytes_with_config(bytes, config) {
+            Ok(value) => Ok(value),
+            Err(fault) => {
+                let place = Self::error_place(bytes, config).unwrap();
+                Err(Refused { fault, place })
+            }
+        }
+    }
+
+    /// Parses a date-time as [`DateTime::parse_bytes_rfc3339_with_config`] does, and gives the place of the
+    /// error too, as [`DateTime::error_place_rfc3339`] does: 12:13 on 29 February 2020 from
+    /// `b"2020-02-29T12:13"`.
+    ///
+    /// # Errors
+    ///
+    /// Those of [`DateTime::parse_bytes_rfc3339_with_config`], each with its place:
+    /// `InvalidCharDateTimeSep` and 10 for `b"2020-02-29"`.
+    pub fn parse_or_place_rfc3339(bytes: &[u8], config: &TimeConfig) -> Result<Self, Refused>
+        ensures answer { without_place (result_map date_and_time result)
+            ≡ date_time_answer (time_choices config.now).behavior bytes.now }
+        ensures place { refused_place result
+            ≡ refused_place (date_time_answer_or placed (time_choices config.now).behavior bytes.now) }
+        ensures within { IfErr result (λ refused. refused.place ≤ length bytes.now) }
+    {
+        Self::parse_whole(bytes, config.microseconds_precision_overflow_behavior)
+    }
+
+    /// Parses a date-time as [`DateTime::parse_bytes_strict`] does, and gives the place of the error too, as
+    /// [`DateTime::error_place_strict`] does: 12:13:14 on 29 February 2020 in UTC from
+    /// `b"2020-02-29T12:13:14Z"`.
+    ///
+    /// # Errors
+    ///
+    /// Those of [`DateTime::parse_bytes_strict`], each with its place: `TzRequired` and 19 for
+    /// `b"2020-02-29T12:13:14"`.
+    pub fn parse_or_place_strict(
+        bytes: &[u8],
+        behavior: MicrosecondsPrecisionOverflowBehavior,
+    ) -> Result<Self, Refused>
+        ensures answer { without_place (result_map date_and_time result)
+            ≡ strict_date_time_answer behavior bytes.now }
+        ensures place { refused_place result
+            ≡ refused_place (strict_date_time_answer_or placed behavior bytes.now) }
+        ensures within { IfErr result (λ refused. refused.place ≤ length bytes.now) }
+    {
+        Self::strict(bytes, behavior)
+    }
+
+    /// Parses the date-time at the front of a text as [`DateTime::parse_front`] does, and gives the place of
+    /// the error too, as [`DateTime::error_place_front`] does: 12:13:14 on 22 November 2026 and 19 from
+    /// `b"2026-11-22 12:13:14 GET /"`.
+    ///
+    /// # Errors
+    ///
+    /// Those of [`DateTime::parse_front`], each with its place: `InvalidCharTzHour` and 20 for
+    /// `b"2026-11-22T12:00:00-ERROR"`.
+    pub fn parse_or_place_front(bytes: &[u8], config: &TimeConfig) -> Result<(Self, usize), Refused>
+        ensures answer { without_place (result_map (with_size date_and_time) result)
+            ≡ date_time_front (time_choices config.now).behavior bytes.now }
+        ensures place { refused_place result
+            ≡ refused_place (date_time_front_or placed (time_choices config.now).behavior bytes.now) }
+        ensures within { IfErr result (λ refused. refused.place ≤ length bytes.now) }
+    {
+        Self::front(bytes, config.microseconds_precision_overflow_behavior)
+    }
+
     /// The place of the error for which a text is neither a date-time nor a timestamp.
+    #[inline(always)]
     fn timestamp_error_place(bytes: &[u8], config: &DateTimeConfig) -> Option<usize>
         ensures place { result ≡ date_time_or_timestamp_place (choices config.now).unit
             (choices config.now).behavior (choices config.now).offset bytes.now }

@@ -1,10 +1,12 @@
 //! Where a text that is refused as a time has its error.
 
-ghost use Rattle.std.specs.Prelude.{◌≡◌, ◌≤◌, IfSome, is_err, is_some, length};
+ghost use Rattle.std.specs.Prelude.{◌≡◌, ◌≤◌, IfErr, IfSome, is_err, is_some, length};
 ghost use Rattle.speedate_base.specs.Config.{time_choices};
 ghost use Rattle.speedate_base.specs.Refused.{placed, refused_place, without_place};
+ghost use Rattle.speedate_base.specs.Requirement.{result_map, with_size};
 ghost use Rattle.speedate_civil.specs.Strict.{strict_time_answer, strict_time_answer_or};
 ghost use Rattle.speedate_civil.specs.Time.{time_answer, time_answer_or, time_front, time_front_or};
+ghost use Rattle.speedate_civil.specs.Time.{time_of_day};
 
 use super::Time;
 use speedate_base::config::{MicrosecondsPrecisionOverflowBehavior, TimeConfig};
@@ -62,5 +64,59 @@ impl Time {
     {
         let behavior = config.microseconds_precision_overflow_behavior;
         Refused::place_of(Self::front(bytes, behavior))
+    }
+
+    /// Parses a time as [`Time::parse_bytes_with_config`] does, and gives the place of the error too, as
+    /// [`Time::error_place`] does: 12:13:00 from `b"12:13"`.
+    ///
+    /// # Errors
+    ///
+    /// Those of [`Time::parse_bytes_with_config`], each with its place: `OutOfRangeSecond` and 6 for
+    /// `b"12:13:60"`.
+    pub fn parse_or_place(bytes: &[u8], config: &TimeConfig) -> Result<Self, Refused>
+        ensures answer { without_place (result_map time_of_day result)
+            ≡ time_answer (time_choices config.now).behavior bytes.now }
+        ensures place { refused_place result
+            ≡ refused_place (time_answer_or placed (time_choices config.now).behavior bytes.now) }
+        ensures within { IfErr result (λ refused. refused.place ≤ length bytes.now) }
+    {
+        Self::parse_whole(bytes, config.microseconds_precision_overflow_behavior)
+    }
+
+    /// Parses a time as [`Time::parse_bytes_strict`] does, and gives the place of the error too, as
+    /// [`Time::error_place_strict`] does: 12:13:14 in UTC from `b"12:13:14Z"`.
+    ///
+    /// # Errors
+    ///
+    /// Those of [`Time::parse_bytes_strict`], each with its place: `InvalidCharTimeSep` and 5 for
+    /// `b"12:13"`.
+    pub fn parse_or_place_strict(
+        bytes: &[u8],
+        behavior: MicrosecondsPrecisionOverflowBehavior,
+    ) -> Result<Self, Refused>
+        ensures answer { without_place (result_map time_of_day result)
+            ≡ strict_time_answer behavior bytes.now }
+        ensures place { refused_place result
+            ≡ refused_place (strict_time_answer_or placed behavior bytes.now) }
+        ensures within { IfErr result (λ refused. refused.place ≤ length bytes.now) }
+    {
+        Self::strict(bytes, behavior)
+    }
+
+    /// Parses the time at the front of a text as [`Time::parse_front`] does, and gives the place of the error
+    /// too, as [`Time::error_place_front`] does: 12:13:14 and 8 from `b"12:13:14 GET /"`.
+    ///
+    /// # Errors
+    ///
+    /// Those of [`Time::parse_front`], each with its place: `InvalidCharTzHour` and 9 for
+    /// `b"12:00:00-ERROR"`.
+    pub fn parse_or_place_front(bytes: &[u8], config: &TimeConfig) -> Result<(Self, usize), Refused>
+        ensures answer { without_place (result_map (with_size time_of_day) result)
+            ≡ time_front (time_choices config.now).behavior bytes.now }
+        ensures place { refused_place result
+            ≡ refused_place (time_front_or placed (time_choices config.now).behavior bytes.now) }
+        ensures within { IfErr result (λ refused. refused.place ≤ length bytes.now) }
+    {
+        Self::front(bytes, config.microseconds_precision_overflow_behavior)
     }
 }

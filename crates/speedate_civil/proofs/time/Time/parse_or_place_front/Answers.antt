@@ -1,0 +1,11 @@
+use Rattle.std.proofs.Common.{rules}
+use Rattle.speedate_base.specs.Refused.{placed}
+use Rattle.speedate_base.specs.declared.refusal.Refused.{Refused}
+use Rattle.speedate_civil.proofs.ErrorPlaceLemmas.{time_front-view}
+use Rattle.speedate_civil.proofs.time.Time.parse_or_place_front.Goals as goal
+
+pub returns-clause-answer : goal.returns-clause-answer
+returns-clause-answer c =
+    let same = time_front-view (λ (refused : Refused). refused.fault) placed
+    c.args.config.now.microseconds_precision_overflow_behavior c.args.bytes.now in
+    search rules
