@@ -36,14 +36,16 @@ export class SpeedateError extends RangeError {
   /** The number of the fault in C. */ readonly code: number;
   /** What was expected at the place, for people: `month, 01 to 12`. */ readonly expected: string;
   /** The text that is refused: of bytes a copy, for a front of those that were looked at. */ readonly text?: Text;
-  /** Where in the text the fault lies, as a Refusal has it. */ readonly place?: number;
+  /** Where in the text the fault lies, as a Refusal has it; of a line of a column in bytes. */ readonly place?: number;
+  /** Where the part ends that begins there, as a Refusal has it. */ readonly end?: number;
   /** Of a line of a column its index, from 0. */ readonly index?: number;
 }
 /** The result of a `safe` call, which returns a refusal where another throws it. */
 export type Answer<Value> = { readonly ok: true; readonly value: Value } | Refusal;
 /** A refusal as a `safe` call returns it. `place` is where in the text the fault lies, in units of a string, otherwise in bytes: 5 of
- * `2020-13-01`, and the length of a text that is too short. Within a character it is that of its beginning. It is found when it is read, so copies and proxies do not have it. */
-export type Refusal = { readonly ok: false; readonly fault: Fault; readonly code: number; readonly message: string; readonly expected: string; readonly place: number };
+ * `2020-13-01`, and the length of a text that is too short. Within a character it is that of its beginning. `end` is where the part ends that begins there, so that a
+ * form can mark it: 7 of `2020-13-01`, and the place if the part is missing. */
+export type Refusal = { readonly ok: false; readonly fault: Fault; readonly code: number; readonly message: string; readonly expected: string; readonly place: number; readonly end: number };
 /** The value at the front of a text, and its size in bytes of UTF-8, and in units of a string: 10 of `2020-02-29 rent`. */
 export type Front<Value, Text> = { readonly value: Value; readonly size: number } & (Text extends string ? { readonly length: number } : unknown);
 
@@ -100,7 +102,7 @@ export function safeParseTimeFront<It extends Text>(text: It, options?: Overflow
 export function safeParseDateTimeFront<It extends Text>(text: It, options?: OverflowOptions): Answer<Front<SpeedateDateTime, It>>;
 
 /** Why a schema refuses a value: as a Refusal has it, or the message alone of what is no string. */
-export type SchemaIssue = { readonly message: string; readonly fault?: Fault; readonly code?: number; readonly place?: number; readonly expected?: string };
+export type SchemaIssue = { readonly message: string; readonly fault?: Fault; readonly code?: number; readonly place?: number; readonly end?: number; readonly expected?: string };
 /** A schema as validators take it, by version 1 of the interface Standard Schema. */
 export type Schema<Value> = {
   readonly "~standard": {

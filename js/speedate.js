@@ -6,8 +6,8 @@ const ownModule = () => compiledOf(decoded("@MODULE@"));
 const NEEDED = "speedate needs WebAssembly with BigInt and bulk memory (Node 20, Chrome 115, Firefox 90, Safari 15) that a policy allows";
 
 /** Where what goes in and comes out stands in the memory, from the end of the module's own part. */
-const PLACE = { out: 0, taken: 16, config: 24, defaultConfig: 32, first: 40, second: 56, buffer: 72, text: 136 };
-const BUFFER_SIZE = BigInt(PLACE.text - PLACE.buffer);
+const PLACE = { out: 0, taken: 16, config: 24, defaultConfig: 32, first: 40, second: 56, buffer: 72, part: 136, text: 152 };
+const BUFFER_SIZE = BigInt(PLACE.part - PLACE.buffer);
 const PAGE_SIZE = 2 ** 16;
 /** A text of more bytes gets a library of its own, whose memory goes with it. */
 const MOST_KEPT = 2 ** 24;
@@ -15,6 +15,7 @@ const MOST_KEPT = 2 ** 24;
 const LINES_AT_ONCE = 2 ** 12;
 const BLOCK_SIZE = 2 ** 16;
 const LINE_FEED = 10;
+const CARRIAGE_RETURN = 13;
 /** Where a column stands in the memory while it is read, in the place of another text. */
 const COLUMN = { config: PLACE.text, progress: PLACE.text + 8, numbers: PLACE.text + 32 };
 COLUMN.errors = COLUMN.numbers + 8 * LINES_AT_ONCE;
@@ -34,39 +35,15 @@ export class SpeedateError extends RangeError {
   fault;
   code;
   expected;
-  constructor({ fault, code, message, expected }, text, place) {
+  constructor({ fault, code, message, expected }, text, part) {
     super(message);
     this.fault = fault;
     this.code = code;
     this.expected = expected;
-    if (place === undefined) return;
+    if (part === undefined) return;
     this.text = text;
-    this.place = place;
-  }
-}
-
-/** The answer to a text that is refused. */
-class Refusal {
-  ok = false;
-  fault;
-  code;
-  message;
-  expected;
-  #text;
-  #numbers;
-  #find;
-  constructor({ fault, code, message, expected }, text, numbers, find) {
-    this.fault = fault;
-    this.code = code;
-    this.message = message;
-    this.expected = expected;
-    this.#text = text;
-    this.#numbers = numbers;
-    this.#find = find;
-  }
-  // A proxy has nothing that is private.
-  get place() {
-    return #text in this ? placeOf(this.#text, this.#numbers, this.#find) : undefined;
+    this.place = part.place;
+    this.end = part.end;
   }
 }
 
@@ -107,7 +84,7 @@ const mapped = (all, map) => Object.fromEntries(Object.entries(all).map(([name, 
 
 export function init(module) {
   const names = WebAssembly.Module.exports(module).map((it) => it.name);
-  if (!names.includes("speedate_date_parse")) throw new TypeError("module has to be speedate.wasm, compiled");
+  if (!names.includes("speedate_date_parse_or_part")) throw new TypeError("module has to be speedate.wasm, compiled");
   if (kept !== undefined) return;
   compiled = module;
   const library = new Library(SHORT_SIZES.length);
@@ -136,13 +113,14 @@ function told(call, ...numbers) {
   return printed();
 }
 
-function faultOf(code, kind) {
-  const own = (faults[kind] ??= []);
-  own[code] ??= {
+const faultOf = (code, kind) => faults[kind]?.[code] ?? newFault(code, kind);
+function newFault(code, kind) {
+  const it = {
     fault: told(calls.speedate_code_name, code), code, message: told(calls.speedate_code_documentation, code),
     expected: told(calls.speedate_code_expected, code, kind),
   };
-  return own[code];
+  (faults[kind] ??= [])[code] = it;
+  return it;
 }
 
 /** Throws if this is the code of a call that refused. */
@@ -183,6 +161,9 @@ function bytesOf(text) {
   return bytes;
 }
 
+/** How many bytes the text had that was read last. */
+let lastSize;
+
 /** Puts a short string of ASCII alone into the kept memory, and gives its size; nothing for another text, or before the start. */
 function putShort(text) {
   if (typeof text !== "string" || text.length >= SHORT_SIZES.length || kept === undefined) return undefined;
@@ -192,7 +173,8 @@ function putShort(text) {
     if (unit > 127) return undefined;
     bytes[PLACE.text + i] = unit;
   }
-  return SHORT_SIZES[text.length];
+  lastSize = text.length;
+  return SHORT_SIZES[lastSize];
 }
 
 /** What a reader of a front can look at: 20 bytes, the digits after them, and an offset, with what tells that it ends. */
@@ -205,14 +187,11 @@ const stringUnit = (text, at) => text.charCodeAt(at);
 const byteAt = (text, at) => text[at];
 const frontOf = (text) => (typeof text === "string" && text.length > 32 ? text.slice(0, frontSize(text, text.length, stringUnit)) : text);
 
-/** The size of the last text that was read here, if that stands in the kept memory. */
-let lastSize;
-
 /** Has a text read by a call, and gives its code. What the call has written stands in the kept memory. */
 function read(text, isFront, numbers, call) {
   start();
-  lastSize = putShort(text);
-  if (lastSize !== undefined) return call(kept, lastSize, numbers);
+  const short = putShort(text);
+  if (short !== undefined) return call(kept, short, numbers);
   const bytes = bytesOf(text);
   const whole = byteCount.call(bytes);
   const size = isFront ? frontSize(bytes, whole, byteAt) : whole;
@@ -220,10 +199,9 @@ function read(text, isFront, numbers, call) {
   library.reserve(size);
   if (size < whole) for (let i = 0; i < size; i++) library.bytes[PLACE.text + i] = bytes[i];
   else library.bytes.set(bytes, PLACE.text);
-  const wide = size < SHORT_SIZES.length ? SHORT_SIZES[size] : BigInt(size);
-  const code = call(library, wide, numbers);
-  if (library === kept) lastSize = wide;
-  else kept.bytes.set(library.bytes.subarray(0, PLACE.config));
+  lastSize = whole;
+  const code = call(library, size < SHORT_SIZES.length ? SHORT_SIZES[size] : BigInt(size), numbers);
+  if (library !== kept) kept.bytes.set(library.bytes.subarray(0, PLACE.text));
   return code;
 }
 
@@ -500,61 +478,44 @@ const OPTIONS_OF = {
   timeColumn: ["strict", "overflow", "unit", "refusals"], timeOffsetColumn: ["strict", "overflow", "refusals"],
 };
 
-function callDate(library, size, it) {
-  if (it.timestamps === undefined) return library.calls.speedate_date_parse_rfc3339(address.text, size, address.out);
-  return library.calls.speedate_date_parse(address.text, size, putConfig(library, it), address.out);
+// Each writes the value, or the part for which the text is refused. A line of a column is a text too, at another address.
+function callDate(library, size, it, text = address.text) {
+  const { speedate_date_parse_or_part: all, speedate_date_parse_or_part_rfc3339: lax } = library.calls;
+  if (it.timestamps === undefined) return lax(text, size, address.out, address.part);
+  return all(text, size, putConfig(library, it), address.out, address.part);
 }
-function callTime(library, size, it) {
-  const { speedate_time_parse: lax, speedate_time_parse_strict: strict } = library.calls;
-  return (it.strict === 1 ? strict : lax)(address.text, size, putConfig(library, it), address.out);
+function callTime(library, size, it, text = address.text) {
+  const { speedate_time_parse_or_part: lax, speedate_time_parse_or_part_strict: strict } = library.calls;
+  return (it.strict === 1 ? strict : lax)(text, size, putConfig(library, it), address.out, address.part);
 }
-function callDateTime(library, size, it) {
-  const { speedate_datetime_parse: all, speedate_datetime_parse_rfc3339: lax, speedate_datetime_parse_strict: strict } = library.calls;
-  const parse = it.timestamps !== undefined ? all : it.strict === 1 ? strict : lax;
-  const code = parse(address.text, size, putConfig(library, it), address.out);
-  return code === 0 && it.missingOffset !== undefined ? withOffset(library, it) : code;
+function callDateTime(library, size, it, text = address.text) {
+  const { calls: inC } = library;
+  const lax = it.strict === 1 ? inC.speedate_datetime_parse_or_part_strict : inC.speedate_datetime_parse_or_part_rfc3339;
+  const parse = it.timestamps !== undefined ? inC.speedate_datetime_parse_or_part : lax;
+  const code = parse(text, size, putConfig(library, it), address.out, address.part);
+  return code === 0 && it.missingOffset !== undefined ? withOffset(library, size, it) : code;
 }
-/** The code of a date-time that was read. Without an offset it gets that of UTC, or is refused. */
-function withOffset({ view }, { missingOffset }) {
+/** The code of a date-time that was read. Without an offset it gets that of UTC, or is refused, at its end. */
+function withOffset({ view }, size, { missingOffset }) {
   const at = PLACE.out + 4;
   if (offsetOf(view, at) !== null) return 0;
-  if (missingOffset === MISSING.error) return CODE.tzRequired;
+  if (missingOffset === MISSING.error) {
+    view.setBigUint64(PLACE.part, size, true);
+    view.setBigUint64(PLACE.part + 8, size, true);
+    return CODE.tzRequired;
+  }
   view.setUint8(at + 3, 1);
   view.setInt32(at + 8, 0, true);
   return 0;
 }
-const callDuration = (library, size, it) => library.calls.speedate_duration_parse(address.text, size, putConfig(library, it), address.out);
-const callDateFront = ({ calls }, size) => calls.speedate_date_parse_front(address.text, size, address.out, address.taken);
+const callDuration = (library, size, it) =>
+  library.calls.speedate_duration_parse_or_part(address.text, size, putConfig(library, it), address.out, address.part);
+const callDateFront = ({ calls }, size) =>
+  calls.speedate_date_parse_or_part_front(address.text, size, address.out, address.taken, address.part);
 const callTimeFront = (library, size, it) =>
-  library.calls.speedate_time_parse_front(address.text, size, putConfig(library, it), address.out, address.taken);
+  library.calls.speedate_time_parse_or_part_front(address.text, size, putConfig(library, it), address.out, address.taken, address.part);
 const callDateTimeFront = (library, size, it) =>
-  library.calls.speedate_datetime_parse_front(address.text, size, putConfig(library, it), address.out, address.taken);
-
-// Beside each call stands the one that finds the place of an error in a text that it refuses.
-function findDate(library, size, it) {
-  if (it.timestamps === undefined) return library.calls.speedate_date_error_place_rfc3339(address.text, size, address.taken);
-  return library.calls.speedate_date_error_place(address.text, size, putConfig(library, it), address.taken);
-}
-function findTime(library, size, it) {
-  const { speedate_time_error_place: lax, speedate_time_error_place_strict: strict } = library.calls;
-  return (it.strict === 1 ? strict : lax)(address.text, size, putConfig(library, it), address.taken);
-}
-function findDateTime(library, size, it) {
-  const { calls: inC } = library;
-  const lax = it.strict === 1 ? inC.speedate_datetime_error_place_strict : inC.speedate_datetime_error_place_rfc3339;
-  const find = it.timestamps !== undefined ? inC.speedate_datetime_error_place : lax;
-  const code = find(address.text, size, putConfig(library, it), address.taken);
-  // A text that C accepts lacks an offset, at its end.
-  if (code === 0) library.view.setBigUint64(PLACE.taken, size, true);
-  return code;
-}
-const findDuration = (library, size, it) =>
-  library.calls.speedate_duration_error_place(address.text, size, putConfig(library, it), address.taken);
-const findDateFront = ({ calls }, size) => calls.speedate_date_error_place_front(address.text, size, address.taken);
-const findTimeFront = (library, size, it) =>
-  library.calls.speedate_time_error_place_front(address.text, size, putConfig(library, it), address.taken);
-const findDateTimeFront = (library, size, it) =>
-  library.calls.speedate_datetime_error_place_front(address.text, size, putConfig(library, it), address.taken);
+  library.calls.speedate_datetime_parse_or_part_front(address.text, size, putConfig(library, it), address.out, address.taken, address.part);
 
 /** The numbers of the options of the last text for which there were any. */
 let lastNumbers;
@@ -562,22 +523,22 @@ let lastNumbers;
 // Options come first, since their getters may call this too.
 function codeOfDate(text, options) {
   const size = options === undefined ? putShort(text) : undefined;
-  if (size !== undefined) return calls.speedate_date_parse_rfc3339(address.text, size, address.out);
+  if (size !== undefined) return calls.speedate_date_parse_or_part_rfc3339(address.text, size, address.out, address.part);
   return read(text, false, lastNumbers = numbersOf(options, OPTIONS_OF.date), callDate);
 }
 function codeOfTime(text, options) {
   const size = options === undefined ? putShort(text) : undefined;
-  if (size !== undefined) return calls.speedate_time_parse(address.text, size, address.defaultConfig, address.out);
+  if (size !== undefined) return calls.speedate_time_parse_or_part(address.text, size, address.defaultConfig, address.out, address.part);
   return read(text, false, lastNumbers = numbersOf(options, OPTIONS_OF.time), callTime);
 }
 function codeOfDateTime(text, options) {
   const size = options === undefined ? putShort(text) : undefined;
-  if (size !== undefined) return calls.speedate_datetime_parse_rfc3339(address.text, size, address.defaultConfig, address.out);
+  if (size !== undefined) return calls.speedate_datetime_parse_or_part_rfc3339(address.text, size, address.defaultConfig, address.out, address.part);
   return read(text, false, lastNumbers = numbersOf(options, OPTIONS_OF.dateTime), callDateTime);
 }
 function codeOfDuration(text, options) {
   const size = options === undefined ? putShort(text) : undefined;
-  if (size !== undefined) return calls.speedate_duration_parse(address.text, size, address.defaultConfig, address.out);
+  if (size !== undefined) return calls.speedate_duration_parse_or_part(address.text, size, address.defaultConfig, address.out, address.part);
   return read(text, false, lastNumbers = numbersOf(options, OPTIONS_OF.duration), callDuration);
 }
 const codeOfDateFront = (text, options) => read(frontOf(text), true, lastNumbers = numbersOf(options, OPTIONS_OF.dateFront), callDateFront);
@@ -588,36 +549,29 @@ const codeOfDateTimeFront = (text, options) => read(frontOf(text), true, lastNum
 const seenOf = (text) =>
   typeof text === "string" ? text : new Uint8Array(bufferOf.call(text), byteOffset.call(text), frontSize(text, byteCount.call(text), byteAt));
 
-// Bytes may have been written to by the time that a refusal is looked at.
+// Bytes may have been written to by the time that an error is looked at.
 const keptText = (text) => (typeof text === "string" ? text : new Uint8Array(text));
-const keptNumbers = (options) => (options === undefined ? NO_OPTIONS : lastNumbers);
+/** The kind of the call that was made last. */
+const lastKind = (kinds, options) => (options === undefined ? kinds.lax : kindOf(kinds, lastNumbers));
 
-/** The answer to a text that a call has refused with this code. It keeps what its place is found from, once that is asked for. */
-function refusal(code, text, options, find, kinds) {
-  const numbers = keptNumbers(options);
-  return new Refusal(faultOf(code, kindOf(kinds, numbers)), keptText(text), numbers, find);
+/** The answer to a text that a call has refused with this code. Of a text that is read at its front it has seen so much. */
+function refusal(code, seen, options, kinds) {
+  const { fault, message, expected } = faultOf(code, lastKind(kinds, options));
+  const { place, end } = partOf(seen);
+  return { ok: false, fault, code, message, expected, place, end };
 }
-/** The error. It has its place as a property of its own: beside an error, whose stack is told, that is little to find. */
-function errorOf(code, text, options, find, kinds) {
-  const numbers = keptNumbers(options);
-  const place = placeOfLast(text, numbers, find);
-  return new SpeedateError(faultOf(code, kindOf(kinds, numbers)), keptText(text), place);
+/** The error. */
+function errorOf(code, text, options, kinds, seen = text) {
+  return new SpeedateError(faultOf(code, lastKind(kinds, options)), keptText(text), partOf(seen));
 }
 
-/** The place of an error in a text that was refused, and in the one that was refused last. */
-function placeOf(text, numbers, find) {
-  read(text, false, numbers, find);
-  return placeIn(text);
-}
-function placeOfLast(text, numbers, find) {
-  const size = putShort(text) ?? lastSize;
-  if (size === undefined) return placeOf(text, numbers, find);
-  find(kept, size, numbers);
-  return placeIn(text);
-}
-function placeIn(text) {
-  const place = takenSize();
-  return typeof text === "string" ? unitsBefore(text, place) : place;
+/** The part for which the text was refused that was read last: in units of a string, otherwise in bytes. */
+function partOf(text) {
+  const { view } = kept;
+  const place = view.getUint32(PLACE.part, true);
+  const end = view.getUint32(PLACE.part + 8, true);
+  if (typeof text !== "string" || text.length === lastSize) return { place, end };
+  return { place: unitsBefore(text, place), end: end === lastSize ? text.length : unitsBefore(text, end) };
 }
 
 /** The units of a string before this many of its bytes: whole characters alone, since a place may lie within one. */
@@ -633,39 +587,39 @@ function unitsBefore(text, size) {
 
 export function parseDate(text, options) {
   const code = codeOfDate(text, options);
-  if (code !== 0) throw errorOf(code, text, options, findDate, KINDS.date);
+  if (code !== 0) throw errorOf(code, text, options, KINDS.date);
   return DATE.read(kept);
 }
 export function parseTime(text, options) {
   const code = codeOfTime(text, options);
-  if (code !== 0) throw errorOf(code, text, options, findTime, KINDS.time);
+  if (code !== 0) throw errorOf(code, text, options, KINDS.time);
   return TIME.read(kept);
 }
 export function parseDateTime(text, options) {
   const code = codeOfDateTime(text, options);
-  if (code !== 0) throw errorOf(code, text, options, findDateTime, KINDS.dateTime);
+  if (code !== 0) throw errorOf(code, text, options, KINDS.dateTime);
   return DATE_TIME.read(kept);
 }
 export function parseDuration(text, options) {
   const code = codeOfDuration(text, options);
-  if (code !== 0) throw errorOf(code, text, options, findDuration, KINDS.duration);
+  if (code !== 0) throw errorOf(code, text, options, KINDS.duration);
   return DURATION.read(kept);
 }
 export function safeParseDate(text, options) {
   const code = codeOfDate(text, options);
-  return code === 0 ? { ok: true, value: DATE.read(kept) } : refusal(code, text, options, findDate, KINDS.date);
+  return code === 0 ? { ok: true, value: DATE.read(kept) } : refusal(code, text, options, KINDS.date);
 }
 export function safeParseTime(text, options) {
   const code = codeOfTime(text, options);
-  return code === 0 ? { ok: true, value: TIME.read(kept) } : refusal(code, text, options, findTime, KINDS.time);
+  return code === 0 ? { ok: true, value: TIME.read(kept) } : refusal(code, text, options, KINDS.time);
 }
 export function safeParseDateTime(text, options) {
   const code = codeOfDateTime(text, options);
-  return code === 0 ? { ok: true, value: DATE_TIME.read(kept) } : refusal(code, text, options, findDateTime, KINDS.dateTime);
+  return code === 0 ? { ok: true, value: DATE_TIME.read(kept) } : refusal(code, text, options, KINDS.dateTime);
 }
 export function safeParseDuration(text, options) {
   const code = codeOfDuration(text, options);
-  return code === 0 ? { ok: true, value: DURATION.read(kept) } : refusal(code, text, options, findDuration, KINDS.duration);
+  return code === 0 ? { ok: true, value: DURATION.read(kept) } : refusal(code, text, options, KINDS.duration);
 }
 
 /** A value that was read at the front of a text, with its size. */
@@ -683,30 +637,30 @@ function unitsOf(text, size) {
 
 export function parseDateFront(text, options) {
   const code = codeOfDateFront(text, options);
-  if (code !== 0) throw errorOf(code, seenOf(text), options, findDateFront, KINDS.date);
+  if (code !== 0) throw errorOf(code, seenOf(text), options, KINDS.date, frontOf(text));
   return frontAnswer(DATE.read(kept), text);
 }
 export function parseTimeFront(text, options) {
   const code = codeOfTimeFront(text, options);
-  if (code !== 0) throw errorOf(code, seenOf(text), options, findTimeFront, KINDS.time);
+  if (code !== 0) throw errorOf(code, seenOf(text), options, KINDS.time, frontOf(text));
   return frontAnswer(TIME.read(kept), text);
 }
 export function parseDateTimeFront(text, options) {
   const code = codeOfDateTimeFront(text, options);
-  if (code !== 0) throw errorOf(code, seenOf(text), options, findDateTimeFront, KINDS.dateTime);
+  if (code !== 0) throw errorOf(code, seenOf(text), options, KINDS.dateTime, frontOf(text));
   return frontAnswer(DATE_TIME.read(kept), text);
 }
 export function safeParseDateFront(text, options) {
   const code = codeOfDateFront(text, options);
-  return code === 0 ? { ok: true, value: frontAnswer(DATE.read(kept), text) } : refusal(code, seenOf(text), options, findDateFront, KINDS.date);
+  return code === 0 ? { ok: true, value: frontAnswer(DATE.read(kept), text) } : refusal(code, frontOf(text), options, KINDS.date);
 }
 export function safeParseTimeFront(text, options) {
   const code = codeOfTimeFront(text, options);
-  return code === 0 ? { ok: true, value: frontAnswer(TIME.read(kept), text) } : refusal(code, seenOf(text), options, findTimeFront, KINDS.time);
+  return code === 0 ? { ok: true, value: frontAnswer(TIME.read(kept), text) } : refusal(code, frontOf(text), options, KINDS.time);
 }
 export function safeParseDateTimeFront(text, options) {
   const code = codeOfDateTimeFront(text, options);
-  return code === 0 ? { ok: true, value: frontAnswer(DATE_TIME.read(kept), text) } : refusal(code, seenOf(text), options, findDateTimeFront, KINDS.dateTime);
+  return code === 0 ? { ok: true, value: frontAnswer(DATE_TIME.read(kept), text) } : refusal(code, frontOf(text), options, KINDS.dateTime);
 }
 
 // ---- Schemas ----
@@ -714,8 +668,8 @@ export function safeParseDateTimeFront(text, options) {
 /** The calls of schemas, by their kinds, which are those of the options. */
 const SCHEMAS = { date: safeParseDate, time: safeParseTime, dateTime: safeParseDateTime, duration: safeParseDuration };
 
-function issueOf({ message, fault, code, place, expected }) {
-  return { message, fault, code, place, expected };
+function issueOf({ message, fault, code, place, end, expected }) {
+  return { message, fault, code, place, end, expected };
 }
 
 export function schema(kind, options) {
@@ -748,8 +702,10 @@ const INTEGERS = { Numbers: Int32Array, numberAt: (view, at) => view.getInt32(at
 const MILLISECONDS = { Numbers: Float64Array, numberAt: millisecondsAt };
 const MICROSECONDS = { Numbers: BigInt64Array, numberAt: (view, at) => view.getBigInt64(at, true) };
 
-/** A column of which pieces come: how it is read, of which kind, how many lines it had, and what it has of an unfinished one. */
-const columnOf = (name, kinds, handedOut, numbers) => ({ name, kind: kindOf(kinds, numbers), ...handedOut, numbers, lines: 0, unfinished: [], hasEnded: false });
+/** A column of which pieces come: how it is read, and a line of it alone, of which kind, how many lines it had, and what it has
+ * of an unfinished one. */
+const columnOf = (name, callLine, kinds, handedOut, numbers) =>
+  ({ name, callLine, kind: kindOf(kinds, numbers), ...handedOut, numbers, lines: 0, unfinished: [], hasEnded: false });
 
 /** Writes how a column is read into the memory of a library, and gives its address: returns are dropped, and a refused line ends it. */
 function putColumnConfig({ start, view }, { timestamps, strict, missingOffset = MISSING.error }, isEnd) {
@@ -778,7 +734,7 @@ function putUnfinished({ unfinished }) {
 /** Has the library read what is unfinished, and keeps of it what follows its lines. Adds to the parts arrays of numbers, and to
  * the refusals those of lines. */
 function readLines(column, isEnd, parts, refusals) {
-  const { name, kind, numbers } = column;
+  const { name, numbers } = column;
   const { library, end } = putUnfinished(column);
   const { bytes, view, calls: inC } = library;
   const addressOf = (place) => BigInt(library.start + place);
@@ -793,12 +749,13 @@ function readLines(column, isEnd, parts, refusals) {
   do {
     accept(call(addressOf(at), BigInt(end - at), ...configs, ...out));
     lines = view.getUint32(COLUMN.progress, true);
-    at += view.getUint32(COLUMN.progress + 8, true);
+    const next = at + view.getUint32(COLUMN.progress + 8, true);
     const error = view.getInt32(COLUMN.progress + 16, true);
-    if (error !== 0) throw Object.assign(new SpeedateError(faultOf(error, kind)), { index: column.lines + lines });
+    if (error !== 0) throw Object.assign(new SpeedateError(faultOf(error, column.kind)), { ...partOfLine(library, next, end, column), index: column.lines + lines });
     parts.push(numbersIn(view, lines, column));
     if (hasErrors) addRefusals(refusals, bytes.subarray(COLUMN.errors, COLUMN.errors + lines), column);
     column.lines += lines;
+    at = next;
   } while (lines === LINES_AT_ONCE);
   column.unfinished = [bytes.slice(at, end)];
 }
@@ -815,6 +772,16 @@ function addRefusals(refusals, errors, { kind, lines }) {
     if (errors[i] === 0) continue;
     refusals.push({ index: lines + i, ...faultOf(errors[i], kind) });
   }
+}
+
+/** The part for which the line is refused that ends a column, in bytes. What a column alone refuses lacks an offset, at its end. */
+function partOfLine(library, at, textEnd, { callLine, numbers }) {
+  const { bytes, view } = library;
+  const feed = bytes.subarray(at, textEnd).indexOf(LINE_FEED);
+  const end = feed < 0 ? textEnd : at + feed;
+  const size = (end > at && bytes[end - 1] === CARRIAGE_RETURN ? end - 1 : end) - at;
+  if (callLine(library, BigInt(size), numbers, BigInt(library.start + at)) === 0) return { place: size, end: size };
+  return { place: view.getUint32(PLACE.part, true), end: view.getUint32(PLACE.part + 8, true) };
 }
 
 /** The numbers of the lines that a piece ends. A column whose piece was refused has ended. */
@@ -846,20 +813,21 @@ function concatenated(parts, Numbers) {
   return all;
 }
 
-/** What begins a column by its options: its call in C, the kinds of its lines, the options that it has, and how its numbers are handed out. */
-const beginner = (name, kinds, names, handedOutBy) => (options) => {
+/** What begins a column by its options: its call in C, that of one line, the kinds of its lines, the options that it has, and how
+ * its numbers are handed out. */
+const beginner = (name, callLine, kinds, names, handedOutBy) => (options) => {
   const numbers = numbersOf(options, names);
   start();
-  return columnOf(name, kinds, handedOutBy(numbers), numbers);
+  return columnOf(name, callLine, kinds, handedOutBy(numbers), numbers);
 };
 const asIntegers = () => INTEGERS;
 const inUnit = ({ unit }) => (unit === 1 ? MICROSECONDS : MILLISECONDS);
-const newDateColumn = beginner("date_column", KINDS.date, OPTIONS_OF.dateColumn, asIntegers);
-const newDateTimeColumn = beginner("datetime_column", KINDS.dateTime, OPTIONS_OF.dateTimeColumn, inUnit);
-const newDateTimeClockColumn = beginner("datetime_clock_column", KINDS.dateTime, OPTIONS_OF.dateTimeClockColumn, inUnit);
-const newDateTimeOffsetColumn = beginner("datetime_offset_column", KINDS.dateTime, OPTIONS_OF.dateTimeOffsetColumn, asIntegers);
-const newTimeColumn = beginner("time_column", KINDS.time, OPTIONS_OF.timeColumn, inUnit);
-const newTimeOffsetColumn = beginner("time_offset_column", KINDS.time, OPTIONS_OF.timeOffsetColumn, asIntegers);
+const newDateColumn = beginner("date_column", callDate, KINDS.date, OPTIONS_OF.dateColumn, asIntegers);
+const newDateTimeColumn = beginner("datetime_column", callDateTime, KINDS.dateTime, OPTIONS_OF.dateTimeColumn, inUnit);
+const newDateTimeClockColumn = beginner("datetime_clock_column", callDateTime, KINDS.dateTime, OPTIONS_OF.dateTimeClockColumn, inUnit);
+const newDateTimeOffsetColumn = beginner("datetime_offset_column", callDateTime, KINDS.dateTime, OPTIONS_OF.dateTimeOffsetColumn, asIntegers);
+const newTimeColumn = beginner("time_column", callTime, KINDS.time, OPTIONS_OF.timeColumn, inUnit);
+const newTimeOffsetColumn = beginner("time_offset_column", callTime, KINDS.time, OPTIONS_OF.timeOffsetColumn, asIntegers);
 const readerOf = (column) => ({
   read: (text) => readPiece(column, text, false),
   end: (text = "") => readPiece(column, text, true),

@@ -30,22 +30,27 @@ function linesOf(text) {
 
 /** What a line has in a column of dates. */
 function day(line, { timestamps }) {
-  const { ok, value, ...refusal } = safeParseDate(line, { timestamps });
+  const { ok, value, ...refusal } = safeParseDate(Buffer.from(line), { timestamps });
   return ok ? { number: daysSince(value, EPOCH) } : { number: SMALLEST, refusal };
 }
 
 /** Of a decimal text JavaScript makes the nearest double. */
 const inUnit = (microseconds, unit) => (unit === "us" ? microseconds : Number(`${microseconds}e-3`));
 const TZ_REQUIRED = safeParseDateTime("2020-02-29T12:13:14", { strict: true });
+/** The refusal of a line that is accepted where no offset is wanted. */
+function lacksOffset(line) {
+  const { ok, ...refusal } = TZ_REQUIRED;
+  return { ...refusal, place: line.length, end: line.length };
+}
 
 /** What a line has in a column of date-times. */
 function moment(line, { missingOffset, unit, refusals, ...options }) {
-  const { ok, value, ...refusal } = safeParseDateTime(line, options);
+  const { ok, value, ...refusal } = safeParseDateTime(Buffer.from(line), options);
   const refused = { number: unit === "us" ? TOO_FEW_MICROSECONDS : NaN };
   if (!ok) return { ...refused, refusal };
   if (value.offsetSeconds === null && missingOffset !== "utc") {
-    const { ok, ...refusal } = TZ_REQUIRED;
-    assert.deepEqual({ ...safeParseDateTime(line, { ...options, missingOffset: missingOffset ?? "error" }) }, { ...TZ_REQUIRED }, line);
+    const refusal = lacksOffset(line);
+    assert.deepEqual(safeParseDateTime(line, { ...options, missingOffset: missingOffset ?? "error" }), { ok: false, ...refusal }, line);
     return { ...refused, refusal };
   }
   assert.deepEqual(safeParseDateTime(line, { ...options, missingOffset: missingOffset ?? "error" }).value, { ...value, offsetSeconds: value.offsetSeconds ?? 0 }, line);
@@ -55,7 +60,7 @@ function moment(line, { missingOffset, unit, refusals, ...options }) {
 
 /** What a line has in a column of what clocks show, by the call of its text, and by the date on which the clock stands if it shows none. */
 const clockBy = (safeParse, date) => (line, { unit, refusals, ...options }) => {
-  const { ok, value, ...refusal } = safeParse(line, options);
+  const { ok, value, ...refusal } = safeParse(Buffer.from(line), options);
   if (!ok) return { number: unit === "us" ? TOO_FEW_MICROSECONDS : NaN, refusal };
   const milliseconds = epochMilliseconds({ ...date, ...value, offsetSeconds: 0 });
   return { number: inUnit(BigInt(milliseconds) * 1000n + BigInt(value.microsecond), unit) };
@@ -63,11 +68,10 @@ const clockBy = (safeParse, date) => (line, { unit, refusals, ...options }) => {
 
 /** What a line has in a column of offsets, by the call of its text. */
 const offsetBy = (safeParse) => (line, { refusals, ...options }) => {
-  const { ok, value, ...refusal } = safeParse(line, options);
+  const { ok, value, ...refusal } = safeParse(Buffer.from(line), options);
   if (!ok) return { number: SMALLEST, refusal };
   if (value.offsetSeconds !== null) return { number: value.offsetSeconds };
-  const { ok: _, ...required } = TZ_REQUIRED;
-  return { number: SMALLEST, refusal: required };
+  return { number: SMALLEST, refusal: lacksOffset(line) };
 };
 
 const asIntegers = () => Int32Array;
@@ -76,8 +80,8 @@ const byUnit = ({ unit }) => (unit === "us" ? BigInt64Array : Float64Array);
 /** What a column and its refusals have to be. */
 function expected({ of, Numbers }, text, options) {
   const lines = linesOf(text).map((it) => of(it, options));
-  const refusals = lines.flatMap(({ refusal }, index) => (refusal ? [{ index, ...refusal }] : []));
-  return { numbers: Numbers(options).from(lines, (it) => it.number), refusals };
+  const refused = lines.flatMap(({ refusal }, index) => (refusal ? [{ index, ...refusal }] : []));
+  return { numbers: Numbers(options).from(lines, (it) => it.number), refusals: refused.map(({ place, end, ...refusal }) => refusal), first: refused[0] };
 }
 
 const thrown = (call) => {
@@ -90,7 +94,7 @@ const thrown = (call) => {
 
 /** Compares a column, by both ways of refusing, and gives the number of lines that are refused. */
 function compareColumn(kind, text, options) {
-  const { numbers, refusals } = expected(kind, text, options);
+  const { numbers, refusals, first } = expected(kind, text, options);
   for (const it of [text, Buffer.from(text)]) {
     const list = [];
     assert.deepEqual(kind.column(it, { ...options, refusals: list }), numbers, text);
@@ -99,7 +103,7 @@ function compareColumn(kind, text, options) {
     else {
       const error = thrown(() => kind.column(it, options));
       assert.ok(error instanceof SpeedateError, text);
-      assert.deepEqual({ ...error, message: error.message }, { name: "SpeedateError", ...refusals[0] }, text);
+      assert.deepEqual({ ...error, message: error.message }, { name: "SpeedateError", ...first }, text);
     }
   }
   return refusals.length;
@@ -200,7 +204,7 @@ for (const [kind, text, options] of [
   [KINDS[2], TEXT, {}], [KINDS[3], TEXT, {}], [KINDS[4], TIMES_TEXT, { unit: "us" }], [KINDS[5], TIMES_TEXT, {}],
 ]) {
   const bytes = Buffer.from(text);
-  const whole = expected(kind, text, options);
+  const { first, ...whole } = expected(kind, text, options);
   for (let i = 0; i <= bytes.length; i++) {
     assert.deepEqual(byPieces(kind, [bytes.subarray(0, i), bytes.subarray(i)], options), whole, `cut at ${i}`);
     for (let j = i; j <= Math.min(i + 3, bytes.length); j++) assert.deepEqual(byPieces(kind, [bytes.subarray(0, i), bytes.subarray(i, j), bytes.subarray(j)], options), whole, `cut at ${i} and ${j}`);

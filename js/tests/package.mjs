@@ -158,9 +158,9 @@ for (const [kind, [text, options]] of Object.entries(SCHEMAS)) {
   const { "~standard": standard, ...others } = speedate.schema(kind);
   assert.deepEqual([others, Object.keys(standard), standard.version, standard.vendor], [{}, ["version", "vendor", "validate"], 1, "speedate"]);
   for (const [it, chosen] of [[text], [text, options], ["86400", options], ["x"], [""]]) {
-    const { ok, value, fault, code, message, place, expected } = parse(it, chosen);
+    const { ok, value, fault, code, message, place, end, expected } = parse(it, chosen);
     const { validate } = speedate.schema(kind, chosen)["~standard"];
-    assert.deepEqual(validate(it), ok ? { value } : { issues: [{ message, fault, code, place, expected }] }, `${kind} ${it}`);
+    assert.deepEqual(validate(it), ok ? { value } : { issues: [{ message, fault, code, place, end, expected }] }, `${kind} ${it}`);
   }
   for (const it of [undefined, null, 5, new Date(), Buffer.from(text), new String(text)]) assert.deepEqual(standard.validate(it), { issues: [{ message: "expected a string" }] });
   const given = { ...options };
@@ -179,7 +179,7 @@ const thrown = (call) => {
   }
 };
 const error = thrown(() => parseDate("x"));
-assert.deepEqual({ ...error }, { name: "SpeedateError", fault: "too_short", code: 1, expected: "a date: YYYY-MM-DD", text: "x", place: 1 });
+assert.deepEqual({ ...error }, { name: "SpeedateError", fault: "too_short", code: 1, expected: "a date: YYYY-MM-DD", text: "x", place: 1, end: 1 });
 // What is expected goes by the call, and by what the options have it read.
 for (const [call, text, options, expected] of [
   ["Date", "2020-13-01", undefined, "month, 01 to 12"],
@@ -208,7 +208,7 @@ for (const [read, text] of [[speedate.dateTimeColumn, "2020-02-29T12:13"], [spee
   speedate.dateTimeColumn("2020-02-29 12:13Z\nx", { strict: true, refusals });
   assert.deepEqual(refusals.map((it) => it.expected), ["T or t, then a time", "a date-time with an offset, as YYYY-MM-DDTHH:MM:SSZ"]);
 }
-for (const it of [inspect(error), inspect(thrown(() => parseTime("12:13\u221201:60")))]) assert.match(it, /^SpeedateError: [^]*text: '[^']+',\n *place: \d+\n}$/, "what a log shows");
+for (const it of [inspect(error), inspect(thrown(() => parseTime("12:13\u221201:60")))]) assert.match(it, /^SpeedateError: [^]*text: '[^']+',\n *place: \d+,\n *end: \d+\n}$/, "what a log shows");
 assert.equal(String(error), "SpeedateError: input is too short");
 assert.match(error.stack, /\bparseDate\b/);
 for (const [name, it] of Object.entries(speedate)) assert.equal(it.name, name);
@@ -259,7 +259,7 @@ assert.deepEqual(parseDate("2020-02-29"), date);
 // ---- Values, long texts, and many ----
 
 assert.deepEqual(duration, { sign: -1, days: -1, seconds: 0, milliseconds: -1, microseconds: -2 });
-assert.deepEqual({ ...safeParseDate("x") }, { ok: false, fault: "too_short", code: 1, message: "input is too short", expected: "a date: YYYY-MM-DD" });
+assert.deepEqual(safeParseDate("x"), { ok: false, fault: "too_short", code: 1, message: "input is too short", expected: "a date: YYYY-MM-DD", place: 1, end: 1 });
 assert.deepEqual(fromDate(toDate(dateTime)), dateTime);
 assert.equal(format(speedate.durationFromMicroseconds(-1500000)), "-PT1.5S");
 for (const it of [2n ** 63n, -(2n ** 63n) - 1n, 0.5, 2 ** 63]) assert.throws(() => speedate.durationFromMicroseconds(it), RangeError);
@@ -295,9 +295,12 @@ const PLACES = [
 ];
 for (const [name, text, units, bytes, options] of PLACES) {
   for (const [it, place] of [[text, units], [Buffer.from(text), bytes]]) {
-    assert.equal(speedate[`safeParse${name}`](it, options).place, place, text);
+    const answer = speedate[`safeParse${name}`](it, options);
+    assert.equal(answer.place, place, text);
+    assert.ok(Object.hasOwn(answer, "place") && Object.getPrototypeOf(answer) === Object.prototype && new Proxy(answer, {}).place === place, "an answer is a plain object");
     const raised = thrown(() => speedate[`parse${name}`](it, options));
-    assert.equal(raised.place, place, text);
+    assert.deepEqual([raised.place, raised.end], [place, answer.end], text);
+    assert.ok(answer.end >= place && answer.end <= it.length, text);
     const seen = typeof it === "string" || !name.endsWith("Front") ? it : it.subarray(0, raised.text.length);
     assert.ok(raised.text.length >= raised.place, text);
     assert.ok(typeof it === "string" ? raised.text === it : Buffer.compare(raised.text, seen) === 0 && raised.text.buffer !== it.buffer, text);
@@ -307,10 +310,25 @@ for (const [name, text, units, bytes, options] of PLACES) {
 const options = { overflow: "truncate" };
 const [answer, raised] = [speedate.safeParseTime("12:13:14.1234567x", options), thrown(() => parseTime("12:13:14.1234567x", options))];
 const fields = { fault: "invalid_char_tz_sign", code: 14, expected: "after the clock at most an offset: Z or +01:00" };
-for (const copy of [JSON.parse(JSON.stringify(answer)), structuredClone(answer), { ...answer }]) assert.deepEqual(copy, { ok: false, ...fields, message: raised.message });
-assert.deepEqual({ ...raised }, { name: "SpeedateError", ...fields, text: "12:13:14.1234567x", place: 16 });
-assert.throws(() => (answer.place = 1), TypeError);
-assert.equal(new Proxy(answer, {}).place, undefined, "a proxy of an answer has no place");
+for (const copy of [JSON.parse(JSON.stringify(answer)), structuredClone(answer), { ...answer }]) assert.deepEqual(copy, { ok: false, ...fields, message: raised.message, place: 16, end: 17 });
+assert.deepEqual({ ...raised }, { name: "SpeedateError", ...fields, text: "12:13:14.1234567x", place: 16, end: 17 });
+/** A reader, a text that it refuses, and the end of the part in a string and in bytes. */
+const ENDS = [
+  ["Date", "2020-13-01", 7, 7], ["Date", "2020-01-01T12:13", 16, 16], ["Date", "", 0, 0], ["Date", "86401", 5, 5, { timestamps: "s" }],
+  ["Date", "202\u00e9-01-01", 4, 5], ["Date", "2020\u{1f4c5}01-01", 6, 8], ["Date", "2020\ud83d01-01", 5, 7], ["Date", `2020-01-01${"\u00e9".repeat(70)}`, 80, 150],
+  ["Date", `2020-01-01${"\u00e9".repeat(2 ** 24)}`, 2 ** 24 + 10, 2 ** 25 + 10],
+  ["Time", "9:30 AM", 1, 1], ["Time", "12:13:14\u{1f552}", 10, 12], ["Time", "12:13\u221201:60", 11, 13], ["Time", "12:13:14\u221208:00", 9, 11, { strict: true }],
+  ["Time", "12:13:14.12345678", 17, 17], ["Time", "12:13:14.5", 10, 10, { strict: true }],
+  ["DateTime", "2020-02-29T1:13:14", 12, 12], ["DateTime", "1.00000000Z", 4, 4], ["DateTime", "1.00000000", 10, 10, { timestamps: "s" }], ["DateTime", "2020-02-29T12:13", 16, 16, { missingOffset: "error" }],
+  ["Duration", "1h30m", 2, 2], ["Duration", "1 day, 24:00", 9, 9], ["Duration", `00:0${"\u00e9".repeat(7)}`, 10, 16], ["Duration", "P1DT4294967296S", 14, 14],
+  ["DateFront", "2021-02-29 opening", 10, 10], ["TimeFront", `12:13:14.${"5".repeat(100)} opening \u00e9`, 109, 109], ["DateTimeFront", "2020-02-29T12:13\u22121 opening", 19, 21],
+];
+for (const [name, text, units, bytes, options] of ENDS) {
+  for (const [it, end] of [[text, units], [Buffer.from(text), bytes]]) {
+    assert.equal(speedate[`safeParse${name}`](it, options).end, end, text.slice(0, 40));
+    assert.equal(thrown(() => speedate[`parse${name}`](it, options)).end, end, text.slice(0, 40));
+  }
+}
 options.overflow = "error";
 safeParseDate("2020-02-29", { get timestamps() { assert.equal(raised.place, 16); } });
 assert.equal(parseTime("12:13:14.1234567", { get overflow() { assert.equal(answer.place, 16); return "truncate"; } }).microsecond, 456);
@@ -321,13 +339,15 @@ for (const [call, text, place] of [["Time", "12:13:60", 6], ["TimeFront", `12:13
   changed.fill(0);
   assert.deepEqual(both.map((it) => it.place), [place, place], "a place is that of the bytes that were refused");
 }
-for (const call of [() => addDays({ ...date, day: 32 }, 1), () => format({ ...date, day: 32 }), () => dateFromTimestamp(1, "s"), () => parseDate("x", { other: 1 }), () => speedate.dateColumn("x")])
-  for (const name of ["text", "place"]) assert.ok(!(name in thrown(call)), "a place is that of a text");
+for (const call of [() => addDays({ ...date, day: 32 }, 1), () => format({ ...date, day: 32 }), () => dateFromTimestamp(1, "s"), () => parseDate("x", { other: 1 })])
+  for (const name of ["text", "place", "end"]) assert.ok(!(name in thrown(call)), "a place is that of a text");
+const ofLine = thrown(() => speedate.dateColumn("1970-01-01\n2021-02-2\u2212\r\n"));
+assert.deepEqual([ofLine.index, ofLine.fault, ofLine.place, ofLine.end], [1, "invalid_char_day", 8, 12], "a place in a line is counted in bytes");
 
 // Readers answer as the functions of C do. Of a long line one of fronts gets no more than it can look at, and C all of it.
 const { memory, __heap_base: base, ...inC } = new WebAssembly.Instance(wasm).exports;
 memory.grow(1);
-const [OUT, TAKEN, CONFIG, TEXT] = [0, 16, 24, 32].map((it) => Number(base.value) + it);
+const [OUT, TAKEN, CONFIG, PART, TEXT] = [0, 16, 24, 32, 48].map((it) => Number(base.value) + it);
 const UNITS = ["infer", "s", "ms", "us"];
 /** The code that C gives of a text, and in bytes the size of a front, or the place of the error. */
 function answerInC(kind, how, bytes, { timestamps = "infer", overflow = "error", isoOrder = "lax" }) {
@@ -339,9 +359,9 @@ function answerInC(kind, how, bytes, { timestamps = "infer", overflow = "error",
   const config = kind === "date" && how !== "" ? [] : [BigInt(CONFIG)];
   const given = [BigInt(TEXT), BigInt(bytes.length), ...config];
   const taken = how === "_front" ? [BigInt(TAKEN)] : [];
-  const code = inC[`speedate_${kind}_parse${how}`](...given, BigInt(OUT), ...taken);
-  if (code !== 0) assert.equal(inC[`speedate_${kind}_error_place${how}`](...given, BigInt(TAKEN)), code);
-  return [code, code === 0 && how !== "_front" ? undefined : view.getUint32(TAKEN, true)];
+  const code = inC[`speedate_${kind}_parse_or_part${how}`](...given, BigInt(OUT), ...taken, BigInt(PART));
+  if (code !== 0) return [code, view.getUint32(PART, true)];
+  return [code, how === "_front" ? view.getUint32(TAKEN, true) : undefined];
 }
 /** How many units of a string end at a byte of its UTF-8 or before. */
 function unitsAt(text, byte) {

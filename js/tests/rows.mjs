@@ -85,8 +85,8 @@ function outcome(call, ...args) {
     return { ok: true, value: typeof it === "number" ? String(it) : it };
   } catch (error) {
     if (!(error instanceof SpeedateError)) throw error;
-    const { fault, code, message, expected, place } = error;
-    return { ok: false, fault, code, message, expected, place };
+    const { fault, code, message, expected, place, end } = error;
+    return { ok: false, fault, code, message, expected, place, end };
   }
 }
 
@@ -98,7 +98,7 @@ function read([, kind, names], how, fields) {
   return [fields.at(-1), Buffer.from(fields.at(-1))].map((text) => {
     const result = outcome(speedate[`parse${name}`], text, chosen);
     const safe = speedate[`safeParse${name}`](text, chosen);
-    assert.deepEqual(safe.ok ? safe : { ...safe, place: safe.place }, result);
+    assert.deepEqual(safe, result);
     return result;
   });
 }
@@ -109,12 +109,13 @@ const checked = new Map(rows.map((row) => row.split("|")).filter(([call, , fault
   .map(([, value, fault]) => [value, fault]));
 /** The calls whose places were compared. */
 const placed = new Set();
+const parts = new Set();
 let ran = 0;
 const left = {};
 for (const row of rows) {
   const [call, ...fields] = row.split("|");
   const [, kind, name] = /^([a-z]+)_?(.*)$/.exec(call);
-  const [, isPlace, how] = /^(?:parse|(error_place))(|_rfc3339|_strict|_front)$/.exec(name) ?? [];
+  const [, isPart, isPlace, how] = /^(?:parse|parse_(or_part)|(error_place))(|_rfc3339|_strict|_front)$/.exec(name) ?? [];
   const at = fields.findIndex((it) => /^(ok|[a-z]+_[a-z_]+)$/.test(it));
   const [args, [code, written, size]] = [fields.slice(0, at), fields.slice(at)];
   if (!(kind in KINDS && (how !== undefined || name in CALLS)) || LEFT_OUT.test(`${call} ${code}`)) {
@@ -129,6 +130,12 @@ for (const row of rows) {
     const places = written === undefined ? [undefined, undefined] : [unitsAt(args.at(-1), Number(written)), Number(written)];
     assert.deepEqual(outcomes.map((it) => it.place), places, row);
   }
+  if (isPart && code !== "ok") {
+    parts.add(call);
+    const [place, end] = written.split(" ").map(Number);
+    assert.deepEqual(outcomes.map((it) => [it.place, it.end]), [[unitsAt(args.at(-1), place), unitsAt(args.at(-1), end)], [place, end]], row);
+    continue;
+  }
   for (const { fault = "ok", value } of outcomes) {
     if (code === "value_out_of_range") assert.equal(fault, args.map((it) => checked.get(it)).find(Boolean), row);
     else assert.equal(fault, hasNoOffset ? "tz_required" : code, row);
@@ -138,4 +145,5 @@ for (const row of rows) {
 }
 assert.ok(ran > 260);
 assert.equal(placed.size, 11);
+assert.equal(parts.size, 11);
 console.log(`${ran} rows; not those of ${Object.entries(left).map(([call, count]) => `${call} (${count})`).join(", ")}`);

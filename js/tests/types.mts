@@ -117,8 +117,8 @@ const uses: Record<keyof typeof speedate, unknown> = {
     same<SpeedateDuration, OutputOf<Schema<SpeedateDuration>>>(true, validated(speedate.schema("duration", { overflow: "truncate" }), "PT1S")),
   ],
   init: ((call: (module: object) => void): string => call.name)(speedate.init),
-  SpeedateError: ((it: speedate.SpeedateError): [Fault, number, string, string, speedate.Text | undefined, number | undefined, number | undefined] =>
-    [it.fault, it.code, it.message, it.expected, it.text, it.place, it.index]).length,
+  SpeedateError: ((it: speedate.SpeedateError): [Fault, number, string, string, speedate.Text | undefined, number | undefined, number | undefined, number | undefined] =>
+    [it.fault, it.code, it.message, it.expected, it.text, it.place, it.end, it.index]).length,
 };
 // An import of CommonJS has a default too.
 assert.deepEqual(Object.keys(uses).sort(), Object.keys(speedate).filter((it) => it !== "default").sort());
