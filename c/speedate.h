@@ -7,8 +7,9 @@
  *
  * - It returns a code: 0 (SPEEDATE_OK) on success, otherwise the SpeedateCode that says why it fails. A call that fails
  *   writes nothing. Only speedate_version, speedate_version_minor and speedate_code_string return something else.
- * - A call with _error_place in its name is the exception: it returns the code of a parser, and writes only if that is
- *   a fault of the text. One with _parse_or_part writes the value or the part, never both.
+ * - Two kinds of calls are exceptions. One with _error_place in its name returns the code of a parser, and writes only
+ *   if that is a fault of the text. One with _parse_or_part writes the value on success, the part if the code is a fault
+ *   of the text, and otherwise nothing.
  * - If several things are wrong, SPEEDATE_CONFIG_OUT_OF_RANGE comes first, then SPEEDATE_VALUE_OUT_OF_RANGE.
  * - A text is passed as an address and a size in bytes. It may hold any bytes, and needs no zero byte at its end. If
  *   the size is 0, the address may be NULL.
@@ -19,8 +20,8 @@
  *   text needs. Bytes after the zero byte keep their values. If the size is 0, the buffer may be NULL.
  * - Values and configurations are passed by value. So `out` may point to the variable that is passed:
  *   speedate_date_add_days(date, 1, &date).
- * - `out`, `taken`, `place`, `end`, `part`, `length` and `progress` point to variables of their types. They are not NULL, and do not
- *   overlap a text, a buffer or one another.
+ * - `out`, `taken`, `place`, `end`, `part`, `length` and `progress` point to variables of their types. They are not NULL,
+ *   and do not overlap a text, a buffer or one another.
  * - No call allocates memory or keeps anything for the next one. Any thread may make any call at any time.
  *
  * GRAMMAR.md, which is installed in share/doc/speedate, lists the texts and their faults. Of the repository's documents
@@ -241,11 +242,11 @@ SPEEDATE_NODISCARD int speedate_code_documentation(int code, char *buffer, size_
  * not a kind. */
 SPEEDATE_NODISCARD int speedate_code_expected(int code, int kind, char *buffer, size_t size, size_t *length);
 
-/* Where the part of a text ends that a fault is about, which begins at its place: 7 for 21, "2020-13-01" and 5, so that a
- * form underlines the bytes 5 and 6. The code is one with which a call refuses the text, and the place the one that an
- * _error_place call gives. *end is at least `place`, and at most `size` if `place` is. It is `place` if the part is missing,
- * and lies within no character of UTF-8. GRAMMAR.md has the part of each fault. It fails with SPEEDATE_VALUE_OUT_OF_RANGE for
- * a number that is no error of the library: 0, and those over SPEEDATE_LAST_FAULT. */
+/* Where the part of a text ends that a fault is about, which begins at its place: 7 for 21, "2020-13-01" and 5, so that
+ * a form underlines the bytes 5 and 6. The code is one with which a call refuses the text, and the place the one that
+ * an _error_place call gives. *end is at least `place`, and at most `size` if `place` is. It is `place` if the part is
+ * missing, and lies within no character of UTF-8. GRAMMAR.md has the part of each fault. It fails with
+ * SPEEDATE_VALUE_OUT_OF_RANGE for a number that is no error of the library: 0, and those over SPEEDATE_LAST_FAULT. */
 SPEEDATE_NODISCARD int speedate_code_part_end(int code, const char *text, size_t size, size_t place, size_t *end);
 
 /* ---- Configurations ---- */
@@ -557,8 +558,9 @@ SPEEDATE_NODISCARD int speedate_datetime_from_timestamp(int64_t timestamp, uint3
                                                         SpeedateDateTime *out);
 
 /* The number that a timestamp has in a column of date-times: what speedate_datetime_timestamp_tz_us gives of
- * speedate_datetime_from_timestamp without further microseconds, in a fraction of the time. It fails with
- * SPEEDATE_DATE_TOO_SMALL before the year 0000, and SPEEDATE_DATE_TOO_LARGE after the year 9999. */
+ * speedate_datetime_from_timestamp without further microseconds. Without an offset it is taken to be in UTC, where a
+ * column refuses it unless assumes_utc is 1. It fails with SPEEDATE_DATE_TOO_SMALL before the year 0000, and
+ * SPEEDATE_DATE_TOO_LARGE after the year 9999. */
 SPEEDATE_NODISCARD int speedate_timestamp_microseconds(int64_t timestamp, SpeedateConfig config, int64_t *out);
 
 /* The seconds since 1970-01-01T00:00:00, and the milliseconds, rounded down, as if date and time were in UTC: the

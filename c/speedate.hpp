@@ -51,17 +51,16 @@ class Error {
     int code() const noexcept { return code_; }
 
     /* "out_of_range_day". It is "unknown code" for a code that the library does not know. */
-    std::string name() const { return printed(speedate_code_name); }
+    std::string name() const { return printed("unknown code", speedate_code_name); }
 
     /* "day value is outside expected range". */
-    std::string documentation() const { return printed(speedate_code_documentation); }
+    std::string documentation() const { return printed("unknown code", speedate_code_documentation); }
 
     /* What a call of a kind, one of SPEEDATE_KIND_DATE and its like, expected: "month, 01 to 12". */
     std::string expected(int kind) const {
-        char text[SPEEDATE_CODE_TEXT_SIZE];
-        std::size_t length;
-        const int failed = speedate_code_expected(code_, kind, text, sizeof text, &length);
-        return failed == SPEEDATE_OK ? std::string(text, length) : "unknown code or kind";
+        return printed("unknown code or kind", [&](int code, auto... out) {
+            return speedate_code_expected(code, kind, out...);
+        });
     }
 
     /* Where the part ends that it is about, in a text that is refused for it at a place: 7 in "2020-13-01", from 5 on. It is
@@ -76,10 +75,11 @@ class Error {
     friend std::ostream &operator<<(std::ostream &to, Error error) { return to << error.name(); }
 
   private:
-    std::string printed(int (*call)(int, char *, std::size_t, std::size_t *)) const {
+    template <typename Call>
+    std::string printed(const char *unknown, Call call) const {
         char text[SPEEDATE_CODE_TEXT_SIZE];
         std::size_t length;
-        return call(code_, text, sizeof text, &length) == SPEEDATE_OK ? std::string(text, length) : "unknown code";
+        return call(code_, text, sizeof text, &length) == SPEEDATE_OK ? std::string(text, length) : unknown;
     }
 
     int code_;
@@ -306,7 +306,7 @@ class Date : public detail::Ordered<Date> {
             [&](auto... out) { return speedate_date_parse_front(text.data(), text.size(), out...); });
     }
 
-    /* What the parser of that name returns; of a text that is refused the part is written for which it is. */
+    /* What the parser of that name returns; if it refuses the text, the part for which it does is written. */
     static Result<Date> parse_or_part(std::string_view text, SpeedatePart &part, const Config &config = {}) {
         return from_c([&](auto *out) {
             return speedate_date_parse_or_part(text.data(), text.size(), config.c(), out, &part);
@@ -437,7 +437,7 @@ class Time : public detail::Equal<Time> {
             [&](auto... out) { return speedate_time_parse_front(text.data(), text.size(), config.c(), out...); });
     }
 
-    /* What the parser of that name returns; of a text that is refused the part is written for which it is. */
+    /* What the parser of that name returns; if it refuses the text, the part for which it does is written. */
     static Result<Time> parse_or_part(std::string_view text, SpeedatePart &part, const Config &config = {}) {
         return from_c([&](auto *out) {
             return speedate_time_parse_or_part(text.data(), text.size(), config.c(), out, &part);
@@ -536,7 +536,7 @@ class DateTime : public detail::Equal<DateTime> {
             [&](auto... out) { return speedate_datetime_parse_front(text.data(), text.size(), config.c(), out...); });
     }
 
-    /* What the parser of that name returns; of a text that is refused the part is written for which it is. */
+    /* What the parser of that name returns; if it refuses the text, the part for which it does is written. */
     static Result<DateTime> parse_or_part(std::string_view text, SpeedatePart &part, const Config &config = {}) {
         return from_c([&](auto *out) {
             return speedate_datetime_parse_or_part(text.data(), text.size(), config.c(), out, &part);
@@ -667,7 +667,7 @@ class Duration : public detail::Ordered<Duration> {
     static Result<Duration> parse(std::string_view text, const Config &config = {}) {
         return from_c([&](auto *out) { return speedate_duration_parse(text.data(), text.size(), config.c(), out); });
     }
-    /* What the parser of that name returns; of a text that is refused the part is written for which it is. */
+    /* What the parser of that name returns; if it refuses the text, the part for which it does is written. */
     static Result<Duration> parse_or_part(std::string_view text, SpeedatePart &part, const Config &config = {}) {
         return from_c([&](auto *out) {
             return speedate_duration_parse_or_part(text.data(), text.size(), config.c(), out, &part);

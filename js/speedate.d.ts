@@ -42,10 +42,14 @@ export class SpeedateError extends RangeError {
 }
 /** The result of a `safe` call, which returns a refusal where another throws it. */
 export type Answer<Value> = { readonly ok: true; readonly value: Value } | Refusal;
-/** A refusal as a `safe` call returns it. `place` is where in the text the fault lies, in units of a string, otherwise in bytes: 5 of
- * `2020-13-01`, and the length of a text that is too short. Within a character it is that of its beginning. `end` is where the part ends that begins there, so that a
- * form can mark it: 7 of `2020-13-01`, and the place if the part is missing. */
-export type Refusal = { readonly ok: false; readonly fault: Fault; readonly code: number; readonly message: string; readonly expected: string; readonly place: number; readonly end: number };
+/** Why a text is refused, by its fault: the number of that in C, what it means, and what was expected, for people. */
+type Reason = { readonly fault: Fault; readonly code: number; readonly message: string; readonly expected: string };
+/** The part of a text that a fault is about, in units of a string, otherwise in bytes. `place` is where the fault lies: 5 of
+ * `2020-13-01`, and the length of a text that is too short. Within a character it is that of its beginning. `end` is where the
+ * part ends that begins there, so that a form can mark it: 7 of `2020-13-01`, and the place if the part is missing. */
+type Part = { readonly place: number; readonly end: number };
+/** A refusal as a `safe` call returns it. */
+export type Refusal = { readonly ok: false } & Reason & Part;
 /** The value at the front of a text, and its size in bytes of UTF-8, and in units of a string: 10 of `2020-02-29 rent`. */
 export type Front<Value, Text> = { readonly value: Value; readonly size: number } & (Text extends string ? { readonly length: number } : unknown);
 
@@ -102,7 +106,7 @@ export function safeParseTimeFront<It extends Text>(text: It, options?: Overflow
 export function safeParseDateTimeFront<It extends Text>(text: It, options?: OverflowOptions): Answer<Front<SpeedateDateTime, It>>;
 
 /** Why a schema refuses a value: as a Refusal has it, or the message alone of what is no string. */
-export type SchemaIssue = { readonly message: string; readonly fault?: Fault; readonly code?: number; readonly place?: number; readonly end?: number; readonly expected?: string };
+export type SchemaIssue = { readonly message: string } & Partial<Reason & Part>;
 /** A schema as validators take it, by version 1 of the interface Standard Schema. */
 export type Schema<Value> = {
   readonly "~standard": {
@@ -119,7 +123,7 @@ export function schema(kind: "dateTime", options?: DateTimeOptions): Schema<Spee
 export function schema(kind: "duration", options?: DurationOptions): Schema<SpeedateDuration>;
 
 /** A line of a column that is refused: its index, from 0, and why. */
-export type LineRefusal = { readonly index: number; readonly fault: Fault; readonly code: number; readonly message: string; readonly expected: string };
+export type LineRefusal = { readonly index: number } & Reason;
 /** What happens to lines that are refused. Without a list the first one is thrown, as a SpeedateError with its index. With one each
  * is appended to it, and has in the column the number that is no other line's. */
 export type ColumnOptions = { refusals?: LineRefusal[] };

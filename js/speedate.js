@@ -751,7 +751,10 @@ function readLines(column, isEnd, parts, refusals) {
     lines = view.getUint32(COLUMN.progress, true);
     const next = at + view.getUint32(COLUMN.progress + 8, true);
     const error = view.getInt32(COLUMN.progress + 16, true);
-    if (error !== 0) throw Object.assign(new SpeedateError(faultOf(error, column.kind)), { ...partOfLine(library, next, end, column), index: column.lines + lines });
+    if (error !== 0) {
+      const index = column.lines + lines;
+      throw Object.assign(new SpeedateError(faultOf(error, column.kind)), { ...partOfLine(library, next, end, column), index });
+    }
     parts.push(numbersIn(view, lines, column));
     if (hasErrors) addRefusals(refusals, bytes.subarray(COLUMN.errors, COLUMN.errors + lines), column);
     column.lines += lines;

@@ -686,12 +686,19 @@ static Py_ssize_t place_in(PyObject *object, const Text *text, size_t place) {
     return size_in(object, text, place);
 }
 
-/* The place of an error in a text of a column, or a negative number. A column alone refuses a text without an offset,
- * which is missing at its end, and a duration that is too large as a whole. */
+/* Finds the code and the place in bytes for which a column refuses a text, and says whether there is a place. A column
+ * alone refuses a text without an offset, which is missing at its end, and a duration that is too large as a whole. */
+static bool find_in_column(int call, SpeedateConfig config, const Text *text, int *code, size_t *place) {
+    *place = text->size;
+    *code = parsers[call].find_place(text, config, place);
+    return *code != SPEEDATE_OK || call != DURATION;
+}
+
+/* The place of an error in a text of a column, or a negative number. */
 static Py_ssize_t place_in_column(int call, SpeedateConfig config, PyObject *object, const Text *text) {
-    size_t place = text->size;
-    int code = parsers[call].find_place(text, config, &place);
-    return code == SPEEDATE_OK && call == DURATION ? -1 : place_in(object, text, place);
+    int code;
+    size_t place;
+    return find_in_column(call, config, text, &code, &place) ? place_in(object, text, place) : -1;
 }
 
 /* A part of a text as Python counts it. */
@@ -707,9 +714,11 @@ static size_t end_of(const Text *text, int code, size_t place) {
 
 /* The part for which a column refuses a text, or one with a negative place. */
 static Part part_in_column(int call, SpeedateConfig config, PyObject *object, const Text *text) {
-    size_t place = text->size;
-    int code = parsers[call].find_place(text, config, &place);
-    return (Part){place_in_column(call, config, object, text), size_in(object, text, end_of(text, code, place))};
+    int code;
+    size_t place;
+    if (!find_in_column(call, config, text, &code, &place))
+        return (Part){-1, -1};
+    return (Part){place_in(object, text, place), size_in(object, text, end_of(text, code, place))};
 }
 
 /* The code by which a call refuses a text, and the part of it that the error is about. */

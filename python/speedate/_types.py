@@ -258,7 +258,7 @@ def _items(texts):
 
 
 def _values(texts):
-    """The array of a column of pandas that has objects, over which an iteration takes less time, or integers, or the texts themselves."""
+    """Of a column of pandas with objects or integers its array, over which an iteration takes less time; or the texts."""
     pandas = sys.modules.get("pandas")
     if isinstance(texts, (getattr(pandas, "Series", ()), getattr(pandas, "Index", ()))):
         values = texts.to_numpy()

@@ -65,12 +65,6 @@ pub record IsSoFar {N : Type 0} (whole left : Column N) (lines : ℕ) (out_old o
   pub errors : overwritten errors_old whole.errors
       ≡ take lines errors_new ++ overwritten (drop lines errors_new) left.errors
 
--- at the start
-pub IsSoFar-start : {N : Type 0} → (whole : Column N) (out : List N) (errors : List ℕ)
-    → IsSoFar whole whole 0 out out errors errors
-IsSoFar-start whole out errors =
-    record { count = omega arith; fault = refl; numbers = refl; errors = refl }
-
 -- after one more line
 pub IsSoFar-more : {N : Type 0}
     → (whole left rest : Column N) (lines next : ℕ) (out_old out out_new : List N)

@@ -4,8 +4,8 @@ use Rattle.std.proofs.lemmas.Bool.{cases_lt, ne_eqb, false≢true}
 use Rattle.std.proofs.lemmas.List.{length-take, length-take-le, get_or-take, get_or_past, take-take, take_all, drop_all}
 use Rattle.speedate_base.specs.Ascii.{carriage_return, line_feed}
 use Rattle.speedate.specs.Column.{IsFirstLineOf, LineConfig}
-use Rattle.speedate.specs.Lines.{Pieces, pieces, last_line, whole_lines, without_return, IsOneLine}
-use Rattle.speedate.specs.Lines.{IsLineEnd}
+use Rattle.speedate.specs.Lines.{Pieces, pieces, last_line, unfinished_line, whole_lines}
+use Rattle.speedate.specs.Lines.{without_return, IsOneLine, IsLineEnd}
 use Rattle.speedate.proofs.LineLemmas.{pieces-from, pieces-rest, joined_one_line}
 
 -- the whole lines of some pieces
@@ -34,6 +34,14 @@ whole_lines-from at_end text end found =
     ∙ whole-first at_end (take (end - 0) text) (pieces rest)
     ∙ ap (λ (n : ℕ). take n text ∷ whole_lines at_end rest) (omega arith)
 
+-- what stands after the last line feed stays
+pub unfinished-from : (text : List ℕ) (end : ℕ) → IsLineEnd text 0 end
+    → unfinished_line (drop (end + 1) text) ≡ unfinished_line text
+unfinished-from text end found =
+    let none : IsOneLine text 0 0 = λ k after below same. absurd (omega arith) in
+    let is = pieces-from text 0 0 end (omega arith) none found in
+    sym (ap (λ (all : Pieces). all.unfinished) is)
+
 -- where there is none, a text that is not empty is the one whole line, if it ends there
 last-is : (text : List ℕ) → 0 < length text → last_line text ≡ text ∷ []
 last-is [] some = absurd (omega (arith, some))
@@ -57,12 +65,6 @@ whole_lines-none at_end text one goes_on =
     let none : IsOneLine text 0 0 = λ k after below same. absurd (omega arith) in
     ap (λ (ends : Bool). whole_lines ends text) goes_on
     ∙ ap (λ (all : Pieces). all.complete) (pieces-rest text 0 0 none one)
-
-pub whole_lines-empty : (at_end : Bool) (text : List ℕ) → length text ≡ 0
-    → whole_lines at_end text ≡ []
-whole_lines-empty true [] none = refl
-whole_lines-empty false [] none = refl
-whole_lines-empty at_end (byte ∷ bytes) none = absurd (omega (arith, none))
 
 -- a line that ends with no carriage return is read as it is
 pub without_return-kept : (drops : Bool) (line : List ℕ)
@@ -129,6 +131,7 @@ IsFirstLineOf-last config text size ends all some one other =
       lines = whole_lines-last config.at_end text ends (omega (arith, all, some)) one_line
           ∙ ap (λ (n : ℕ). text ∷ whole_lines config.at_end (drop n text)) (sym all);
       is_read = without_return-kept config.drops_returns text no_return ∙ sym whole_text;
+      unfinished = λ goes_on. absurd (false≢true (sym goes_on ∙ ends));
     }
 
 -- a line feed follows
@@ -152,6 +155,7 @@ IsFirstLineOf-feed config text size inside some one other ends =
       within = omega (arith, inside);
       lines = whole_lines-from config.at_end text size found;
       is_read = without_return-kept config.drops_returns line (λ same. other (sym last ∙ same));
+      unfinished = λ goes_on. unfinished-from text size found;
     }
 
 -- a line feed stands within its text
@@ -189,4 +193,6 @@ IsFirstLineOf-return config text size drop_it one return ends =
           ∙ ap (λ (n : ℕ). line ∷ whole_lines config.at_end (drop n text)) (omega arith);
       is_read = without_return-dropped config.drops_returns line size drop_it long last
           ∙ take-take size (size + 1) text (omega arith);
+      unfinished = λ goes_on. ap (λ (n : ℕ). unfinished_line (drop n text)) (omega arith)
+          ∙ unfinished-from text (size + 1) found;
     }

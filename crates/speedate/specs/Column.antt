@@ -1,5 +1,5 @@
 -- Columns: the lines of a text as numbers.
-use Rattle.std.specs.Prelude.{◌≡◌, ◌≢◌, ℕ, ◌-◌, ◌^◌, ◌<◌, ◌≤◌, ◌==◌, Bool, ◌||◌, List, [], ◌∷◌, length, slice_index, take, drop, nat_lt, Option, Some, None, is_some, Result, Ok, Err, IfOk, ℤ, pos, unsigned_abs, if◌then◌else◌}
+use Rattle.std.specs.Prelude.{◌≡◌, ◌≢◌, ℕ, ◌-◌, ◌^◌, ◌<◌, ◌≤◌, ◌==◌, Bool, false, ◌||◌, List, [], ◌∷◌, length, slice_index, take, drop, nat_lt, Option, Some, None, is_some, Result, Ok, Err, IfOk, ℤ, pos, unsigned_abs, if◌then◌else◌}
 use Rattle.speedate_civil.specs.Base.{Behavior, ParseError}
 use Rattle.speedate_base.specs.Ascii.{carriage_return}
 use Rattle.speedate_base.specs.Config.{time_choices}
@@ -27,7 +27,7 @@ use Rattle.speedate.specs.declared.column.time.TimeParser.{TimeParser}
 use Rattle.speedate.specs.declared.column.time.TimeReader.{TimeReader}
 use Rattle.speedate.specs.Duration.{duration_answer, signed_amount}
 use Rattle.speedate.specs.DurationNumbers.{DurationNumbers}
-use Rattle.speedate.specs.Lines.{IsOneLine, whole_lines, without_return}
+use Rattle.speedate.specs.Lines.{IsOneLine, unfinished_line, whole_lines, without_return}
 
 -- the numbers of lines, the number of the error of each, which is 0 for none, and the error of the
 -- line after these, if it ends the column
@@ -108,6 +108,7 @@ pub record IsFirstLineOf (config : LineConfig) (text read : List ℕ) (size : �
   pub within : size ≤ length text
   pub lines : whole_lines config.at_end text ≡ first ∷ whole_lines config.at_end (drop size text)
   pub is_read : without_return config.drops_returns first ≡ read
+  pub unfinished : config.at_end ≡ false → unfinished_line (drop size text) ≡ unfinished_line text
 
 -- the first whole line of a text has this answer, and takes so many bytes with its end
 pub record IsFirstLine {N : Type 0} (answer : List ℕ → Result N LineError) (config : LineConfig)

@@ -6,39 +6,19 @@ pub use Rattle.speedate_base.specs.declared.faults.expected.CallKind.{CallKind}
 
 -- the call parses the texts of RFC 3339 alone
 abbrev pub is_strict : CallKind → Bool
-is_strict CallKind.Values = false
-is_strict CallKind.Date = false
-is_strict CallKind.DateOrTimestamp = false
-is_strict CallKind.Time = false
 is_strict CallKind.TimeStrict = true
-is_strict CallKind.DateTime = false
-is_strict CallKind.DateTimeOrTimestamp = false
 is_strict CallKind.DateTimeStrict = true
-is_strict CallKind.Duration = false
+is_strict other = false
 
 -- the call parses durations
 abbrev pub is_duration : CallKind → Bool
-is_duration CallKind.Values = false
-is_duration CallKind.Date = false
-is_duration CallKind.DateOrTimestamp = false
-is_duration CallKind.Time = false
-is_duration CallKind.TimeStrict = false
-is_duration CallKind.DateTime = false
-is_duration CallKind.DateTimeOrTimestamp = false
-is_duration CallKind.DateTimeStrict = false
 is_duration CallKind.Duration = true
+is_duration other = false
 
 -- the call parses texts
 abbrev pub is_of_texts : CallKind → Bool
 is_of_texts CallKind.Values = false
-is_of_texts CallKind.Date = true
-is_of_texts CallKind.DateOrTimestamp = true
-is_of_texts CallKind.Time = true
-is_of_texts CallKind.TimeStrict = true
-is_of_texts CallKind.DateTime = true
-is_of_texts CallKind.DateTimeOrTimestamp = true
-is_of_texts CallKind.DateTimeStrict = true
-is_of_texts CallKind.Duration = true
+is_of_texts other = true
 
 -- the shape of the texts that a call parses
 abbrev pub expected_shape : CallKind → List ℕ

@@ -14,7 +14,8 @@ pub(crate) mod lanes;
 
 use digits::{MOST_DIGITS, number_by_eights, spelled_number, without_zeros};
 pub use digits::{
-    DigitRun, byte_at, digit_run, is_decimal_mark, run_end, two_digits, up_to_six_digits,
+    DigitRun, byte_at, digit_run, first_colon, is_decimal_mark, run_end, two_digits,
+    up_to_six_digits,
 };
 pub use fraction::{Fraction, takes_digits};
 pub use int_float::{Decimal, IntFloat};

@@ -6,6 +6,7 @@ use Rattle.std.specs.Ordering.{int_eq}
 use Rattle.std.specs.declared.cmp.Ordering.{Ordering, Ordering as ordering}
 use Rattle.speedate.specs.Base.{CallKind, ParseError}
 use Rattle.speedate.specs.declared.LineError.{LineError}
+use Rattle.speedate.specs.Column.{error_number}
 use Rattle.speedate.specs.Expected.{expected_text}
 use Rattle.speedate.specs.Fault.{FaultRow, fault_rows, fault_number, fault_name}
 use Rattle.speedate.specs.Fault.{fault_documentation}
@@ -42,10 +43,9 @@ buffer_too_small = pos 103
 abbrev pub fault_code : ParseError → ℤ
 fault_code fault = pos (fault_number fault)
 
--- the code of an error of a line
+-- the code of an error of a line: its number
 abbrev pub line_error_code : LineError → ℤ
-line_error_code (LineError.Parse fault) = fault_code fault
-line_error_code LineError.NumberTooLarge = number_too_large
+line_error_code error = pos (error_number error)
 
 -- the faults in the order of their codes
 abbrev pub faults : List ParseError

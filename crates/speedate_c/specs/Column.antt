@@ -1,6 +1,6 @@
 -- Columns from outside: what their configuration says, which number a line has, and what a call
 -- leaves.
-use Rattle.std.specs.Prelude.{◌≡◌, ℕ, ◌≤◌, ◌++◌, ℤ, negsuc, pos, Bool, not, List, [], ◌∷◌, length, min, drop, slice_get, Option, Some, None, Result, if◌then◌else◌}
+use Rattle.std.specs.Prelude.{◌≡◌, ℕ, ◌≤◌, ◌++◌, ℤ, negsuc, pos, Bool, false, not, List, [], ◌∷◌, length, min, drop, slice_get, Option, Some, None, Result, if◌then◌else◌}
 use Rattle.std.specs.Option.{option_and_then, option_map}
 use Rattle.speedate.specs.Base.{ParseError, TimestampUnit}
 use Rattle.speedate.specs.Calendar.{days_between}
@@ -16,7 +16,7 @@ use Rattle.speedate.specs.Column.{as_number, epoch, number_of_duration, offset_a
 use Rattle.speedate.specs.Column.{text_column, with_offset}
 use Rattle.speedate.specs.declared.LineConfig.{LineConfig}
 use Rattle.speedate.specs.declared.LineError.{LineError}
-use Rattle.speedate.specs.Lines.{whole_lines}
+use Rattle.speedate.specs.Lines.{unfinished_line, whole_lines}
 use Rattle.speedate_c.specs.Code.{line_error_code, success}
 use Rattle.speedate_c.specs.Config.{choices_of, flags}
 use Rattle.speedate_c.specs.declared.config.SpeedateConfig.{SpeedateConfig}
@@ -172,7 +172,8 @@ ended_code None = success
 ended_code (Some error) = line_error_code error
 
 -- how far a column has come, by the numbers of its lines and the code of the error that ends it;
--- the lines after these bytes are those that have no number yet
+-- after these bytes stand the lines that have no number yet and, where the text may go on, its
+-- unfinished line
 pub record IsProgress {N : Type 0} (config : LineConfig) (text : List ℕ) (entries : List N)
     (code : ℤ) (progress : SpeedateProgress) : Type 0 where
   pub lines : progress.lines ≡ length entries
@@ -180,6 +181,8 @@ pub record IsProgress {N : Type 0} (config : LineConfig) (text : List ℕ) (entr
   pub within : progress.bytes ≤ length text
   pub rest : whole_lines config.at_end (drop progress.bytes text)
       ≡ drop progress.lines (whole_lines config.at_end text)
+  pub unfinished : config.at_end ≡ false
+      → unfinished_line (drop progress.bytes text) ≡ unfinished_line text
 
 -- what a call leaves: the numbers of the first lines, of as many as there is room for, before what
 -- stood after them, and how far the column has come

@@ -60,14 +60,11 @@ pub(crate) fn fault_code(fault: ParseError) -> i32
     i32::from(fault.number())
 }
 
-/// The code of an error of a line: 97 for `NumberTooLarge`.
+/// The code of an error of a line, its number: 97 for `NumberTooLarge`.
 pub(crate) fn line_error_code(error: LineError) -> i32
     ensures code { result ≡ line_error_code error }
 {
-    match error {
-        LineError::Parse(fault) => fault_code(fault),
-        LineError::NumberTooLarge => NUMBER_TOO_LARGE,
-    }
+    i32::from(error.number())
 }
 
 /// The error of a code.

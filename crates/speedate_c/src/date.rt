@@ -162,8 +162,8 @@ pub extern "C" fn speedate_date_parse_or_part(
     SUCCESS
 }
 
-/// The same for [`speedate_date_parse_rfc3339`], from the place that [`Date::error_place_rfc3339`]
-/// gives: 10 to 16 for `2020-01-01T12:13`.
+/// The same for [`speedate_date_parse_rfc3339`], as [`Date::parse_or_place_rfc3339`] does: 10 to 16 for
+/// `2020-01-01T12:13`.
 #[unsafe(no_mangle)]
 pub extern "C" fn speedate_date_parse_or_part_rfc3339(
     text: &[u8],
@@ -180,8 +180,8 @@ pub extern "C" fn speedate_date_parse_or_part_rfc3339(
     SUCCESS
 }
 
-/// The same for [`speedate_date_parse_front`], from the place that [`Date::error_place_front`] gives: 8
-/// to 10 for `2021-02-29 rent`.
+/// The same for [`speedate_date_parse_front`], as [`Date::parse_or_place_front`] does: 8 to 10 for
+/// `2021-02-29 rent`.
 #[unsafe(no_mangle)]
 pub extern "C" fn speedate_date_parse_or_part_front(
     text: &[u8],
@@ -189,7 +189,8 @@ pub extern "C" fn speedate_date_parse_or_part_front(
     size: &mut usize,
     part: &mut SpeedatePart,
 ) -> i32
-    ensures answer { (result, out.new, size.new) ≡ written_front shown_date out.old size.old (date_front text.now) }
+    ensures answer { (result, out.new, size.new) ≡ written_front shown_date out.old size.old
+        (date_front text.now) }
     ensures part { part.new
         ≡ written_part result (refused_place (date_front_or placed text.now)) text.now part.old }
 {

@@ -156,8 +156,8 @@ pub extern "C" fn speedate_datetime_parse_front(
     SUCCESS
 }
 
-/// Does what [`speedate_datetime_parse`] does, and writes the part for which a text is refused, from the
-/// place that [`DateTime::error_place`] gives: 17 to 19 for `2020-02-29T12:13:60`.
+/// Does what [`speedate_datetime_parse`] does, and writes the part for which a text is refused, as
+/// [`DateTime::parse_or_place`] does: 17 to 19 for `2020-02-29T12:13:60`.
 ///
 /// No part is written for a text that is accepted, and where the code is `CONFIG_OUT_OF_RANGE`.
 #[unsafe(no_mangle)]
@@ -183,8 +183,8 @@ pub extern "C" fn speedate_datetime_parse_or_part(
     SUCCESS
 }
 
-/// The same for [`speedate_datetime_parse_rfc3339`], from the place that
-/// [`DateTime::error_place_rfc3339`] gives: 10 to 11 for `2020-02-29x12:13`.
+/// The same for [`speedate_datetime_parse_rfc3339`], as [`DateTime::parse_or_place_rfc3339`] does: 10 to
+/// 11 for `2020-02-29x12:13`.
 #[unsafe(no_mangle)]
 pub extern "C" fn speedate_datetime_parse_or_part_rfc3339(
     text: &[u8],
@@ -208,8 +208,8 @@ pub extern "C" fn speedate_datetime_parse_or_part_rfc3339(
     SUCCESS
 }
 
-/// The same for [`speedate_datetime_parse_strict`], from the place that
-/// [`DateTime::error_place_strict`] gives: 10 to 11 for `2020-02-29 12:13:14Z`.
+/// The same for [`speedate_datetime_parse_strict`], as [`DateTime::parse_or_place_strict`] does: 10 to 11
+/// for `2020-02-29 12:13:14Z`.
 #[unsafe(no_mangle)]
 pub extern "C" fn speedate_datetime_parse_or_part_strict(
     text: &[u8],
@@ -234,8 +234,8 @@ pub extern "C" fn speedate_datetime_parse_or_part_strict(
     SUCCESS
 }
 
-/// The same for [`speedate_datetime_parse_front`], from the place that [`DateTime::error_place_front`]
-/// gives: 20 to 22 for `2026-11-22T12:00:00-ERROR`.
+/// The same for [`speedate_datetime_parse_front`], as [`DateTime::parse_or_place_front`] does: 20 to 22
+/// for `2026-11-22T12:00:00-ERROR`.
 #[unsafe(no_mangle)]
 pub extern "C" fn speedate_datetime_parse_or_part_front(
     text: &[u8],

@@ -110,8 +110,8 @@ pub extern "C" fn speedate_duration_parse(
     write_duration(answer, out)
 }
 
-/// Does what [`speedate_duration_parse`] does, and writes the part for which a text is refused, from the
-/// place that [`Duration::error_place`] gives: 4 to 5 for `P1D1Q`.
+/// Does what [`speedate_duration_parse`] does, and writes the part for which a text is refused, as
+/// [`Duration::parse_or_place`] does: 4 to 5 for `P1D1Q`.
 ///
 /// No part is written for a text that is accepted, and where the code is `CONFIG_OUT_OF_RANGE`.
 #[unsafe(no_mangle)]

@@ -115,7 +115,8 @@ pub extern "C" fn speedate_time_parse_strict(
 ) -> i32
     ensures answer { (result, out.new)
         ≡ with_option (choices_of config) (config_out_of_range, out.old)
-        (λ config. written_answer shown_time out.old (strict_time_answer config.behavior text.now)) }
+        (λ config. written_answer shown_time out.old
+        (strict_time_answer config.behavior text.now)) }
 {
     let config = config_or_return!(config.to_config());
     let behavior = config.time_config.microseconds_precision_overflow_behavior;
@@ -134,7 +135,8 @@ pub extern "C" fn speedate_time_parse_front(
 ) -> i32
     ensures answer { (result, out.new, size.new)
         ≡ with_option (choices_of config) (config_out_of_range, out.old, size.old)
-        (λ config. written_front shown_time out.old size.old (time_front config.behavior text.now)) }
+        (λ config. written_front shown_time out.old size.old
+        (time_front config.behavior text.now)) }
 {
     let config = config_or_return!(config.to_config());
     let (time, count) = answer_or_return!(Time::parse_front(text, &config.time_config));
@@ -169,8 +171,8 @@ pub extern "C" fn speedate_time_parse_or_part(
     SUCCESS
 }
 
-/// The same for [`speedate_time_parse_strict`], from the place that [`Time::error_place_strict`] gives: 5
-/// to 6 for `12:13+01:00`.
+/// The same for [`speedate_time_parse_strict`], as [`Time::parse_or_place_strict`] does: 5 to 6 for
+/// `12:13+01:00`.
 #[unsafe(no_mangle)]
 pub extern "C" fn speedate_time_parse_or_part_strict(
     text: &[u8],
@@ -180,7 +182,8 @@ pub extern "C" fn speedate_time_parse_or_part_strict(
 ) -> i32
     ensures answer { (result, out.new)
         ≡ with_option (choices_of config) (config_out_of_range, out.old)
-        (λ config. written_answer shown_time out.old (strict_time_answer config.behavior text.now)) }
+        (λ config. written_answer shown_time out.old
+        (strict_time_answer config.behavior text.now)) }
     ensures part { part.new ≡ with_option (choices_of config) part.old
         (λ config. written_part result
         (refused_place (strict_time_answer_or placed config.behavior text.now))
@@ -194,8 +197,8 @@ pub extern "C" fn speedate_time_parse_or_part_strict(
     SUCCESS
 }
 
-/// The same for [`speedate_time_parse_front`], from the place that [`Time::error_place_front`] gives: 9 to
-/// 11 for `12:00:00-ERROR`.
+/// The same for [`speedate_time_parse_front`], as [`Time::parse_or_place_front`] does: 9 to 11 for
+/// `12:00:00-ERROR`.
 #[unsafe(no_mangle)]
 pub extern "C" fn speedate_time_parse_or_part_front(
     text: &[u8],
@@ -206,7 +209,8 @@ pub extern "C" fn speedate_time_parse_or_part_front(
 ) -> i32
     ensures answer { (result, out.new, size.new)
         ≡ with_option (choices_of config) (config_out_of_range, out.old, size.old)
-        (λ config. written_front shown_time out.old size.old (time_front config.behavior text.now)) }
+        (λ config. written_front shown_time out.old size.old
+        (time_front config.behavior text.now)) }
     ensures part { part.new ≡ with_option (choices_of config) part.old
         (λ config. written_part result
         (refused_place (time_front_or placed config.behavior text.now))

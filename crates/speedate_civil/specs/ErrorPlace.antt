@@ -1,6 +1,5 @@
--- Where a refused text of a date, a time or a date-time has its fault: the whole table of each, in
--- which every row has its place, and the place of the first row that does not hold. A place is a
--- byte of the text, or its end.
+-- Where a text has its fault that is refused by a parser of dates or date-times that takes
+-- timestamps too. A place is a byte of the text, or its end.
 use Rattle.std.specs.Prelude.{ℕ, ◌+◌, ◌-◌, List, ◌∷◌, length, true, Option, Some, None, ℤ, option_map}
 use Rattle.speedate_base.specs.Numbers.{DecimalParts, Number, Whole, Fractional, NoNumber}
 use Rattle.speedate_base.specs.Numbers.{number_answer, whole_number}
@@ -23,6 +22,8 @@ date_or_timestamp_place unit text =
     (option_map (λ number. fault_at_byte 0 (date_timestamp_answer unit true number))
     (whole_number text))
     (refused_place (date_answer_or placed text))
+
+-- Date-times.
 
 -- what a text that is a decimal has to meet to be a timestamp: digits past the microsecond have a
 -- place of their own

@@ -1,7 +1,7 @@
 //! The column of a text.
 
-ghost use Rattle.std.specs.Prelude.{◌≡◌, ◌≤◌, ◌++◌, [], IfSome, MatchOption, None, Some, drop, length, min, slice_set, take};
-ghost use Rattle.speedate.specs.Lines.{whole_lines};
+ghost use Rattle.std.specs.Prelude.{◌≡◌, ◌≤◌, ◌++◌, [], IfSome, MatchOption, None, Some, drop, false, length, min, slice_set, take};
+ghost use Rattle.speedate.specs.Lines.{unfinished_line, whole_lines};
 ghost use Rattle.speedate.specs.Column.{HasNoEnd, IsFirstLine, IsFirstLineOf, entry, overwritten};
 ghost use Rattle.speedate.specs.Column.{text_column};
 
@@ -35,6 +35,8 @@ pub fn read_column<R: LineReader>(
     ensures within { result.bytes ≤ length text.now }
     ensures rest { whole_lines config.at_end (drop result.bytes text.now)
         ≡ drop result.lines (whole_lines config.at_end text.now) }
+    ensures unfinished { config.at_end ≡ false
+        → unfinished_line (drop result.bytes text.now) ≡ unfinished_line text.now }
 {
     fill(text, config, reader, refused, out, &mut [])
 }
@@ -66,6 +68,8 @@ pub fn read_column_with_errors<R: LineReader>(
     ensures within { result.bytes ≤ length text.now }
     ensures rest { whole_lines config.at_end (drop result.bytes text.now)
         ≡ drop result.lines (whole_lines config.at_end text.now) }
+    ensures unfinished { config.at_end ≡ false
+        → unfinished_line (drop result.bytes text.now) ≡ unfinished_line text.now }
 {
     let room = out.len().min(errors.len());
     fill(
@@ -89,10 +93,10 @@ fn fill<R: LineReader>(
     out: &mut [R::Number],
     errors: &mut [u8],
 ) -> Progress
-    ensures numbers { out.new ≡ overwritten out.old (text_column (R.answer reader.now) config refused
-        (length out.old) text.now).numbers }
-    ensures errors { errors.new ≡ overwritten errors.old (text_column (R.answer reader.now) config refused
-        (length out.old) text.now).errors }
+    ensures numbers { out.new ≡ overwritten out.old (text_column (R.answer reader.now) config
+        refused (length out.old) text.now).numbers }
+    ensures errors { errors.new ≡ overwritten errors.old (text_column (R.answer reader.now) config
+        refused (length out.old) text.now).errors }
     ensures lines { result.lines ≡ length (text_column (R.answer reader.now) config refused
         (length out.old) text.now).numbers }
     ensures error { result.error ≡ (text_column (R.answer reader.now) config refused
@@ -100,6 +104,8 @@ fn fill<R: LineReader>(
     ensures within { result.bytes ≤ length text.now }
     ensures rest { whole_lines config.at_end (drop result.bytes text.now)
         ≡ drop result.lines (whole_lines config.at_end text.now) }
+    ensures unfinished { config.at_end ≡ false
+        → unfinished_line (drop result.bytes text.now) ≡ unfinished_line text.now }
 {
     let mut lines = 0;
     let mut bytes = 0;

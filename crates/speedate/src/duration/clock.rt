@@ -1,7 +1,6 @@
 //! The form of a duration as a clock shows it.
 
-ghost use Rattle.std.specs.Prelude.{◌≡◌, ◌+◌, ◌-◌, ◌^◌, ◌<◌, ◌≤◌, length, min, position, ◌==◌, false, Ok, Err, IfErr, IfOk, IsTrue};
-ghost use Rattle.speedate_base.specs.Ascii.{colon};
+ghost use Rattle.std.specs.Prelude.{◌≡◌, ◌+◌, ◌-◌, ◌^◌, ◌<◌, ◌≤◌, length, min, false, Ok, Err, IfErr, IfOk, IsTrue};
 ghost use Rattle.speedate_base.specs.Digits.{run_length, run_value};
 ghost use Rattle.speedate_base.specs.Requirement.{first_refusal_or, shifted};
 ghost use Rattle.speedate.specs.ClockForm.{colon_place, has_hours, hours_table, after_hours_or};
@@ -10,7 +9,7 @@ ghost use Rattle.speedate.specs.ClockForm.{clock_form_or};
 use super::unsigned::UnsignedDuration;
 use speedate_base::config::MicrosecondsPrecisionOverflowBehavior as Behavior;
 use speedate_base::faults::ParseError;
-use speedate_base::numbers::{DigitRun, byte_at, takes_digits};
+use speedate_base::numbers::{DigitRun, byte_at, first_colon, takes_digits};
 use speedate_base::refusal::Refusal;
 use speedate_civil::time::PureTime;
 
@@ -126,18 +125,11 @@ fn hours_refusal<E: Refusal>(bytes: &[u8], end: usize, start: usize) -> E
         (hours_table bytes.now) (Ok (colon_place bytes.now)) }
     ensures placed { E.lies_within (start + length bytes.now) result }
 {
-    match colon_place(bytes) {
+    match first_colon(bytes) {
         None => E::at(ParseError::InvalidCharHour, start + end),
         Some(place) if place > HOURS_LENGTH_MAX => {
             E::at(ParseError::DurationHourValueTooLarge, start)
         }
         Some(_) => E::at(ParseError::InvalidCharHour, start),
     }
-}
-
-/// The place of the first `:`.
-fn colon_place(bytes: &[u8]) -> Option<usize>
-    ensures place { result ≡ position (λ byte. byte == colon) bytes.now }
-{
-    bytes.iter().position(|&byte| byte == b':')
 }

@@ -24,7 +24,7 @@ impl Duration {
     /// The byte at which the error lies for which [`Duration::parse_bytes_with_config`] refuses a text,
     /// and `None` for a text that it accepts: 4, the unit's, for `b"P1D1Q"`.
     ///
-    /// It is the place [that the row has](docs/GRAMMAR.md#durations) that names the error.
+    /// It is the place in [the row](docs/GRAMMAR.md#durations) that names the error.
     pub fn error_place(bytes: &[u8], config: &TimeConfig) -> Option<usize>
         ensures place { result ≡ refused_place (duration_answer_or placed
             (time_choices config.now).order (time_choices config.now).behavior bytes.now) }
@@ -36,11 +36,7 @@ impl Duration {
             (time_choices config.now).order (time_choices config.now).behavior bytes.now) }
         ensures within { IfSome result (λ place. place ≤ length bytes.now) }
     {
-        duration_error_place(
-            bytes,
-            config.iso_order,
-            config.microseconds_precision_overflow_behavior,
-        )
+        Refused::place_of(Self::parse_or_place(bytes, config))
     }
 
     /// Parses a duration as [`Duration::parse_bytes_with_config`] does, and gives the place of the error too,
@@ -59,12 +55,8 @@ impl Duration {
             (time_choices config.now).order (time_choices config.now).behavior bytes.now) }
         ensures within { IfErr result (λ refused. refused.place ≤ length bytes.now) }
     {
-        let order = config.iso_order;
-        Self::placed(
-            bytes,
-            order,
-            config.microseconds_precision_overflow_behavior,
-        )
+        let behavior = config.microseconds_precision_overflow_behavior;
+        Self::placed(bytes, config.iso_order, behavior)
     }
 
     /// Parses a duration, or refuses the text with the place.
@@ -108,22 +100,6 @@ impl Duration {
                 }),
             },
         }
-    }
-}
-
-/// The place of the error for which a text is no duration.
-fn duration_error_place(bytes: &[u8], order: IsoOrder, behavior: Behavior) -> Option<usize>
-    ensures place { result ≡ refused_place (duration_answer_or placed order behavior bytes.now) }
-    ensures within { IfSome result (λ place. place ≤ length bytes.now) }
-{
-    let (_, size) = sign(bytes);
-    let rest = &bytes[size..];
-    match UnsignedDuration::parse::<Refused, false>(rest, order, size, behavior) {
-        Err(refused) => Some(refused.place),
-        Ok(amount) => match normal_error_place(rest, order, amount) {
-            Some(place) => Some(size + place),
-            None => None,
-        },
     }
 }
 

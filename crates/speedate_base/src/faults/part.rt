@@ -1,21 +1,19 @@
 //! The part of a text that an error is about.
 
-ghost use Rattle.std.specs.Prelude.{◌≡◌, ◌≤◌, ◌==◌, IfSome, length};
-ghost use Rattle.std.specs.List.{position};
-ghost use Rattle.speedate_base.specs.Ascii.{colon};
+ghost use Rattle.std.specs.Prelude.{◌≡◌, ◌≤◌, length};
 ghost use Rattle.speedate_base.specs.Part.{bytes_size, digits_size, goes_on, hours_size, part_end};
 ghost use Rattle.speedate_base.specs.Part.{part_size, rest_of_character};
 
 use super::ParseError;
-use crate::numbers::{byte_at, run_end};
+use crate::numbers::{byte_at, first_colon, run_end};
 
 impl ParseError {
     /// Where the part ends that this error is about, in the text that is refused for it at this place: 7
     /// for `ParseError::OutOfRangeMonth`, `b"2020-13-01"` and place 5, so that bytes 5 and 6 are what a
     /// form underlines.
     ///
-    /// The end is at most the text's length, and the place itself if the part is missing. In a text of
-    /// UTF-8 it lies within no character. [A table](docs/GRAMMAR.md#the-part-of-an-error) has the part
+    /// The end is at most the text's length if the place is, and the place itself if the part is missing.
+    /// In a text of UTF-8 it lies within no character. [A table](docs/GRAMMAR.md#the-part-of-an-error) has the part
     /// of each error.
     pub fn part_end(&self, text: &[u8], place: usize) -> usize
         ensures end { result ≡ part_end self.now text.now place }
@@ -98,14 +96,6 @@ fn hours_size(text: &[u8]) -> usize
         Some(place) if place > 0 => place,
         _ => bytes_size(1, text),
     }
-}
-
-/// The place of the first colon.
-fn first_colon(bytes: &[u8]) -> Option<usize>
-    ensures place { result ≡ position (λ byte. byte == colon) bytes.now }
-    ensures within { IfSome result (λ place. place ≤ length bytes.now) }
-{
-    bytes.iter().position(|&byte| byte == b':')
 }
 
 /// The size of `count` bytes at the front of a text, and of the rest of the character in which they end: 2

@@ -2,7 +2,8 @@
 
 ghost use Rattle.std.specs.Prelude.{◌≡◌, ◌+◌, ◌-◌, ◌^◌, ◌<◌, ◌≤◌, length, drop, min, nat_le, ◌==◌, slice_index, IsTrue, IfSome, Some, None, Ok, Err, if◌then◌else◌};
 ghost use Rattle.std.specs.Char.{is_ascii_digit};
-ghost use Rattle.std.specs.List.{list_all};
+ghost use Rattle.std.specs.List.{list_all, position};
+ghost use Rattle.speedate_base.specs.Ascii.{colon};
 ghost use Rattle.speedate_base.specs.Digits.{is_decimal_mark, one_digit_value, two_digits_at};
 ghost use Rattle.speedate_base.specs.Digits.{two_digit_value, run_length, run_value, digits_value};
 ghost use Rattle.speedate_base.specs.Digits.{zeros_length};
@@ -305,4 +306,12 @@ pub fn is_decimal_mark(byte: u8) -> bool
     ensures value { result ≡ is_decimal_mark byte }
 {
     byte == b'.' || byte == b','
+}
+
+/// The place of the first colon: 2 for `b"12:13"`. `None` if there is none.
+pub fn first_colon(bytes: &[u8]) -> Option<usize>
+    ensures place { result ≡ position (λ byte. byte == colon) bytes.now }
+    ensures within { IfSome result (λ place. place ≤ length bytes.now) }
+{
+    bytes.iter().position(|&byte| byte == b':')
 }

@@ -16,7 +16,7 @@ impl Date {
     /// The byte at which the error lies for which [`Date::parse_bytes_with_config`] refuses a text, and
     /// `None` for a text that it accepts: 5, the month's, for `b"2020-13-01"`.
     ///
-    /// It is the place [that the row has](docs/GRAMMAR.md#date) that names the error; of a timestamp,
+    /// It is the place in [the row](docs/GRAMMAR.md#date) that names the error; of a timestamp,
     /// which is refused as a whole, it is 0.
     pub fn error_place(bytes: &[u8], config: &DateConfig) -> Option<usize>
         ensures place { result ≡ date_or_timestamp_place config.now.timestamp_unit bytes.now }
@@ -24,20 +24,13 @@ impl Date {
             ≡ is_err (date_or_timestamp config.now.timestamp_unit bytes.now) }
         ensures within { IfSome result (λ place. place ≤ length bytes.now) }
     {
-        let place = Self::error_place_rfc3339(bytes)?;
-        match int_parse_bytes(bytes) {
-            Some(timestamp) => match Self::from_timestamp(timestamp, true, config) {
-                Ok(_) => None,
-                Err(_) => Some(0),
-            },
-            None => Some(place),
-        }
+        Refused::place_of(Self::parse_or_place(bytes, config))
     }
 
     /// The byte at which the error lies for which [`Date::parse_bytes_rfc3339`] refuses a text, and
     /// `None` for a text that it accepts: 10, where the date ends, for `b"2020-01-01T12:13"`.
     ///
-    /// It is the place [that the row has](docs/GRAMMAR.md#date) that names the error.
+    /// It is the place in [the row](docs/GRAMMAR.md#date) that names the error.
     pub fn error_place_rfc3339(bytes: &[u8]) -> Option<usize>
         ensures place { result ≡ refused_place (date_answer_or placed bytes.now) }
         ensures fault { without_place (date_answer_or placed bytes.now) ≡ date_answer bytes.now }
@@ -50,7 +43,7 @@ impl Date {
     /// The byte at which the error lies for which [`Date::parse_front`] refuses a text, and `None` for a
     /// text that begins with a date: 9, the text's end, for `b"2026-11-2"`.
     ///
-    /// It is the place [that the row has](docs/GRAMMAR.md#date) that names the error.
+    /// It is the place in [the row](docs/GRAMMAR.md#date) that names the error.
     pub fn error_place_front(bytes: &[u8]) -> Option<usize>
         ensures place { result ≡ refused_place (date_front_or placed bytes.now) }
         ensures fault { without_place (date_front_or placed bytes.now) ≡ date_front bytes.now }

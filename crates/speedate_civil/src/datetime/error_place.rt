@@ -22,7 +22,7 @@ impl DateTime {
     /// The byte at which the error lies for which [`DateTime::parse_bytes_with_config`] refuses a text,
     /// and `None` for a text that it accepts: 17, the second's, for `b"2020-02-29T12:13:60"`.
     ///
-    /// It is the place that the row has that names the error, of [a date](docs/GRAMMAR.md#date), the
+    /// It is the place in the row that names the error, of [a date](docs/GRAMMAR.md#date), the
     /// separator, or [a time](docs/GRAMMAR.md#time), which begins at byte 11. Of a timestamp it is 0,
     /// but digits past the microsecond have their own.
     #[inline(always)]
@@ -38,12 +38,14 @@ impl DateTime {
     /// The byte at which the error lies for which [`DateTime::parse_bytes_rfc3339_with_config`] refuses
     /// a text, and `None` for a text that it accepts: 10, the separator's, for `b"2020-02-29"`.
     ///
-    /// It is the place that the row has that names the error, of [a date](docs/GRAMMAR.md#date), the
+    /// It is the place in the row that names the error, of [a date](docs/GRAMMAR.md#date), the
     /// separator, or [a time](docs/GRAMMAR.md#time), which begins at byte 11.
     pub fn error_place_rfc3339(bytes: &[u8], config: &TimeConfig) -> Option<usize>
         ensures place { result
-            ≡ refused_place (date_time_answer_or placed (time_choices config.now).behavior bytes.now) }
-        ensures fault { without_place (date_time_answer_or placed (time_choices config.now).behavior bytes.now)
+            ≡ refused_place
+            (date_time_answer_or placed (time_choices config.now).behavior bytes.now) }
+        ensures fault { without_place
+            (date_time_answer_or placed (time_choices config.now).behavior bytes.now)
             ≡ date_time_answer (time_choices config.now).behavior bytes.now }
         ensures refused { is_some result
             ≡ is_err (date_time_answer (time_choices config.now).behavior bytes.now) }
@@ -57,7 +59,7 @@ impl DateTime {
     /// `None` for a text that it accepts: 19, the text's end, where an offset is missing, for
     /// `b"2020-02-29T12:13:14"`.
     ///
-    /// It is the place [that the row has](docs/GRAMMAR.md#rfc-3339-alone) that names the error.
+    /// It is the place in [the row](docs/GRAMMAR.md#rfc-3339-alone) that names the error.
     pub fn error_place_strict(
         bytes: &[u8],
         behavior: MicrosecondsPrecisionOverflowBehavior,
@@ -77,12 +79,14 @@ impl DateTime {
     /// for a text that begins with a date-time: 20, after the sign, for
     /// `b"2026-11-22T12:00:00-ERROR"`.
     ///
-    /// It is the place that the row has that names the error, of [a date](docs/GRAMMAR.md#date), the
+    /// It is the place in the row that names the error, of [a date](docs/GRAMMAR.md#date), the
     /// separator, or [a time](docs/GRAMMAR.md#time), which begins at byte 11.
     pub fn error_place_front(bytes: &[u8], config: &TimeConfig) -> Option<usize>
         ensures place { result
-            ≡ refused_place (date_time_front_or placed (time_choices config.now).behavior bytes.now) }
-        ensures fault { without_place (date_time_front_or placed (time_choices config.now).behavior bytes.now)
+            ≡ refused_place
+            (date_time_front_or placed (time_choices config.now).behavior bytes.now) }
+        ensures fault { without_place
+            (date_time_front_or placed (time_choices config.now).behavior bytes.now)
             ≡ date_time_front (time_choices config.now).behavior bytes.now }
         ensures refused { is_some result
             ≡ is_err (date_time_front (time_choices config.now).behavior bytes.now) }
@@ -105,7 +109,8 @@ impl DateTime {
         ensures answer { without_place (result_map date_and_time result)
             ≡ date_time_by_config config.now bytes.now }
         ensures place { refused_place result ≡ date_time_or_timestamp_place
-            (choices config.now).unit (choices config.now).behavior (choices config.now).offset bytes.now }
+            (choices config.now).unit (choices config.now).behavior
+            (choices config.now).offset bytes.now }
         ensures within { IfErr result (λ refused. refused.place ≤ length bytes.now) }
     {
         match Self::parse_bytes_with_config(bytes, config) {
@@ -129,7 +134,8 @@ impl DateTime {
         ensures answer { without_place (result_map date_and_time result)
             ≡ date_time_answer (time_choices config.now).behavior bytes.now }
         ensures place { refused_place result
-            ≡ refused_place (date_time_answer_or placed (time_choices config.now).behavior bytes.now) }
+            ≡ refused_place
+            (date_time_answer_or placed (time_choices config.now).behavior bytes.now) }
         ensures within { IfErr result (λ refused. refused.place ≤ length bytes.now) }
     {
         Self::parse_whole(bytes, config.microseconds_precision_overflow_behavior)
@@ -168,7 +174,8 @@ impl DateTime {
         ensures answer { without_place (result_map (with_size date_and_time) result)
             ≡ date_time_front (time_choices config.now).behavior bytes.now }
         ensures place { refused_place result
-            ≡ refused_place (date_time_front_or placed (time_choices config.now).behavior bytes.now) }
+            ≡ refused_place
+            (date_time_front_or placed (time_choices config.now).behavior bytes.now) }
         ensures within { IfErr result (λ refused. refused.place ≤ length bytes.now) }
     {
         Self::front(bytes, config.microseconds_precision_overflow_behavior)

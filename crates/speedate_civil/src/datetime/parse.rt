@@ -4,39 +4,31 @@
 ghost use Rattle.std.specs.Prelude.{◌≡◌, ◌+◌, ◌≤◌, ◌↔◌, ◌==◌, ◌||◌, ℕ, Err, IfErr, IfOk, IfSome, IsOk, IsTrue, None, Ok, OnOk, drop, length, slice_index, take};
 ghost use Rattle.speedate_base.specs.Ascii.{HasNoControl, capital_t, small_t};
 ghost use Rattle.speedate_base.specs.Config.{choices, time_choices};
-ghost use Rattle.speedate_base.specs.Numbers.{NoNumber, decimal_value, number_answer};
+ghost use Rattle.speedate_base.specs.Numbers.{NoNumber, number_answer};
 ghost use Rattle.speedate_base.specs.Offset.{IsWholeMinutes};
 ghost use Rattle.speedate_base.specs.Requirement.{first_fault_or, first_place, first_refusal_or};
-ghost use Rattle.speedate_base.specs.Requirement.{or_number, result_map, shifted, with_size};
+ghost use Rattle.speedate_base.specs.Requirement.{result_map, shifted, with_size};
 ghost use Rattle.speedate_base.specs.Timestamp.{IsInYears, unix_instant};
 ghost use Rattle.speedate_civil.specs.Base.{Behavior, TimestampUnit};
 ghost use Rattle.speedate_civil.specs.DateTime.{DateAndTime, date_and_time, date_time_answer};
 ghost use Rattle.speedate_civil.specs.DateTime.{date_time_answer_or, date_time_at};
 ghost use Rattle.speedate_civil.specs.DateTime.{date_time_by_config, date_time_front};
 ghost use Rattle.speedate_civil.specs.DateTime.{date_time_front_or, date_time_or_timestamp};
-ghost use Rattle.speedate_civil.specs.DateTime.{decimal_text_instant, is_separator, number_instant};
-ghost use Rattle.speedate_civil.specs.DateTime.{whole_instant, separator_table, ◌gives◌};
-ghost use Rattle.speedate_civil.specs.DateTime.{◌gives_front◌};
-ghost use Rattle.speedate_civil.specs.ParserParts.{LooksUsual};
+ghost use Rattle.speedate_civil.specs.DateTime.{is_separator, separator_table, ◌gives_front◌};
+ghost use Rattle.speedate_civil.specs.DateTime.{◌gives◌};
 ghost use Rattle.speedate_civil.specs.Strict.{IsDateTime, strict_date_time};
 ghost use Rattle.speedate_civil.specs.Strict.{strict_date_time_answer, strict_date_time_answer_or};
-ghost use Rattle.speedate_civil.specs.Time.{time_front, time_front_or, time_of_day};
+ghost use Rattle.speedate_civil.specs.Time.{time_front_or, time_of_day};
 
 use super::DateTime;
+use super::timestamp::parse_unix_time;
 use crate::date::{Date, may_be_number};
 use crate::time::{Time, end_fault};
-use speedate_base::config::{
-    DateTimeConfig, MicrosecondsPrecisionOverflowBehavior, TimeConfig, TimestampUnit,
-};
+use speedate_base::config::{DateTimeConfig, MicrosecondsPrecisionOverflowBehavior, TimeConfig};
 use speedate_base::faults::ParseError;
-use speedate_base::numbers::{
-    Decimal, IntFloat, are_between, byte_at, first_eight, float_parse_bytes, takes_digits,
-};
+use speedate_base::numbers::byte_at;
 use speedate_base::refusal::Refusal;
-use speedate_base::util::{
-    UnixTime, decimal_to_seconds_micros, decimal_unit, timestamp_to_seconds_micros,
-};
-use std::simd::prelude::*;
+use speedate_base::util::UnixTime;
 use std::str::FromStr;
 
 /// The place of the separator, after the ten bytes of a date.
@@ -44,9 +36,6 @@ pub(super) const SEPARATOR_PLACE: usize = 10;
 
 /// The place of the time, after the separator.
 pub(super) const TIME_PLACE: usize = 11;
-
-/// How many bytes a date, a separator and a clock with its second have.
-const USUAL_LENGTH: usize = 19;
 
 impl DateTime {
     /// Parses a date-time from a text, which may be a timestamp: 12:13:14 on 29 February 2020 from
@@ -255,20 +244,6 @@ impl DateTime {
         Self::front(bytes, config.microseconds_precision_overflow_behavior)
     }
 
-    /// What [`quick_front`] does, for a text that looks as most do.
-    #[inline(always)]
-    fn usual_front(bytes: &[u8], config: &TimeConfig) -> Result<(Self, usize), ParseError>
-        requires { LooksUsual bytes.now }
-        ensures answer { result gives_front date_time_front (time_choices config.now).behavior
-            bytes.now }
-        ensures within { IfOk result (λ front. front.1 ≤ length bytes.now) }
-    {
-        let behavior = config.microseconds_precision_overflow_behavior;
-        let (date, _) = Date::with_month(bytes)?;
-        let (time, size) = usual_time_after_date(bytes, behavior)?;
-        Ok((DateTime { date, time }, TIME_PLACE + size))
-    }
-
     /// Parses the date-time that takes all the bytes.
     #[inline(always)]
     pub(super) fn parse_whole<E: Refusal>(
@@ -358,53 +333,6 @@ impl FromStr for DateTime {
     }
 }
 
-/// Parses the date-time at the front of a text, as [`DateTime::parse_front`] does: a text that looks as most
-/// do without a search for the first byte that does not fit. It is 12:13:14 on 22 November 2026, and 19,
-/// from `b"2026-11-22 12:13:14 GET /"`.
-///
-/// It is inlined, and long: one caller is enough.
-///
-/// # Errors
-///
-/// Those of [`DateTime::parse_front`].
-#[inline(always)]
-pub fn quick_front(bytes: &[u8], config: &TimeConfig) -> Result<(DateTime, usize), ParseError>
-    ensures answer { result gives_front date_time_front (time_choices config.now).behavior
-        bytes.now }
-    ensures within { IfOk result (λ front. front.1 ≤ length bytes.now) }
-    ensures alone { IfOk result (λ front.
-        date_time_answer (time_choices config.now).behavior (take front.1 bytes.now)
-        ≡ Ok (date_and_time front.0)) }
-    ensures no_control { IfOk result (λ front. HasNoControl front.1 bytes.now) }
-{
-    if !looks_usual(bytes) {
-        return DateTime::parse_front(bytes, config);
-    }
-    DateTime::usual_front(bytes, config)
-}
-
-/// Whether a text begins as a date looks and, after a byte from a space to `t`, as a clock with its second
-/// does: true for `b"2020-02-29T12:13:14Z"` and for `b"2020-99-99 99:99:99"`.
-#[inline(always)]
-fn looks_usual(bytes: &[u8]) -> bool
-    ensures looks { IsTrue result → LooksUsual bytes.now }
-{
-    if bytes.len() < USUAL_LENGTH {
-        return false;
-    }
-    let front = are_between(
-        u8x16::from_slice(bytes),
-        u8x16::from_array(*b"0000-00-00 00:00"),
-        u8x16::from_array(*b"9999-99-99t99:99"),
-    );
-    let end = are_between(
-        u8x16::from_slice(&bytes[3..]),
-        u8x16::from_array(*b"0-00-00 00:00:00"),
-        u8x16::from_array(*b"9-99-99t99:99:99"),
-    );
-    front & end
-}
-
 /// Parses the separator after the date at the front of a text and the time after it, and returns how
 /// many bytes the time takes.
 #[inline(always)]
@@ -424,24 +352,6 @@ fn time_after_date<E: Refusal>(
         return Err(E::at(ParseError::InvalidCharDateTimeSep, SEPARATOR_PLACE));
     }
     Time::front_at(&bytes[TIME_PLACE..], TIME_PLACE, behavior)
-}
-
-/// What [`time_after_date`] does, for a text that looks as most do.
-#[inline(always)]
-fn usual_time_after_date(
-    bytes: &[u8],
-    behavior: MicrosecondsPrecisionOverflowBehavior,
-) -> Result<(Time, usize), ParseError>
-    requires { LooksUsual bytes.now }
-    ensures answer { result_map (with_size time_of_day) result
-        ≡ first_fault_or (separator_table bytes.now) (time_front behavior (drop 11 bytes.now)) }
-    ensures within { IfOk result (λ front. TIME_PLACE + front.1 ≤ length bytes.now) }
-    ensures minutes { IfOk result (λ front. IsWholeMinutes front.0.tz_offset) }
-{
-    if !has_separator(bytes) {
-        return Err(ParseError::InvalidCharDateTimeSep);
-    }
-    Time::usual_front(&bytes[TIME_PLACE..], behavior)
 }
 
 /// Whether a separator follows the ten bytes of a date: `T`, `t`, a space or `_`.
@@ -520,50 +430,4 @@ pub fn timestamp_instant(
     let behavior = config.time_config.microseconds_precision_overflow_behavior;
     let time = parse_unix_time(bytes, fault, config.timestamp_unit, behavior)?;
     Ok(time)
-}
-
-/// Parses the instant of the timestamp that the bytes are. Fails with this error if they are no number.
-fn parse_unix_time(
-    bytes: &[u8],
-    fault: ParseError,
-    unit: TimestampUnit,
-    behavior: MicrosecondsPrecisionOverflowBehavior,
-) -> Result<UnixTime, ParseError>
-    ensures answer { result_map unix_instant result
-        ≡ or_number (number_instant unit behavior (number_answer bytes.now)) (Err fault) }
-    ensures within { IfOk result (λ time. IsInYears (unix_instant time)) }
-{
-    match float_parse_bytes(bytes) {
-        IntFloat::Int(timestamp) => whole_unix_time(timestamp, unit),
-        IntFloat::Float(decimal) => decimal_unix_time(decimal, unit, behavior),
-        IntFloat::Err => Err(fault),
-    }
-}
-
-/// The instant of a whole timestamp.
-#[inline(always)]
-fn whole_unix_time(timestamp: i64, unit: TimestampUnit) -> Result<UnixTime, ParseError>
-    ensures answer { result_map unix_instant result ≡ whole_instant unit timestamp }
-    ensures within { IfOk result (λ time. IsInYears (unix_instant time)) }
-{
-    let time = timestamp_to_seconds_micros(timestamp, unit)?;
-    time.checked_add_microseconds(0)?.in_years()
-}
-
-/// The instant of a decimal timestamp in a text, whose digits are counted if those past the microsecond
-/// are refused.
-fn decimal_unix_time(
-    decimal: Decimal<'_>,
-    unit: TimestampUnit,
-    behavior: MicrosecondsPrecisionOverflowBehavior,
-) -> Result<UnixTime, ParseError>
-    ensures answer { result_map unix_instant result
-        ≡ decimal_text_instant unit behavior (decimal_value decimal.entry) }
-    ensures within { IfOk result (λ time. IsInYears (unix_instant time)) }
-{
-    let unit = decimal_unit(decimal, unit);
-    if !takes_digits(behavior, decimal.fraction.len(), unit.digits) {
-        return Err(unit.too_long);
-    }
-    decimal_to_seconds_micros(decimal, unit)
 }

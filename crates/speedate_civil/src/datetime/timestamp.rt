@@ -1,28 +1,30 @@
-//! Date-times from timestamps, and back.
+//! Date-times from timestamps, as numbers and as texts, and back.
 
-ghost use Rattle.std.specs.Prelude.{◌≡◌, ◌≤ℤ◌, ◌+ℤ◌, ◌-ℤ◌, ◌*ℤ◌, Ok, IfOk, None, pos};
 ghost use Rattle.std.specs.Option.{ForSome};
+ghost use Rattle.std.specs.Prelude.{◌≡◌, ◌≤ℤ◌, ◌+ℤ◌, ◌-ℤ◌, ◌*ℤ◌, Ok, IfOk, None, pos, Err};
 ghost use Rattle.speedate_base.specs.Config.{choices};
-ghost use Rattle.speedate_civil.specs.Base.{TimestampUnit};
 ghost use Rattle.speedate_base.specs.Nearest.{IsNearest};
-ghost use Rattle.speedate_base.specs.Numbers.{decimal_scale, decimal_value};
+ghost use Rattle.speedate_base.specs.Numbers.{decimal_scale, decimal_value, number_answer};
 ghost use Rattle.speedate_base.specs.Offset.{IsOffset, IsWholeMinutes};
-ghost use Rattle.speedate_base.specs.Timestamp.{IsInYears, first_second, last_second, unix_instant};
-ghost use Rattle.speedate_base.specs.Timestamp.{decimal_row, decimal_numerator, decimal_instant};
-ghost use Rattle.speedate_base.specs.Timestamp.{unix_row};
-ghost use Rattle.speedate_civil.specs.DateTime.{local_second, utc_second, local_millisecond};
-ghost use Rattle.speedate_civil.specs.DateTime.{utc_millisecond, local_microsecond};
-ghost use Rattle.speedate_civil.specs.DateTime.{utc_microsecond, date_and_time, IsShownAt};
-ghost use Rattle.speedate_civil.specs.DateTime.{date_time_at, instant_date_time};
-ghost use Rattle.speedate_civil.specs.DateTime.{date_time_timestamp_answer, meant_microsecond};
-ghost use Rattle.speedate_civil.specs.DateTime.{date_time_decimal_answer, ◌gives◌};
+ghost use Rattle.speedate_base.specs.Requirement.{or_number, result_map};
+ghost use Rattle.speedate_base.specs.Timestamp.{IsInYears, decimal_instant, decimal_numerator};
+ghost use Rattle.speedate_base.specs.Timestamp.{decimal_row, first_second, last_second};
+ghost use Rattle.speedate_base.specs.Timestamp.{unix_instant, unix_row};
+ghost use Rattle.speedate_civil.specs.Base.{TimestampUnit};
+ghost use Rattle.speedate_civil.specs.DateTime.{IsShownAt, date_and_time, date_time_at};
+ghost use Rattle.speedate_civil.specs.DateTime.{date_time_decimal_answer};
+ghost use Rattle.speedate_civil.specs.DateTime.{date_time_timestamp_answer, decimal_text_instant};
+ghost use Rattle.speedate_civil.specs.DateTime.{instant_date_time, local_microsecond};
+ghost use Rattle.speedate_civil.specs.DateTime.{local_millisecond, local_second, meant_microsecond};
+ghost use Rattle.speedate_civil.specs.DateTime.{number_instant, utc_microsecond, utc_millisecond};
+ghost use Rattle.speedate_civil.specs.DateTime.{utc_second, whole_instant, ◌gives◌};
 
 use super::DateTime;
 use crate::date::Date;
 use crate::time::Time;
-use speedate_base::config::DateTimeConfig;
+use speedate_base::config::{DateTimeConfig, MicrosecondsPrecisionOverflowBehavior, TimestampUnit};
 use speedate_base::faults::ParseError;
-use speedate_base::numbers::Decimal;
+use speedate_base::numbers::{Decimal, IntFloat, float_parse_bytes, takes_digits};
 use speedate_base::util::{
     UnixTime, UnixUnit, decimal_to_seconds_micros, decimal_unit, timestamp_to_seconds_micros,
 };
@@ -199,4 +201,50 @@ impl DateTime {
     {
         1_000_000 * self.timestamp_tz() + i64::from(self.time.microsecond)
     }
+}
+
+/// Parses the instant of the timestamp that the bytes are. Fails with this error if they are no number.
+pub(super) fn parse_unix_time(
+    bytes: &[u8],
+    fault: ParseError,
+    unit: TimestampUnit,
+    behavior: MicrosecondsPrecisionOverflowBehavior,
+) -> Result<UnixTime, ParseError>
+    ensures answer { result_map unix_instant result
+        ≡ or_number (number_instant unit behavior (number_answer bytes.now)) (Err fault) }
+    ensures within { IfOk result (λ time. IsInYears (unix_instant time)) }
+{
+    match float_parse_bytes(bytes) {
+        IntFloat::Int(timestamp) => whole_unix_time(timestamp, unit),
+        IntFloat::Float(decimal) => decimal_unix_time(decimal, unit, behavior),
+        IntFloat::Err => Err(fault),
+    }
+}
+
+/// The instant of a whole timestamp.
+#[inline(always)]
+fn whole_unix_time(timestamp: i64, unit: TimestampUnit) -> Result<UnixTime, ParseError>
+    ensures answer { result_map unix_instant result ≡ whole_instant unit timestamp }
+    ensures within { IfOk result (λ time. IsInYears (unix_instant time)) }
+{
+    let time = timestamp_to_seconds_micros(timestamp, unit)?;
+    time.checked_add_microseconds(0)?.in_years()
+}
+
+/// The instant of a decimal timestamp in a text, whose digits are counted if those past the microsecond
+/// are refused.
+fn decimal_unix_time(
+    decimal: Decimal<'_>,
+    unit: TimestampUnit,
+    behavior: MicrosecondsPrecisionOverflowBehavior,
+) -> Result<UnixTime, ParseError>
+    ensures answer { result_map unix_instant result
+        ≡ decimal_text_instant unit behavior (decimal_value decimal.entry) }
+    ensures within { IfOk result (λ time. IsInYears (unix_instant time)) }
+{
+    let unit = decimal_unit(decimal, unit);
+    if !takes_digits(behavior, decimal.fraction.len(), unit.digits) {
+        return Err(unit.too_long);
+    }
+    decimal_to_seconds_micros(decimal, unit)
 }

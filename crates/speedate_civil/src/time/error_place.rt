@@ -16,11 +16,12 @@ impl Time {
     /// The byte at which the error lies for which [`Time::parse_bytes_with_config`] refuses a text, and
     /// `None` for a text that it accepts: 6, the second's, for `b"12:13:60"`.
     ///
-    /// It is the place [that the row has](docs/GRAMMAR.md#time) that names the error.
+    /// It is the place in [the row](docs/GRAMMAR.md#time) that names the error.
     pub fn error_place(bytes: &[u8], config: &TimeConfig) -> Option<usize>
         ensures place { result
             ≡ refused_place (time_answer_or placed (time_choices config.now).behavior bytes.now) }
-        ensures fault { without_place (time_answer_or placed (time_choices config.now).behavior bytes.now)
+        ensures fault { without_place
+            (time_answer_or placed (time_choices config.now).behavior bytes.now)
             ≡ time_answer (time_choices config.now).behavior bytes.now }
         ensures refused { is_some result
             ≡ is_err (time_answer (time_choices config.now).behavior bytes.now) }
@@ -33,7 +34,7 @@ impl Time {
     /// The byte at which the error lies for which [`Time::parse_bytes_strict`] refuses a text, and `None`
     /// for a text that it accepts: 5, the text's end, where a second is missing, for `b"12:13"`.
     ///
-    /// It is the place [that the row has](docs/GRAMMAR.md#rfc-3339-alone) that names the error.
+    /// It is the place in [the row](docs/GRAMMAR.md#rfc-3339-alone) that names the error.
     pub fn error_place_strict(
         bytes: &[u8],
         behavior: MicrosecondsPrecisionOverflowBehavior,
@@ -52,11 +53,12 @@ impl Time {
     /// The byte at which the error lies for which [`Time::parse_front`] refuses a text, and `None` for a
     /// text that begins with a time: 9, after the sign, for `b"12:00:00-ERROR"`.
     ///
-    /// It is the place [that the row has](docs/GRAMMAR.md#time) that names the error.
+    /// It is the place in [the row](docs/GRAMMAR.md#time) that names the error.
     pub fn error_place_front(bytes: &[u8], config: &TimeConfig) -> Option<usize>
         ensures place { result
             ≡ refused_place (time_front_or placed (time_choices config.now).behavior bytes.now) }
-        ensures fault { without_place (time_front_or placed (time_choices config.now).behavior bytes.now)
+        ensures fault { without_place
+            (time_front_or placed (time_choices config.now).behavior bytes.now)
             ≡ time_front (time_choices config.now).behavior bytes.now }
         ensures refused { is_some result
             ≡ is_err (time_front (time_choices config.now).behavior bytes.now) }

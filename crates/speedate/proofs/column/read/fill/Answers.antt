@@ -1,5 +1,6 @@
-use Rattle.std.proofs.Common.{◌+◌, ◌-◌, ◌≡◌, ℕ, List, length, set, None, Some, arith, refl, sym}
-use Rattle.std.proofs.lemmas.List.{take_rest, length-drop, length-set}
+use Rattle.std.proofs.Common.{◌+◌, ◌-◌, ◌≡◌, ◌∙◌, ℕ, List, length, set, None, Some, ap, arith, refl, sym}
+use Rattle.std.proofs.lemmas.List.{take_rest, drop-drop, length-drop, length-set}
+use Rattle.speedate.specs.Lines.{unfinished_line}
 use Rattle.speedate.proofs.ColumnLemmas.{IsSoFar-more, IsSoFar-whole, text_column-more}
 use Rattle.speedate.proofs.ColumnLemmas.{text_column-full, text_column-none, text_column-ended}
 use Rattle.speedate.proofs.ColumnLemmas.{rest-more}
@@ -24,6 +25,8 @@ loop-lines-preserved g c =
       within = omega (arith, before.within, found.first.within, length-drop bytes text);
       rest = rest-more _ text found.first.first bytes _ lines
           (lines + 1) before.rest found.first.lines refl;
+      unfinished = λ goes_on. ap unfinished_line (sym (drop-drop c.in-Some.line.size bytes text))
+          ∙ found.first.unfinished goes_on ∙ before.unfinished goes_on;
       so_far = IsSoFar-more _ _ _ lines _ _ out _ _ _ _ held before.so_far is refl refl
           c.put.ensures.put;
     }
@@ -37,10 +40,10 @@ returns-in_default g c =
       numbers = all.numbers;
       errors = all.errors;
       lines = all.count;
-      error =
-          all.ends;
+      error = all.ends;
       within = before.within;
       rest = before.rest;
+      unfinished = before.unfinished;
     }
 
 pub returns-in-Err : goal.returns-in-Err
@@ -56,10 +59,10 @@ returns-in-Err g c =
       numbers = all.numbers;
       errors = all.errors;
       lines = all.count;
-      error =
-          all.ends;
+      error = all.ends;
       within = before.within;
       rest = before.rest;
+      unfinished = before.unfinished;
     }
 
 pub returns : goal.returns
@@ -72,8 +75,8 @@ returns g c =
       numbers = all.numbers;
       errors = all.errors;
       lines = all.count;
-      error =
-          all.ends;
+      error = all.ends;
       within = before.within;
       rest = before.rest;
+      unfinished = before.unfinished;
     }

@@ -1,6 +1,6 @@
-use Rattle.std.proofs.Common.{◌≡◌, ◌-◌, ◌≤◌, length, drop}
+use Rattle.std.proofs.Common.{◌≡◌, ◌-◌, ◌≤◌, false, length, drop}
 use Rattle.speedate.specs.Column.{text_column}
-use Rattle.speedate.specs.Lines.{whole_lines}
+use Rattle.speedate.specs.Lines.{unfinished_line, whole_lines}
 use Rattle.speedate.proofs.ColumnLemmas.{IsSoFar}
 use Rattle.speedate.proofs.column.read.fill.Given as goal
 
@@ -13,6 +13,8 @@ invariant-loop-lines g l =
       within : l.bytes ≤ length l.text;
       rest : whole_lines l.config.at_end (drop l.bytes l.text) ≡ drop l.lines
           (whole_lines l.config.at_end l.text);
+      unfinished : l.config.at_end ≡ false
+          → unfinished_line (drop l.bytes l.text) ≡ unfinished_line l.text;
       so_far : IsSoFar (text_column answer l.config l.refused (length l.initial.out) l.text)
           (text_column answer l.config l.refused (length l.out - l.lines) (drop l.bytes l.text))
           l.lines l.initial.out l.out l.initial.errors l.errors;

@@ -1,7 +1,9 @@
 use Rattle.std.proofs.Common.{◌<◌, ℕ, List, length, take, arith, sym, ap, subst, ◌∙◌, ◌≤◌}
+use Rattle.std.proofs.lemmas.Bool.{false≢true}
 use Rattle.std.proofs.lemmas.Bool.Decides.{nat_tests}
-use Rattle.speedate.proofs.WholeLineLemmas.{whole_lines-from, whole_lines-last, whole_lines-none}
-use Rattle.speedate.proofs.WholeLineLemmas.{without_return-front, without_return-whole}
+use Rattle.speedate.proofs.WholeLineLemmas.{unfinished-from, whole_lines-from, whole_lines-last}
+use Rattle.speedate.proofs.WholeLineLemmas.{whole_lines-none, without_return-front}
+use Rattle.speedate.proofs.WholeLineLemmas.{without_return-whole}
 use Rattle.speedate.proofs.column.read.first_size.Goals as goal
 
 pub returns-in-Some : goal.returns-in-Some
@@ -18,6 +20,7 @@ returns-in-Some c =
         within = omega (arith, found.within);
         lines = whole_lines-from c.args.config.at_end text end found;
         is_read = sym front.0 ∙ ap (λ (read : List ℕ). take (length read) text) (sym line);
+        unfinished = λ goes_on. unfinished-from text end found;
       };
       within = subst (λ (read : List ℕ). length read ≤ length text) (sym line) front.1;
     }
@@ -35,6 +38,7 @@ returns-in-None c =
         lines = whole_lines-last c.args.config.at_end text c.if-config.true some
             c.in-None.ensures.found;
         is_read = sym front.0 ∙ ap (λ (read : List ℕ). take (length read) text) (sym line);
+        unfinished = λ goes_on. absurd (false≢true (sym goes_on ∙ c.if-config.true));
       };
       within = subst (λ (read : List ℕ). length read ≤ length text) (sym line) front.1;
     }

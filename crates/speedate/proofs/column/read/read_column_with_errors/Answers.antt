@@ -37,4 +37,5 @@ returns g c =
       error = c.fill.ensures.error ∙ text_column-goes_on answer config number _ text;
       within = c.fill.ensures.within;
       rest = c.fill.ensures.rest;
+      unfinished = c.fill.ensures.unfinished;
     }

@@ -5,7 +5,7 @@ use Rattle.speedate_civil.specs.DateTime.{DateAndTime, date_and_time}
 use Rattle.speedate_civil.proofs.FrontLemmas.{date_time_read-alone}
 use Rattle.speedate_civil.proofs.NoControlLemmas.{date_time_front-no_control}
 use Rattle.speedate_civil.proofs.ReadLemmas.{read-result}
-use Rattle.speedate_civil.proofs.datetime.parse.quick_front.Goals as goal
+use Rattle.speedate_civil.proofs.datetime.usual.quick_front.Goals as goal
 
 pub returns-clause-alone : goal.returns-clause-alone
 returns-clause-alone c =

@@ -1,7 +1,7 @@
 use Rattle.std.proofs.Common.{◌∙◌, ap, sym}
 use Rattle.std.proofs.lemmas.List.{take_rest}
 use Rattle.speedate_civil.specs.Time.{time_front}
-use Rattle.speedate_civil.proofs.datetime.parse.usual_time_after_date.Goals as goal
+use Rattle.speedate_civil.proofs.datetime.usual.usual_time_after_date.Goals as goal
 
 pub returns-clause-answer : goal.returns-clause-answer
 returns-clause-answer c =

@@ -1,5 +1,5 @@
 use Rattle.std.proofs.Common.{rules, sym}
-use Rattle.speedate_civil.proofs.datetime.parse.parse_unix_time.Goals as goal
+use Rattle.speedate_civil.proofs.datetime.timestamp.parse_unix_time.Goals as goal
 
 pub returns-in-Int-clause-answer : goal.returns-in-Int-clause-answer
 returns-in-Int-clause-answer c =

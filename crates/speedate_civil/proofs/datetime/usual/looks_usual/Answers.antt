@@ -1,7 +1,7 @@
 use Rattle.std.proofs.Common.{◌∙◌, sym}
 use Rattle.std.proofs.lemmas.Bool.{and_parts}
 use Rattle.speedate_civil.proofs.UsualLemmas.{looks-usual}
-use Rattle.speedate_civil.proofs.datetime.parse.looks_usual.Goals as goal
+use Rattle.speedate_civil.proofs.datetime.usual.looks_usual.Goals as goal
 
 pub returns : goal.returns
 returns c = record {

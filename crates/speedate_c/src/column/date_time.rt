@@ -1,0 +1,203 @@
+//! Columns of date-times as C sees them: of their instants, of what their clocks show, and of their offsets.
+
+ghost use Rattle.std.specs.Prelude.{◌≡◌, MatchOption};
+ghost use Rattle.speedate.specs.Column.{clock_number, date_time_number, date_time_offset_number};
+ghost use Rattle.speedate.specs.Config.{choices};
+ghost use Rattle.speedate_c.specs.Code.{config_out_of_range, success};
+ghost use Rattle.speedate_c.specs.Column.{IsColumn, IsColumnWithErrors, chosen_for_clocks};
+ghost use Rattle.speedate_c.specs.Column.{chosen_for_date_time_offsets, chosen_for_date_times};
+ghost use Rattle.speedate_c.specs.Column.{clock_number_by, date_time_number_by};
+ghost use Rattle.speedate_c.specs.Column.{date_time_offset_number_by, least_of_32_bits};
+ghost use Rattle.speedate_c.specs.Column.{least_of_64_bits, on_refusal};
+
+use super::{
+    ColumnChoices, LineForm, SpeedateColumnConfig, SpeedateProgress, write_column,
+    write_column_with_errors,
+};
+use crate::config::SpeedateConfig;
+use speedate::{
+    DateTimeClockReader, DateTimeConfig, DateTimeOffsetReader, DateTimeParser, DateTimeReader,
+};
+
+impl ColumnChoices {
+    /// The parser of date-times.
+    #[inline(always)]
+    fn date_time_parser(&self, config: &DateTimeConfig) -> DateTimeParser
+        ensures instants { date_time_number
+            (record { parser = result; assumes_utc = self.now.assumes_utc })
+            ≡ date_time_number_by (choices config.now) self.now }
+        ensures clocks { clock_number (record { parser = result })
+            ≡ clock_number_by (choices config.now) self.now.form }
+        ensures offsets { date_time_offset_number (record { parser = result })
+            ≡ date_time_offset_number_by (choices config.now) self.now.form }
+    {
+        let time_config = config.time_config;
+        match self.form {
+            LineForm::Text => DateTimeParser::Rfc3339(time_config),
+            LineForm::Timestamp => DateTimeParser::OrTimestamp(*config),
+            LineForm::Strict => {
+                DateTimeParser::Strict(time_config.microseconds_precision_overflow_behavior)
+            }
+        }
+    }
+
+    /// The reader of date-times.
+    #[inline(always)]
+    fn date_time_reader(&self, config: &DateTimeConfig) -> DateTimeReader
+        ensures reads { date_time_number result
+            ≡ date_time_number_by (choices config.now) self.now }
+    {
+        DateTimeReader {
+            parser: self.date_time_parser(config),
+            assumes_utc: self.assumes_utc,
+        }
+    }
+}
+
+/// Reads the lines of a text as date-times, and writes their microseconds since 1970-01-01T00:00:00 in
+/// UTC, as [`read_column`] does by a [`DateTimeReader`]: 1,000,000 for `1970-01-01T00:00:01Z`.
+///
+/// `CONFIG_OUT_OF_RANGE` if a number of either configuration is out of range. A line that is refused is
+/// no failure of the call: if it ends the column, the progress has the code of its error.
+#[unsafe(no_mangle)]
+pub extern "C" fn speedate_datetime_column(
+    text: &[u8],
+    config: SpeedateConfig,
+    column: SpeedateColumnConfig,
+    out: &mut [i64],
+    progress: &mut SpeedateProgress,
+) -> i32
+    ensures answer { MatchOption (chosen_for_date_times config column)
+        ((result ≡ config_out_of_range) × (out.new ≡ out.old) × (progress.new ≡ progress.old))
+        (λ chosen. (result ≡ success) × IsColumn chosen.1 chosen.0.lines
+        (on_refusal chosen.0.goes_on least_of_64_bits) text.now out.old out.new progress.new) }
+{
+    let config = config_or_return!(config.to_config());
+    let choices = config_or_return!(column.to_choices());
+    let reader = choices.date_time_reader(&config);
+    write_column(text, &choices, &reader, i64::MIN, out, progress)
+}
+
+/// Reads a column as [`speedate_datetime_column`] does, and writes the number of the error of each line too,
+/// or 0 for none, as [`read_column_with_errors`] does. No line ends the column: one that is refused has
+/// the smallest number.
+#[unsafe(no_mangle)]
+pub extern "C" fn speedate_datetime_column_with_errors(
+    text: &[u8],
+    config: SpeedateConfig,
+    column: SpeedateColumnConfig,
+    out: &mut [i64],
+    errors: &mut [u8],
+    progress: &mut SpeedateProgress,
+) -> i32
+    ensures answer { MatchOption (chosen_for_date_times config column)
+        ((result ≡ config_out_of_range) × (out.new ≡ out.old) × (errors.new ≡ errors.old)
+        × (progress.new ≡ progress.old))
+        (λ chosen. (result ≡ success) × IsColumnWithErrors chosen.1 chosen.0.lines
+        least_of_64_bits text.now out.old out.new errors.old errors.new progress.new) }
+{
+    let config = config_or_return!(config.to_config());
+    let choices = config_or_return!(column.to_choices());
+    let reader = choices.date_time_reader(&config);
+    write_column_with_errors(text, &choices, &reader, i64::MIN, out, errors, progress)
+}
+
+/// Reads the lines of a text as date-times, and writes the microseconds since 1970-01-01T00:00:00 that
+/// their clocks show, whatever the offset, as [`read_column`] does by a [`DateTimeClockReader`]:
+/// 3,600,000,000 for `1970-01-01T01:00+01:00`.
+///
+/// `CONFIG_OUT_OF_RANGE` and lines that are refused are those of [`speedate_datetime_column`].
+#[unsafe(no_mangle)]
+pub extern "C" fn speedate_datetime_clock_column(
+    text: &[u8],
+    config: SpeedateConfig,
+    column: SpeedateColumnConfig,
+    out: &mut [i64],
+    progress: &mut SpeedateProgress,
+) -> i32
+    ensures answer { MatchOption (chosen_for_clocks config column)
+        ((result ≡ config_out_of_range) × (out.new ≡ out.old) × (progress.new ≡ progress.old))
+        (λ chosen. (result ≡ success) × IsColumn chosen.1 chosen.0.lines
+        (on_refusal chosen.0.goes_on least_of_64_bits) text.now out.old out.new progress.new) }
+{
+    let config = config_or_return!(config.to_config());
+    let choices = config_or_return!(column.to_choices());
+    let parser = choices.date_time_parser(&config);
+    let reader = DateTimeClockReader { parser };
+    write_column(text, &choices, &reader, i64::MIN, out, progress)
+}
+
+/// Reads a column as [`speedate_datetime_clock_column`] does, and writes the number of the error of each line
+/// too, or 0 for none, as [`read_column_with_errors`] does. No line ends the column: one that is refused has
+/// the smallest number.
+#[unsafe(no_mangle)]
+pub extern "C" fn speedate_datetime_clock_column_with_errors(
+    text: &[u8],
+    config: SpeedateConfig,
+    column: SpeedateColumnConfig,
+    out: &mut [i64],
+    errors: &mut [u8],
+    progress: &mut SpeedateProgress,
+) -> i32
+    ensures answer { MatchOption (chosen_for_clocks config column)
+        ((result ≡ config_out_of_range) × (out.new ≡ out.old) × (errors.new ≡ errors.old)
+        × (progress.new ≡ progress.old))
+        (λ chosen. (result ≡ success) × IsColumnWithErrors chosen.1 chosen.0.lines
+        least_of_64_bits text.now out.old out.new errors.old errors.new progress.new) }
+{
+    let config = config_or_return!(config.to_config());
+    let choices = config_or_return!(column.to_choices());
+    let parser = choices.date_time_parser(&config);
+    let reader = DateTimeClockReader { parser };
+    write_column_with_errors(text, &choices, &reader, i64::MIN, out, errors, progress)
+}
+
+/// Reads the lines of a text as date-times, and writes the seconds of their offsets, as [`read_column`] does
+/// by a [`DateTimeOffsetReader`]: 3,600 for `1970-01-01T01:00+01:00`. A timestamp has the offset of `config`.
+/// A line without an offset is refused, with the code of `TzRequired`.
+///
+/// `CONFIG_OUT_OF_RANGE` and lines that are refused are those of [`speedate_datetime_column`].
+#[unsafe(no_mangle)]
+pub extern "C" fn speedate_datetime_offset_column(
+    text: &[u8],
+    config: SpeedateConfig,
+    column: SpeedateColumnConfig,
+    out: &mut [i32],
+    progress: &mut SpeedateProgress,
+) -> i32
+    ensures answer { MatchOption (chosen_for_date_time_offsets config column)
+        ((result ≡ config_out_of_range) × (out.new ≡ out.old) × (progress.new ≡ progress.old))
+        (λ chosen. (result ≡ success) × IsColumn chosen.1 chosen.0.lines
+        (on_refusal chosen.0.goes_on least_of_32_bits) text.now out.old out.new progress.new) }
+{
+    let config = config_or_return!(config.to_config());
+    let choices = config_or_return!(column.to_choices());
+    let parser = choices.date_time_parser(&config);
+    let reader = DateTimeOffsetReader { parser };
+    write_column(text, &choices, &reader, i32::MIN, out, progress)
+}
+
+/// Reads a column as [`speedate_datetime_offset_column`] does, and writes the number of the error of each line
+/// too, or 0 for none, as [`read_column_with_errors`] does. No line ends the column: one that is refused has
+/// the smallest number.
+#[unsafe(no_mangle)]
+pub extern "C" fn speedate_datetime_offset_column_with_errors(
+    text: &[u8],
+    config: SpeedateConfig,
+    column: SpeedateColumnConfig,
+    out: &mut [i32],
+    errors: &mut [u8],
+    progress: &mut SpeedateProgress,
+) -> i32
+    ensures answer { MatchOption (chosen_for_date_time_offsets config column)
+        ((result ≡ config_out_of_range) × (out.new ≡ out.old) × (errors.new ≡ errors.old)
+        × (progress.new ≡ progress.old))
+        (λ chosen. (result ≡ success) × IsColumnWithErrors chosen.1 chosen.0.lines
+        least_of_32_bits text.now out.old out.new errors.old errors.new progress.new) }
+{
+    let config = config_or_return!(config.to_config());
+    let choices = config_or_return!(column.to_choices());
+    let parser = choices.date_time_parser(&config);
+    let reader = DateTimeOffsetReader { parser };
+    write_column_with_errors(text, &choices, &reader, i32::MIN, out, errors, progress)
+}

@@ -1,0 +1,137 @@
+//! Columns of times as C sees them: of what their clocks show, and of their offsets.
+
+ghost use Rattle.std.specs.Option.{option_map};
+ghost use Rattle.std.specs.Prelude.{◌≡◌, MatchOption};
+ghost use Rattle.speedate.specs.Column.{time_of_line};
+ghost use Rattle.speedate.specs.Config.{choices};
+ghost use Rattle.speedate_c.specs.Code.{config_out_of_range, success};
+ghost use Rattle.speedate_c.specs.Column.{IsColumn, IsColumnWithErrors, chosen_for_time_offsets};
+ghost use Rattle.speedate_c.specs.Column.{chosen_for_times, least_of_32_bits, least_of_64_bits};
+ghost use Rattle.speedate_c.specs.Column.{on_refusal, time_of_form};
+
+use super::{
+    ColumnChoices, LineForm, SpeedateColumnConfig, SpeedateProgress, write_column,
+    write_column_with_errors,
+};
+use crate::config::SpeedateConfig;
+use speedate::{DateTimeConfig, TimeOffsetReader, TimeParser, TimeReader};
+
+impl ColumnChoices {
+    /// The parser of times, if the form is one of times.
+    #[inline(always)]
+    fn time_parser(&self, config: &DateTimeConfig) -> Option<TimeParser>
+        ensures parses { option_map time_of_line result
+            ≡ time_of_form self.now.form (choices config.now) }
+    {
+        let time_config = config.time_config;
+        match self.form {
+            LineForm::Text => Some(TimeParser::Rfc3339(time_config)),
+            LineForm::Timestamp => None,
+            LineForm::Strict => {
+                let behavior = time_config.microseconds_precision_overflow_behavior;
+                Some(TimeParser::Strict(behavior))
+            }
+        }
+    }
+}
+
+/// Reads the lines of a text as times, and writes the microseconds after midnight that their clocks show,
+/// whatever the offset, as [`read_column`] does by a [`TimeReader`]: 43,994,500,000 for `12:13:14.5`.
+///
+/// `CONFIG_OUT_OF_RANGE` and lines that are refused are those of [`speedate_datetime_column`]; the form 1
+/// is out of range.
+#[unsafe(no_mangle)]
+pub extern "C" fn speedate_time_column(
+    text: &[u8],
+    config: SpeedateConfig,
+    column: SpeedateColumnConfig,
+    out: &mut [i64],
+    progress: &mut SpeedateProgress,
+) -> i32
+    ensures answer { MatchOption (chosen_for_times config column)
+        ((result ≡ config_out_of_range) × (out.new ≡ out.old) × (progress.new ≡ progress.old))
+        (λ chosen. (result ≡ success) × IsColumn chosen.1 chosen.0.lines
+        (on_refusal chosen.0.goes_on least_of_64_bits) text.now out.old out.new progress.new) }
+{
+    let config = config_or_return!(config.to_config());
+    let choices = config_or_return!(column.to_choices());
+    let parser = config_or_return!(choices.time_parser(&config));
+    let reader = TimeReader { parser };
+    write_column(text, &choices, &reader, i64::MIN, out, progress)
+}
+
+/// Reads a column as [`speedate_time_column`] does, and writes the number of the error of each line
+/// too, or 0 for none, as [`read_column_with_errors`] does. No line ends the column: one that is refused has
+/// the smallest number.
+#[unsafe(no_mangle)]
+pub extern "C" fn speedate_time_column_with_errors(
+    text: &[u8],
+    config: SpeedateConfig,
+    column: SpeedateColumnConfig,
+    out: &mut [i64],
+    errors: &mut [u8],
+    progress: &mut SpeedateProgress,
+) -> i32
+    ensures answer { MatchOption (chosen_for_times config column)
+        ((result ≡ config_out_of_range) × (out.new ≡ out.old) × (errors.new ≡ errors.old)
+        × (progress.new ≡ progress.old))
+        (λ chosen. (result ≡ success) × IsColumnWithErrors chosen.1 chosen.0.lines
+        least_of_64_bits text.now out.old out.new errors.old errors.new progress.new) }
+{
+    let config = config_or_return!(config.to_config());
+    let choices = config_or_return!(column.to_choices());
+    let parser = config_or_return!(choices.time_parser(&config));
+    let reader = TimeReader { parser };
+    write_column_with_errors(text, &choices, &reader, i64::MIN, out, errors, progress)
+}
+
+/// Reads the lines of a text as times, and writes the seconds of their offsets, as [`read_column`] does by a
+/// [`TimeOffsetReader`]: 3,600 for `12:13+01:00`. A line without an offset is refused, with the code of
+/// `TzRequired`.
+///
+/// `CONFIG_OUT_OF_RANGE` and lines that are refused are those of [`speedate_datetime_column`]; the form 1
+/// is out of range.
+#[unsafe(no_mangle)]
+pub extern "C" fn speedate_time_offset_column(
+    text: &[u8],
+    config: SpeedateConfig,
+    column: SpeedateColumnConfig,
+    out: &mut [i32],
+    progress: &mut SpeedateProgress,
+) -> i32
+    ensures answer { MatchOption (chosen_for_time_offsets config column)
+        ((result ≡ config_out_of_range) × (out.new ≡ out.old) × (progress.new ≡ progress.old))
+        (λ chosen. (result ≡ success) × IsColumn chosen.1 chosen.0.lines
+        (on_refusal chosen.0.goes_on least_of_32_bits) text.now out.old out.new progress.new) }
+{
+    let config = config_or_return!(config.to_config());
+    let choices = config_or_return!(column.to_choices());
+    let parser = config_or_return!(choices.time_parser(&config));
+    let reader = TimeOffsetReader { parser };
+    write_column(text, &choices, &reader, i32::MIN, out, progress)
+}
+
+/// Reads a column as [`speedate_time_offset_column`] does, and writes the number of the error of each line
+/// too, or 0 for none, as [`read_column_with_errors`] does. No line ends the column: one that is refused has
+/// the smallest number.
+#[unsafe(no_mangle)]
+pub extern "C" fn speedate_time_offset_column_with_errors(
+    text: &[u8],
+    config: SpeedateConfig,
+    column: SpeedateColumnConfig,
+    out: &mut [i32],
+    errors: &mut [u8],
+    progress: &mut SpeedateProgress,
+) -> i32
+    ensures answer { MatchOption (chosen_for_time_offsets config column)
+        ((result ≡ config_out_of_range) × (out.new ≡ out.old) × (errors.new ≡ errors.old)
+        × (progress.new ≡ progress.old))
+        (λ chosen. (result ≡ success) × IsColumnWithErrors chosen.1 chosen.0.lines
+        least_of_32_bits text.now out.old out.new errors.old errors.new progress.new) }
+{
+    let config = config_or_return!(config.to_config());
+    let choices = config_or_return!(column.to_choices());
+    let parser = config_or_return!(choices.time_parser(&config));
+    let reader = TimeOffsetReader { parser };
+    write_column_with_errors(text, &choices, &reader, i32::MIN, out, errors, progress)
+}
