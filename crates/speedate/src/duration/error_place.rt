@@ -36,7 +36,11 @@ impl Duration {
             (time_choices config.now).order (time_choices config.now).behavior bytes.now) }
         ensures within { IfSome result (λ place. place ≤ length bytes.now) }
     {
-        Refused::place_of(Self::parse_or_place(bytes, config))
+        duration_error_place(
+            bytes,
+            config.iso_order,
+            config.microseconds_precision_overflow_behavior,
+        )
     }
 
     /// Parses a duration as [`Duration::parse_bytes_with_config`] does, and gives the place of the error too,
@@ -55,8 +59,12 @@ impl Duration {
             (time_choices config.now).order (time_choices config.now).behavior bytes.now) }
         ensures within { IfErr result (λ refused. refused.place ≤ length bytes.now) }
     {
-        let behavior = config.microseconds_precision_overflow_behavior;
-        Self::placed(bytes, config.iso_order, behavior)
+        let order = config.iso_order;
+        Self::placed(
+            bytes,
+            order,
+            config.microseconds_precision_overflow_behavior,
+        )
     }
 
     /// Parses a duration, or refuses the text with the place.
@@ -100,6 +108,22 @@ impl Duration {
                 }),
             },
         }
+    }
+}
+
+/// The place of the error for which a text is no duration.
+fn duration_error_place(bytes: &[u8], order: IsoOrder, behavior: Behavior) -> Option<usize>
+    ensures place { result ≡ refused_place (duration_answer_or placed order behavior bytes.now) }
+    ensures within { IfSome result (λ place. place ≤ length bytes.now) }
+{
+    let (_, size) = sign(bytes);
+    let rest = &bytes[size..];
+    match UnsignedDuration::parse::<Refused, false>(rest, order, size, behavior) {
+        Err(refused) => Some(refused.place),
+        Ok(amount) => match normal_error_place(rest, order, amount) {
+            Some(place) => Some(size + place),
+            None => None,
+        },
     }
 }
 

@@ -24,7 +24,14 @@ impl Date {
             ≡ is_err (date_or_timestamp config.now.timestamp_unit bytes.now) }
         ensures within { IfSome result (λ place. place ≤ length bytes.now) }
     {
-        Refused::place_of(Self::parse_or_place(bytes, config))
+        let place = Self::error_place_rfc3339(bytes)?;
+        match int_parse_bytes(bytes) {
+            Some(timestamp) => match Self::from_timestamp(timestamp, true, config) {
+                Ok(_) => None,
+                Err(_) => Some(0),
+            },
+            None => Some(place),
+        }
     }
 
     /// The byte at which the error lies for which [`Date::parse_bytes_rfc3339`] refuses a text, and

@@ -13,7 +13,7 @@ returns-clause-fault c =
 
 pub returns-clause-refused : goal.returns-clause-refused
 returns-clause-refused c =
-    ap is_some (c.place_of.ensures.place ∙ c.parse_or_place.ensures.place)
+    ap is_some c.duration_error_place.ensures.place
     ∙ refused-is_some (duration_answer_or placed c.args.config.now.iso_order
     c.args.config.now.microseconds_precision_overflow_behavior c.args.bytes.now) _
     (returns-clause-fault c)
