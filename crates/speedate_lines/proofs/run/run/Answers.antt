@@ -79,6 +79,9 @@ returns-in-Ok-finish-clause-answered g c =
     let IsWritten = λ (text : List ℕ). Appends from to (answers (lines text)) in
     Consumes-whole _ _ read IsWritten consumed ended.1 written
 
+pub returns-in_default-clause-failed : goal.returns-in_default-clause-failed
+returns-in_default-clause-failed g c = search rules
+
 pub returns-in_default-answer_lines-clause-write_failed
     : goal.returns-in_default-answer_lines-clause-write_failed
 returns-in_default-answer_lines-clause-write_failed g c = λ write.
