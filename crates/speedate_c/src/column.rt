@@ -25,10 +25,11 @@ pub struct SpeedateColumnConfig {
     /// Which dates, times and date-times a line may be: 0 for no timestamps, 1 for timestamps too, 2 for
     /// times and date-times of RFC 3339 alone.
     pub form: u8,
-    /// Whether a date-time without an offset is taken to be in UTC: 1, or 0 if it is refused.
+    /// Whether a date-time without an offset is taken to be in UTC: 1, or 0 if it is refused. Only a column
+    /// of instants uses it.
     pub assumes_utc: u8,
     /// What is done after a line that is refused: 0 if it ends the column, 1 if it gets the smallest
-    /// number, and the column goes on.
+    /// number, and the column goes on, as each column with errors does.
     pub goes_on: u8,
 }
 
