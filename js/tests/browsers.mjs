@@ -55,8 +55,8 @@ async function visit({ SAID, MARKED, OFFERED }) {
   }
   const marks = MARKED.map((it) => {
     type(it);
-    return all(".why code", (code) => [code.closest("summary, section"), code.querySelector("bdi"), code.querySelector("mark"), code.nextSibling])
-      .map(([row, right, wrong, words]) => `${row.firstChild.textContent} ${right?.textContent ?? ""}[${wrong.textContent}] ${words.textContent}`);
+    return all(".why code", (code) => [code.closest("summary, section"), code.querySelector("bdi"), code.querySelector("mark"), code.querySelector(".rest"), code.nextSibling])
+      .map(([row, right, wrong, rest, words]) => `${row.firstChild.textContent} ${right?.textContent ?? ""}[${wrong.textContent}]${rest?.textContent ?? ""} ${words.textContent}`);
   });
   // A frame from disk is given no focus by WebKit.
   let isFocused;
@@ -180,47 +180,47 @@ const SAID = {
 };
 /** Texts, and by kind how the page marks where each is wrong, and says it. */
 const MARKED = {
-  "20200229": ["Not a date-time 20200229[] at the end: ", "Duration 20200229[] at the end: ", "Date 20200229[] at the end: ", "Time 20[200229] from character 3 on: "],
+  "20200229": ["Not a date-time 20200229[] at the end: ", "Duration 20200229[] at the end: ", "Date 20200229[] at the end: ", "Time 20[2]00229 at character 3: "],
   "2021-02-29": [
     "Not a date 2021-02-[29] from character 9 on: ", "Date-time 2021-02-[29] from character 9 on: ",
-    "Duration 2021[-02-29] from character 5 on: ", "Time 20[21-02-29] from character 3 on: ",
+    "Duration 2021[-]02-29 at character 5: ", "Time 20[2]1-02-29 at character 3: ",
   ],
   "2020-13-01": [
-    "Not a date 2020-[13-01] from character 6 on: ", "Date-time 2020-[13-01] from character 6 on: ",
-    "Duration 2020[-13-01] from character 5 on: ", "Time 20[20-13-01] from character 3 on: ",
+    "Not a date 2020-[13]-01 at characters 6 to 7: ", "Date-time 2020-[13]-01 at characters 6 to 7: ",
+    "Duration 2020[-]13-01 at character 5: ", "Time 20[2]0-13-01 at character 3: ",
   ],
-  "P1D1Q": ["Not a duration P1D1[Q] from character 5 on: ", "Date P1D1Q[] at the end: ", "Time [P1D1Q] from character 1 on: ", "Date-time P1D1Q[] at the end: "],
-  "12:1": ["Not yet a time 12:1[] at the end: ", "Duration 12[:1] from character 3 on: ", "Date 12:1[] at the end: ", "Date-time 12:1[] at the end: "],
+  "P1D1Q": ["Not a duration P1D1[Q] from character 5 on: ", "Date P1D1Q[] at the end: ", "Time [P]1D1Q at character 1: ", "Date-time P1D1Q[] at the end: "],
+  "12:1": ["Not yet a time 12:1[] at the end: ", "Duration 12[:]1 at character 3: ", "Date 12:1[] at the end: ", "Date-time 12:1[] at the end: "],
   "": [],
   "12:13:1": ["Not yet a time 12:13:[1] from character 7 on: ", "Duration 12:13:[1] from character 7 on: ", "Date 12:13:1[] at the end: ", "Date-time 12:13:1[] at the end: "],
-  "2020-0": ["Not yet a date 2020-0[] at the end: ", "Date-time 2020-0[] at the end: ", "Duration 2020[-0] from character 5 on: ", "Time 20[20-0] from character 3 on: "],
+  "2020-0": ["Not yet a date 2020-0[] at the end: ", "Date-time 2020-0[] at the end: ", "Duration 2020[-]0 at character 5: ", "Time 20[2]0-0 at character 3: "],
   "2020-02-29T12": [
     "Not yet a date-time 2020-02-29T12[] at the end: ", "Date 2020-02-29[T12] from character 11 on: ",
-    "Duration 2020[-02-29T12] from character 5 on: ", "Time 20[20-02-29T12] from character 3 on: ",
+    "Duration 2020[-]02-29T12 at character 5: ", "Time 20[2]0-02-29T12 at character 3: ",
   ],
   "1 da": ["Not a duration 1 d[a] from character 4 on: ", "Date 1 da[] at the end: ", "Time 1 da[] at the end: ", "Date-time 1 da[] at the end: "],
   "12:13\t": ["Not a time 12:13[U+0009] from character 6 on: ", "Duration 12:13[U+0009] from character 6 on: ", "Date 12:13U+0009[] at the end: ", "Date-time 12:13U+0009[] at the end: "],
-  "\u200b12:13": ["Not a date U+200B12:13[] at the end: ", "Time [U+200B12:13] from character 1 on: ", "Date-time U+200B12:13[] at the end: ", "Duration [U+200B12:13] from character 1 on: "],
+  "\u200b12:13": ["Not a date U+200B12:13[] at the end: ", "Time [U+200B12]:13 at characters 1 to 3: ", "Date-time U+200B12:13[] at the end: ", "Duration [U+200B12]:13 at characters 1 to 3: "],
   "12:13 \u00a0\ufeff": [
-    "Not a time 12:13[ U+00A0U+FEFF] from character 6 on: ", "Duration 12:13[ U+00A0U+FEFF] from character 6 on: ",
-    "Date [12:13 U+00A0U+FEFF] from character 1 on: ", "Date-time [12:13 U+00A0U+FEFF] from character 1 on: ",
+    "Not a time 12:13[ ]U+00A0U+FEFF at character 6: ", "Duration 12:13[ U+00A0U+FEFF] from character 6 on: ",
+    "Date [12:1]3 U+00A0U+FEFF at characters 1 to 4: ", "Date-time [12:1]3 U+00A0U+FEFF at characters 1 to 4: ",
   ],
   "\ud83d": ["Not a date U+D83D[] at the end: ", "Time U+D83D[] at the end: ", "Date-time U+D83D[] at the end: ", "Duration [U+D83D] from character 1 on: "],
   "2020-02-29T12:13\u221201:60": [
     "Not a date-time 2020-02-29T12:13\u221201:[60] from character 21 on: ", "Date 2020-02-29[T12:13\u221201:60] from character 11 on: ",
-    "Time 20[20-02-29T12:13\u221201:60] from character 3 on: ", "Duration [2020-02-29T12:13\u221201:60] from character 1 on: ",
+    "Time 20[2]0-02-29T12:13\u221201:60 at character 3: ", "Duration [2020]-02-29T12:13\u221201:60 at characters 1 to 4: ",
   ],
   "12:13:14\u{1f552}": [
     "Not a time 12:13:14[\u{1f552}] from character 9 on: ", "Duration 12:13:14[\u{1f552}] from character 9 on: ",
-    "Date [12:13:14\u{1f552}] from character 1 on: ", "Date-time [12:13:14\u{1f552}] from character 1 on: ",
+    "Date [12:1]3:14\u{1f552} at characters 1 to 4: ", "Date-time [12:1]3:14\u{1f552} at characters 1 to 4: ",
   ],
   "00:0\u{1f600}\u{1f600}\u{1f600}": [
-    "Not a duration 00:0\u{1f600}\u{1f600}[\u{1f600}] from character 7 on: ", "Time 00:[0\u{1f600}\u{1f600}\u{1f600}] from character 4 on: ",
-    "Date [00:0\u{1f600}\u{1f600}\u{1f600}] from character 1 on: ", "Date-time [00:0\u{1f600}\u{1f600}\u{1f600}] from character 1 on: ",
+    "Not a duration 00:0\u{1f600}\u{1f600}[\u{1f600}] from character 7 on: ", "Time 00:[0\u{1f600}]\u{1f600}\u{1f600} at characters 4 to 5: ",
+    "Date [00:0]\u{1f600}\u{1f600}\u{1f600} at characters 1 to 4: ", "Date-time [00:0]\u{1f600}\u{1f600}\u{1f600} at characters 1 to 4: ",
   ],
   "\u{1f552}\u{1f552}": [
-    "Not a date \u{1f552}\u{1f552}[] at the end: ", "Time [\u{1f552}\u{1f552}] from character 1 on: ",
-    "Date-time \u{1f552}\u{1f552}[] at the end: ", "Duration [\u{1f552}\u{1f552}] from character 1 on: ",
+    "Not a date \u{1f552}\u{1f552}[] at the end: ", "Time [\u{1f552}]\u{1f552} at character 1: ",
+    "Date-time \u{1f552}\u{1f552}[] at the end: ", "Duration [\u{1f552}]\u{1f552} at character 1: ",
   ],
 };
 /** Texts with options, what the page offers by which they would be read, and after a click the options and what is shown first. */
