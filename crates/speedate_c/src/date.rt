@@ -1,28 +1,26 @@
 //! Dates as C sees them.
 
 ghost use Rattle.std.specs.Option.{option_map};
-ghost use Rattle.std.specs.Prelude.{◌≡◌, ◌≢◌, ◌≤◌, length, slice_get};
-ghost use Rattle.speedate.specs.Date.{ymd, date_answer, date_answer_or, date_front, date_front_or};
-ghost use Rattle.speedate.specs.Date.{date_text, date_or_timestamp, date_timestamp_answer, ◌gives◌};
+ghost use Rattle.std.specs.Prelude.{◌≡◌, ◌≢◌, ◌≤◌, length};
+ghost use Rattle.speedate.specs.Date.{ymd, date_answer, date_front, date_text, date_or_timestamp};
+ghost use Rattle.speedate.specs.Date.{◌gives◌};
 ghost use Rattle.speedate.specs.Calendar.{date_order, date_added, date_numbered, day_number};
-ghost use Rattle.speedate.specs.Calendar.{days_between, midnight_millisecond, midnight_second};
-ghost use Rattle.speedate.specs.Calendar.{ordinal_day};
-ghost use Rattle.speedate.specs.ErrorPlace.{date_or_timestamp_place};
-ghost use Rattle.speedate.specs.Refused.{placed, refused_place};
+ghost use Rattle.speedate.specs.Calendar.{days_between, ordinal_day};
 ghost use Rattle.speedate.specs.Requirement.{result_map};
 ghost use Rattle.speedate_c.specs.Written.{written_answer, written_front, written_optional_date};
-ghost use Rattle.speedate_c.specs.Written.{written_part, written_place, written_text};
-ghost use Rattle.speedate_c.specs.Written.{written_value, with_option, with_value};
+ghost use Rattle.speedate_c.specs.Written.{written_text, written_value, with_option, with_value};
 ghost use Rattle.speedate_c.specs.Code.{answer_code, buffer_too_small, config_out_of_range};
 ghost use Rattle.speedate_c.specs.Code.{order_number, success, value_out_of_range};
-ghost use Rattle.speedate_c.specs.Config.{choices_of, flags};
+ghost use Rattle.speedate_c.specs.Config.{choices_of};
 ghost use Rattle.speedate_c.specs.Date.{date_of, shown_date};
 
-use crate::code::{NO_SUCH_DATE, SUCCESS, VALUE_OUT_OF_RANGE, order_number};
-use crate::config::{SpeedateConfig, flag};
-use crate::part::SpeedatePart;
-use crate::text::{write_place, write_text};
-use speedate::{Date, DateConfig, ParseError};
+mod error_place;
+mod timestamp;
+
+use crate::code::{NO_SUCH_DATE, SUCCESS, order_number};
+use crate::config::SpeedateConfig;
+use crate::text::write_text;
+use speedate::{Date, ParseError};
 
 /// A date.
 #[repr(C)]
@@ -133,118 +131,6 @@ pub extern "C" fn speedate_date_parse_front(
     SUCCESS
 }
 
-/// Does what [`speedate_date_parse`] does, and writes the part for which a text is refused, as
-/// [`Date::parse_or_place`] does: 5 to 7 for `2020-13-01`.
-///
-/// No part is written for a text that is accepted, and where the code is `CONFIG_OUT_OF_RANGE`.
-#[unsafe(no_mangle)]
-pub extern "C" fn speedate_date_parse_or_part(
-    text: &[u8],
-    config: SpeedateConfig,
-    out: &mut SpeedateDate,
-    part: &mut SpeedatePart,
-) -> i32
-    ensures answer { (result, out.new)
-        ≡ with_option (choices_of config) (config_out_of_range, out.old)
-        (λ config. written_answer shown_date out.old (date_or_timestamp config.unit text.now)) }
-    ensures part { part.new ≡ with_option (choices_of config) part.old
-        (λ config. written_part result
-        (date_or_timestamp_place config.unit text.now)
-        text.now part.old) }
-{
-    let config = config_or_return!(config.to_config());
-    let config = DateConfig {
-        timestamp_unit: config.timestamp_unit,
-    };
-    let answer = Date::parse_or_place(text, &config);
-    let value = value_or_part!(answer, text => part);
-    *out = SpeedateDate::from_value(&value);
-    SUCCESS
-}
-
-/// The same for [`speedate_date_parse_rfc3339`], as [`Date::parse_or_place_rfc3339`] does: 10 to 16 for
-/// `2020-01-01T12:13`.
-#[unsafe(no_mangle)]
-pub extern "C" fn speedate_date_parse_or_part_rfc3339(
-    text: &[u8],
-    out: &mut SpeedateDate,
-    part: &mut SpeedatePart,
-) -> i32
-    ensures answer { (result, out.new) ≡ written_answer shown_date out.old (date_answer text.now) }
-    ensures part { part.new
-        ≡ written_part result (refused_place (date_answer_or placed text.now)) text.now part.old }
-{
-    let answer = Date::parse_or_place_rfc3339(text);
-    let value = value_or_part!(answer, text => part);
-    *out = SpeedateDate::from_value(&value);
-    SUCCESS
-}
-
-/// The same for [`speedate_date_parse_front`], as [`Date::parse_or_place_front`] does: 8 to 10 for
-/// `2021-02-29 rent`.
-#[unsafe(no_mangle)]
-pub extern "C" fn speedate_date_parse_or_part_front(
-    text: &[u8],
-    out: &mut SpeedateDate,
-    size: &mut usize,
-    part: &mut SpeedatePart,
-) -> i32
-    ensures answer { (result, out.new, size.new) ≡ written_front shown_date out.old size.old
-        (date_front text.now) }
-    ensures part { part.new
-        ≡ written_part result (refused_place (date_front_or placed text.now)) text.now part.old }
-{
-    let answer = Date::parse_or_place_front(text);
-    let (value, count) = value_or_part!(answer, text => part);
-    *out = SpeedateDate::from_value(&value);
-    *size = count;
-    SUCCESS
-}
-
-/// Writes the byte at which the error lies for which [`speedate_date_parse`] refuses a text, as
-/// [`Date::error_place`] gives it, and gives the code of that call: 5 for `2020-13-01`.
-///
-/// Nothing is written for a text that it accepts, and where the code is `CONFIG_OUT_OF_RANGE`.
-#[unsafe(no_mangle)]
-pub extern "C" fn speedate_date_error_place(
-    text: &[u8],
-    config: SpeedateConfig,
-    place: &mut usize,
-) -> i32
-    ensures answer { (result, place.new)
-        ≡ with_option (choices_of config) (config_out_of_range, place.old)
-        (λ config. written_place (date_or_timestamp config.unit text.now)
-        (date_or_timestamp_place config.unit text.now) place.old) }
-{
-    let config = config_or_return!(config.to_date_config());
-    write_place(Date::error_place(text, &config), place);
-    code_of!(Date::parse_bytes_with_config(text, &config))
-}
-
-/// The same for [`speedate_date_parse_rfc3339`], as [`Date::error_place_rfc3339`] gives it: 10 for
-/// `2020-01-01T12:13`.
-#[unsafe(no_mangle)]
-pub extern "C" fn speedate_date_error_place_rfc3339(text: &[u8], place: &mut usize) -> i32
-    ensures answer { (result, place.new)
-        ≡ written_place (date_answer text.now) (refused_place (date_answer_or placed text.now))
-        place.old }
-{
-    write_place(Date::error_place_rfc3339(text), place);
-    code_of!(Date::parse_bytes_rfc3339(text))
-}
-
-/// The same for [`speedate_date_parse_front`], as [`Date::error_place_front`] gives it: 9 for
-/// `2026-11-2`.
-#[unsafe(no_mangle)]
-pub extern "C" fn speedate_date_error_place_front(text: &[u8], place: &mut usize) -> i32
-    ensures answer { (result, place.new)
-        ≡ written_place (date_front text.now) (refused_place (date_front_or placed text.now))
-        place.old }
-{
-    write_place(Date::error_place_front(text), place);
-    code_of!(Date::parse_front(text))
-}
-
 /// Whether the numbers are those of a date, as [`Date::new`] tells: `SUCCESS`, or the error of the
 /// first number that is out of range, `OutOfRangeDay` for 2021-02-29.
 #[unsafe(no_mangle)]
@@ -284,50 +170,6 @@ pub extern "C" fn speedate_date_compare(
         (λ second. written_value (order_number (date_order first second)))) }
 {
     write_of!(first, second => *out = order_number(first.cmp(&second)))
-}
-
-/// The date of a timestamp in the unit of the configuration, as [`Date::from_timestamp`] gives it:
-/// 1970-01-02 for 86,400 seconds. Where `require_exact` is 1 the timestamp has to be a midnight.
-///
-/// `CONFIG_OUT_OF_RANGE` comes before `VALUE_OUT_OF_RANGE`, which is that of `require_exact`, and
-/// before the errors of that call.
-#[unsafe(no_mangle)]
-pub extern "C" fn speedate_date_from_timestamp(
-    timestamp: i64,
-    require_exact: u8,
-    config: SpeedateConfig,
-    out: &mut SpeedateDate,
-) -> i32
-    ensures answer { (result, out.new)
-        ≡ with_option (choices_of config) (config_out_of_range, out.old)
-        (λ config. with_option (slice_get flags require_exact) (value_out_of_range, out.old)
-        (λ exact. written_answer shown_date out.old
-        (date_timestamp_answer config.unit exact timestamp))) }
-{
-    let config = config_or_return!(config.to_date_config());
-    let Some(exact) = flag(require_exact) else {
-        return VALUE_OUT_OF_RANGE;
-    };
-    write_date(Date::from_timestamp(timestamp, exact, &config), out)
-}
-
-/// The second at which a date begins, as [`Date::timestamp`] gives it: 86,400 for 1970-01-02.
-#[unsafe(no_mangle)]
-pub extern "C" fn speedate_date_timestamp(date: SpeedateDate, out: &mut i64) -> i32
-    ensures answer { (result, out.new) ≡ with_value (date_of date) (value_out_of_range, out.old)
-        (λ date. written_value (midnight_second date)) }
-{
-    write_of!(date => *out = date.timestamp())
-}
-
-/// The millisecond at which a date begins, as [`Date::timestamp_ms`] gives it: 86,400,000 for
-/// 1970-01-02.
-#[unsafe(no_mangle)]
-pub extern "C" fn speedate_date_timestamp_ms(date: SpeedateDate, out: &mut i64) -> i32
-    ensures answer { (result, out.new) ≡ with_value (date_of date) (value_out_of_range, out.old)
-        (λ date. written_value (midnight_millisecond date)) }
-{
-    write_of!(date => *out = date.timestamp_ms())
 }
 
 /// The number of days from 0000-01-01 to a date, as [`Date::day_number`] gives it: 737,790 for

@@ -3,24 +3,24 @@
 ghost use Rattle.std.specs.Prelude.{◌≡◌, ◌≢◌, ◌≤◌, length};
 ghost use Rattle.std.specs.Option.{ForSome};
 ghost use Rattle.speedate.specs.Offset.{IsOffset};
-ghost use Rattle.speedate.specs.Refused.{placed, refused_place};
 ghost use Rattle.speedate.specs.Requirement.{result_map};
-ghost use Rattle.speedate.specs.Time.{time_of_day, millisecond_of_day, second_of_day};
-ghost use Rattle.speedate.specs.Time.{timestamp_answer, time_answer, time_answer_or, time_front};
-ghost use Rattle.speedate.specs.Time.{time_front_or, time_text, ◌gives◌, time_instant_order};
+ghost use Rattle.speedate.specs.Time.{time_of_day, millisecond_of_day, second_of_day, time_answer};
+ghost use Rattle.speedate.specs.Time.{time_front, time_text, ◌gives◌, time_instant_order};
 ghost use Rattle.speedate.specs.Time.{time_in_timezone};
-ghost use Rattle.speedate.specs.Strict.{strict_time_answer, strict_time_answer_or};
-ghost use Rattle.speedate_c.specs.Written.{written_answer, written_front, written_part, written_place};
-ghost use Rattle.speedate_c.specs.Written.{written_text, written_value, with_option, with_value};
+ghost use Rattle.speedate.specs.Strict.{strict_time_answer};
+ghost use Rattle.speedate_c.specs.Written.{written_answer, written_front, written_text};
+ghost use Rattle.speedate_c.specs.Written.{written_value, with_option, with_value};
 ghost use Rattle.speedate_c.specs.Code.{answer_code, buffer_too_small, config_out_of_range};
 ghost use Rattle.speedate_c.specs.Code.{order_number, success, value_out_of_range};
 ghost use Rattle.speedate_c.specs.Config.{choices_of};
 ghost use Rattle.speedate_c.specs.Time.{shown_time, time_of};
 
+mod error_place;
+mod timestamp;
+
 use crate::code::{SUCCESS, order_number};
 use crate::config::{SpeedateConfig, offset};
-use crate::part::SpeedatePart;
-use crate::text::{write_place, write_text};
+use crate::text::write_text;
 use arrayvec::ArrayString;
 use speedate::{ParseError, Time};
 
@@ -145,142 +145,6 @@ pub extern "C" fn speedate_time_parse_front(
     SUCCESS
 }
 
-/// Does what [`speedate_time_parse`] does, and writes the part for which a text is refused, as
-/// [`Time::parse_or_place`] does: 6 to 8 for `12:13:60`.
-///
-/// No part is written for a text that is accepted, and where the code is `CONFIG_OUT_OF_RANGE`.
-#[unsafe(no_mangle)]
-pub extern "C" fn speedate_time_parse_or_part(
-    text: &[u8],
-    config: SpeedateConfig,
-    out: &mut SpeedateTime,
-    part: &mut SpeedatePart,
-) -> i32
-    ensures answer { (result, out.new)
-        ≡ with_option (choices_of config) (config_out_of_range, out.old)
-        (λ config. written_answer shown_time out.old (time_answer config.behavior text.now)) }
-    ensures part { part.new ≡ with_option (choices_of config) part.old
-        (λ config. written_part result
-        (refused_place (time_answer_or placed config.behavior text.now))
-        text.now part.old) }
-{
-    let config = config_or_return!(config.to_config());
-    let answer = Time::parse_or_place(text, &config.time_config);
-    let value = value_or_part!(answer, text => part);
-    *out = SpeedateTime::from_value(&value);
-    SUCCESS
-}
-
-/// The same for [`speedate_time_parse_strict`], as [`Time::parse_or_place_strict`] does: 5 to 6 for
-/// `12:13+01:00`.
-#[unsafe(no_mangle)]
-pub extern "C" fn speedate_time_parse_or_part_strict(
-    text: &[u8],
-    config: SpeedateConfig,
-    out: &mut SpeedateTime,
-    part: &mut SpeedatePart,
-) -> i32
-    ensures answer { (result, out.new)
-        ≡ with_option (choices_of config) (config_out_of_range, out.old)
-        (λ config. written_answer shown_time out.old
-        (strict_time_answer config.behavior text.now)) }
-    ensures part { part.new ≡ with_option (choices_of config) part.old
-        (λ config. written_part result
-        (refused_place (strict_time_answer_or placed config.behavior text.now))
-        text.now part.old) }
-{
-    let config = config_or_return!(config.to_config());
-    let behavior = config.time_config.microseconds_precision_overflow_behavior;
-    let answer = Time::parse_or_place_strict(text, behavior);
-    let value = value_or_part!(answer, text => part);
-    *out = SpeedateTime::from_value(&value);
-    SUCCESS
-}
-
-/// The same for [`speedate_time_parse_front`], as [`Time::parse_or_place_front`] does: 9 to 11 for
-/// `12:00:00-ERROR`.
-#[unsafe(no_mangle)]
-pub extern "C" fn speedate_time_parse_or_part_front(
-    text: &[u8],
-    config: SpeedateConfig,
-    out: &mut SpeedateTime,
-    size: &mut usize,
-    part: &mut SpeedatePart,
-) -> i32
-    ensures answer { (result, out.new, size.new)
-        ≡ with_option (choices_of config) (config_out_of_range, out.old, size.old)
-        (λ config. written_front shown_time out.old size.old
-        (time_front config.behavior text.now)) }
-    ensures part { part.new ≡ with_option (choices_of config) part.old
-        (λ config. written_part result
-        (refused_place (time_front_or placed config.behavior text.now))
-        text.now part.old) }
-{
-    let config = config_or_return!(config.to_config());
-    let answer = Time::parse_or_place_front(text, &config.time_config);
-    let (value, count) = value_or_part!(answer, text => part);
-    *out = SpeedateTime::from_value(&value);
-    *size = count;
-    SUCCESS
-}
-
-/// Writes the byte at which the error lies for which [`speedate_time_parse`] refuses a text, as
-/// [`Time::error_place`] gives it, and gives the code of that call: 6 for `12:13:60`.
-///
-/// Nothing is written for a text that it accepts, and where the code is `CONFIG_OUT_OF_RANGE`.
-#[unsafe(no_mangle)]
-pub extern "C" fn speedate_time_error_place(
-    text: &[u8],
-    config: SpeedateConfig,
-    place: &mut usize,
-) -> i32
-    ensures answer { (result, place.new)
-        ≡ with_option (choices_of config) (config_out_of_range, place.old)
-        (λ config. written_place (time_answer config.behavior text.now)
-        (refused_place (time_answer_or placed config.behavior text.now)) place.old) }
-{
-    let config = config_or_return!(config.to_config());
-    write_place(Time::error_place(text, &config.time_config), place);
-    code_of!(Time::parse_bytes_with_config(text, &config.time_config))
-}
-
-/// The same for [`speedate_time_parse_strict`], as [`Time::error_place_strict`] gives it: 5 for
-/// `12:13`.
-#[unsafe(no_mangle)]
-pub extern "C" fn speedate_time_error_place_strict(
-    text: &[u8],
-    config: SpeedateConfig,
-    place: &mut usize,
-) -> i32
-    ensures answer { (result, place.new)
-        ≡ with_option (choices_of config) (config_out_of_range, place.old)
-        (λ config. written_place (strict_time_answer config.behavior text.now)
-        (refused_place (strict_time_answer_or placed config.behavior text.now)) place.old) }
-{
-    let config = config_or_return!(config.to_config());
-    let behavior = config.time_config.microseconds_precision_overflow_behavior;
-    write_place(Time::error_place_strict(text, behavior), place);
-    code_of!(Time::parse_bytes_strict(text, behavior))
-}
-
-/// The same for [`speedate_time_parse_front`], as [`Time::error_place_front`] gives it: 9 for
-/// `12:00:00-ERROR`.
-#[unsafe(no_mangle)]
-pub extern "C" fn speedate_time_error_place_front(
-    text: &[u8],
-    config: SpeedateConfig,
-    place: &mut usize,
-) -> i32
-    ensures answer { (result, place.new)
-        ≡ with_option (choices_of config) (config_out_of_range, place.old)
-        (λ config. written_place (time_front config.behavior text.now)
-        (refused_place (time_front_or placed config.behavior text.now)) place.old) }
-{
-    let config = config_or_return!(config.to_config());
-    write_place(Time::error_place_front(text, &config.time_config), place);
-    code_of!(Time::parse_front(text, &config.time_config))
-}
-
 /// Whether the numbers are those of a time, as [`Time::new`] tells: `SUCCESS`, or the error of the
 /// first number that is out of range. `OutOfRangeTz`, for the offset or its flag, comes last.
 #[unsafe(no_mangle)]
@@ -349,27 +213,6 @@ pub extern "C" fn speedate_time_compare(
         (λ second. written_value (order_number (time_instant_order first second)))) }
 {
     write_of!(first, second => *out = order_number(first.cmp_instant(&second)))
-}
-
-/// The time of the seconds and microseconds after midnight, with the offset of the configuration,
-/// as [`Time::from_timestamp_with_config`] gives it: 10:00:06.5 for 36,005 and 1,500,000.
-///
-/// The errors are those of that call; `CONFIG_OUT_OF_RANGE` comes first.
-#[unsafe(no_mangle)]
-pub extern "C" fn speedate_time_from_timestamp(
-    second: u32,
-    microsecond: u32,
-    config: SpeedateConfig,
-    out: &mut SpeedateTime,
-) -> i32
-    ensures answer { (result, out.new)
-        ≡ with_option (choices_of config) (config_out_of_range, out.old)
-        (λ config. written_answer shown_time out.old
-        (timestamp_answer second microsecond config.offset)) }
-{
-    let config = config_or_return!(config.to_config());
-    let time = Time::from_timestamp_with_config(second, microsecond, &config.time_config);
-    write_time(time, out)
 }
 
 /// The seconds since midnight, as [`Time::total_seconds`] gives them: 43,994 for 12:13:14.5.

@@ -1,0 +1,154 @@
+//! The places of errors in times as C sees them.
+
+ghost use Rattle.std.specs.Prelude.{◌≡◌};
+ghost use Rattle.speedate.specs.Refused.{placed, refused_place};
+ghost use Rattle.speedate.specs.Time.{time_answer, time_answer_or, time_front, time_front_or};
+ghost use Rattle.speedate.specs.Strict.{strict_time_answer, strict_time_answer_or};
+ghost use Rattle.speedate_c.specs.Written.{written_answer, written_front, written_part};
+ghost use Rattle.speedate_c.specs.Written.{written_place, with_option};
+ghost use Rattle.speedate_c.specs.Code.{config_out_of_range};
+ghost use Rattle.speedate_c.specs.Config.{choices_of};
+ghost use Rattle.speedate_c.specs.Time.{shown_time};
+
+use super::SpeedateTime;
+use crate::code::SUCCESS;
+use crate::config::SpeedateConfig;
+use crate::part::SpeedatePart;
+use crate::text::write_place;
+use speedate::Time;
+
+/// Does what [`speedate_time_parse`] does, and writes the part for which a text is refused, as
+/// [`Time::parse_or_place`] does: 6 to 8 for `12:13:60`.
+///
+/// No part is written for a text that is accepted, and where the code is `CONFIG_OUT_OF_RANGE`.
+#[unsafe(no_mangle)]
+pub extern "C" fn speedate_time_parse_or_part(
+    text: &[u8],
+    config: SpeedateConfig,
+    out: &mut SpeedateTime,
+    part: &mut SpeedatePart,
+) -> i32
+    ensures answer { (result, out.new)
+        ≡ with_option (choices_of config) (config_out_of_range, out.old)
+        (λ config. written_answer shown_time out.old (time_answer config.behavior text.now)) }
+    ensures part { part.new ≡ with_option (choices_of config) part.old
+        (λ config. written_part result
+        (refused_place (time_answer_or placed config.behavior text.now))
+        text.now part.old) }
+{
+    let config = config_or_return!(config.to_config());
+    let answer = Time::parse_or_place(text, &config.time_config);
+    let value = value_or_part!(answer, text => part);
+    *out = SpeedateTime::from_value(&value);
+    SUCCESS
+}
+
+/// The same for [`speedate_time_parse_strict`], as [`Time::parse_or_place_strict`] does: 5 to 6 for
+/// `12:13+01:00`.
+#[unsafe(no_mangle)]
+pub extern "C" fn speedate_time_parse_or_part_strict(
+    text: &[u8],
+    config: SpeedateConfig,
+    out: &mut SpeedateTime,
+    part: &mut SpeedatePart,
+) -> i32
+    ensures answer { (result, out.new)
+        ≡ with_option (choices_of config) (config_out_of_range, out.old)
+        (λ config. written_answer shown_time out.old
+        (strict_time_answer config.behavior text.now)) }
+    ensures part { part.new ≡ with_option (choices_of config) part.old
+        (λ config. written_part result
+        (refused_place (strict_time_answer_or placed config.behavior text.now))
+        text.now part.old) }
+{
+    let config = config_or_return!(config.to_config());
+    let behavior = config.time_config.microseconds_precision_overflow_behavior;
+    let answer = Time::parse_or_place_strict(text, behavior);
+    let value = value_or_part!(answer, text => part);
+    *out = SpeedateTime::from_value(&value);
+    SUCCESS
+}
+
+/// The same for [`speedate_time_parse_front`], as [`Time::parse_or_place_front`] does: 9 to 11 for
+/// `12:00:00-ERROR`.
+#[unsafe(no_mangle)]
+pub extern "C" fn speedate_time_parse_or_part_front(
+    text: &[u8],
+    config: SpeedateConfig,
+    out: &mut SpeedateTime,
+    size: &mut usize,
+    part: &mut SpeedatePart,
+) -> i32
+    ensures answer { (result, out.new, size.new)
+        ≡ with_option (choices_of config) (config_out_of_range, out.old, size.old)
+        (λ config. written_front shown_time out.old size.old
+        (time_front config.behavior text.now)) }
+    ensures part { part.new ≡ with_option (choices_of config) part.old
+        (λ config. written_part result
+        (refused_place (time_front_or placed config.behavior text.now))
+        text.now part.old) }
+{
+    let config = config_or_return!(config.to_config());
+    let answer = Time::parse_or_place_front(text, &config.time_config);
+    let (value, count) = value_or_part!(answer, text => part);
+    *out = SpeedateTime::from_value(&value);
+    *size = count;
+    SUCCESS
+}
+
+/// Writes the byte at which the error lies for which [`speedate_time_parse`] refuses a text, as
+/// [`Time::error_place`] gives it, and gives the code of that call: 6 for `12:13:60`.
+///
+/// Nothing is written for a text that it accepts, and where the code is `CONFIG_OUT_OF_RANGE`.
+#[unsafe(no_mangle)]
+pub extern "C" fn speedate_time_error_place(
+    text: &[u8],
+    config: SpeedateConfig,
+    place: &mut usize,
+) -> i32
+    ensures answer { (result, place.new)
+        ≡ with_option (choices_of config) (config_out_of_range, place.old)
+        (λ config. written_place (time_answer config.behavior text.now)
+        (refused_place (time_answer_or placed config.behavior text.now)) place.old) }
+{
+    let config = config_or_return!(config.to_config());
+    write_place(Time::error_place(text, &config.time_config), place);
+    code_of!(Time::parse_bytes_with_config(text, &config.time_config))
+}
+
+/// The same for [`speedate_time_parse_strict`], as [`Time::error_place_strict`] gives it: 5 for
+/// `12:13`.
+#[unsafe(no_mangle)]
+pub extern "C" fn speedate_time_error_place_strict(
+    text: &[u8],
+    config: SpeedateConfig,
+    place: &mut usize,
+) -> i32
+    ensures answer { (result, place.new)
+        ≡ with_option (choices_of config) (config_out_of_range, place.old)
+        (λ config. written_place (strict_time_answer config.behavior text.now)
+        (refused_place (strict_time_answer_or placed config.behavior text.now)) place.old) }
+{
+    let config = config_or_return!(config.to_config());
+    let behavior = config.time_config.microseconds_precision_overflow_behavior;
+    write_place(Time::error_place_strict(text, behavior), place);
+    code_of!(Time::parse_bytes_strict(text, behavior))
+}
+
+/// The same for [`speedate_time_parse_front`], as [`Time::error_place_front`] gives it: 9 for
+/// `12:00:00-ERROR`.
+#[unsafe(no_mangle)]
+pub extern "C" fn speedate_time_error_place_front(
+    text: &[u8],
+    config: SpeedateConfig,
+    place: &mut usize,
+) -> i32
+    ensures answer { (result, place.new)
+        ≡ with_option (choices_of config) (config_out_of_range, place.old)
+        (λ config. written_place (time_front config.behavior text.now)
+        (refused_place (time_front_or placed config.behavior text.now)) place.old) }
+{
+    let config = config_or_return!(config.to_config());
+    write_place(Time::error_place_front(text, &config.time_config), place);
+    code_of!(Time::parse_front(text, &config.time_config))
+}
