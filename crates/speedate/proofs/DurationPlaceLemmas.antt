@@ -5,8 +5,8 @@ use Rattle.std.proofs.lemmas.Bool.Decides.{nat_tests}
 use Rattle.std.proofs.lemmas.List.{length-drop}
 use Rattle.speedate_civil.specs.Base.{Behavior, IsoOrder, ParseError}
 use Rattle.speedate_base.specs.Ascii.{capital_p, capital_t}
-use Rattle.speedate_base.specs.Digits.{digits_value, run_value}
-use Rattle.speedate_base.specs.Numbers.{has_minus, sign_size}
+use Rattle.speedate_base.specs.Digits.{digits_value}
+use Rattle.speedate_base.specs.Numbers.{sign_size}
 use Rattle.speedate_base.specs.Refused.{placed}
 use Rattle.speedate_base.specs.declared.refusal.Refused.{Refused}
 use Rattle.speedate_base.specs.Requirement.{refusal_map, shifted}
@@ -15,13 +15,13 @@ use Rattle.speedate_base.proofs.RefusalLemmas.{first_refusal_or-view, refusal-al
 use Rattle.speedate_base.proofs.RefusalLemmas.{shifted-none, shifted-shifted, then-view, through}
 use Rattle.speedate_civil.specs.Time.{Clock, minute_clock, minute_digits, minute_front_or}
 use Rattle.speedate_civil.specs.Time.{minute_table}
-use Rattle.speedate.specs.ClockForm.{clock_end, clock_form_or, clock_numbers, colon_place}
+use Rattle.speedate.specs.ClockForm.{clock_end, clock_form_or, colon_place}
 use Rattle.speedate.specs.ClockForm.{from_minute, hours, hours_range, hours_table, rest_table}
-use Rattle.speedate.specs.DayForm.{after_days_or, day_form_or, days_size, days_table, hours_of_day}
+use Rattle.speedate.specs.DayForm.{after_days_or, day_form_or, days_table, hours_of_day}
 use Rattle.speedate.specs.Duration.{duration_answer_or, days_or_clock_or, has_days, iso_after_or}
 use Rattle.speedate.specs.Duration.{iso_form, iso_form_or, iso_from_or, unsigned_answer_or}
-use Rattle.speedate.specs.DurationNumbers.{DurationNumbers, UnsignedDuration, amount_microseconds}
-use Rattle.speedate.specs.DurationNumbers.{normal_table, of_amount}
+use Rattle.speedate.specs.DurationNumbers.{DurationNumbers, UnsignedDuration}
+use Rattle.speedate.specs.DurationNumbers.{normal_table}
 use Rattle.speedate.specs.DurationPlace.{amount_numbers, amount_place, at_bytes, first_item_after}
 use Rattle.speedate.specs.DurationPlace.{normal_places}
 use Rattle.speedate.specs.IsoForm.{IsoSums, Item, TimeDesignator, item_at, item_table, item_text}

@@ -1,4 +1,4 @@
-use Rattle.std.proofs.Common.{rules}
+use Rattle.std.proofs.Common.{◌∙◌, ap, is_some, rules}
 use Rattle.speedate_base.specs.Refused.{placed}
 use Rattle.speedate_base.specs.declared.refusal.Refused.{Refused}
 use Rattle.speedate_base.proofs.RefusalLemmas.{refused-is_some}
@@ -9,5 +9,9 @@ pub returns-clause-fault : goal.returns-clause-fault
 returns-clause-fault c = date_time_answer-view (λ (refused : Refused). refused.fault) placed
     c.args.config.now.microseconds_precision_overflow_behavior c.args.bytes.now
 
+pub returns-clause-place : goal.returns-clause-place
+returns-clause-place c = search rules
+
 pub returns-clause-refused : goal.returns-clause-refused
-returns-clause-refused c = let same = refused-is_some _ _ (returns-clause-fault c) in search rules
+returns-clause-refused c =
+    ap is_some (returns-clause-place c) ∙ refused-is_some _ _ (returns-clause-fault c)

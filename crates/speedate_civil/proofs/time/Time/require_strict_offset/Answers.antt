@@ -7,3 +7,12 @@ returns-then-place-text g c = grind (arith, common_steps)
 
 pub returns-then-has_minus_sign : goal.returns-then-has_minus_sign
 returns-then-has_minus_sign g c = grind (arith, common_steps)
+
+pub returns-then-byte_at-eq58-clause-answer : goal.returns-then-byte_at-eq58-clause-answer
+returns-then-byte_at-eq58-clause-answer g c = grind (arith, common_steps)
+
+pub returns-else-byte_at-eq58-clause-answer : goal.returns-else-byte_at-eq58-clause-answer
+returns-else-byte_at-eq58-clause-answer g c = grind (arith, common_steps)
+
+pub returns-else-byte_at-eq58-clause-placed : goal.returns-else-byte_at-eq58-clause-placed
+returns-else-byte_at-eq58-clause-placed g c = grind (arith, common_steps)

@@ -1,7 +1,7 @@
 use Rattle.std.proofs.Common.{◌≡◌, ◌∙◌, ap, sym, ℕ, ◌+◌, ◌-◌, ◌≤◌, ◌*◌, Bool, List, [], ◌∷◌, drop, Ok, Option, Some, w32, arith, rules, ℤ, Result, nat_le, nat_lt, SFits}
 use Rattle.speedate_civil.specs.Base.{ParseError}
-use Rattle.std.proofs.lemmas.Grind.{common_steps}
 use Rattle.std.proofs.lemmas.Bool.Decides.{nat_tests}
+use Rattle.std.proofs.lemmas.Grind.{common_steps}
 use Rattle.std.proofs.lemmas.Int.{to_z-of_z}
 use Rattle.std.proofs.lemmas.Result.{err_from_is_err_and}
 use Rattle.speedate_base.specs.Digits.{two_digit_value, eight_at}
@@ -111,3 +111,9 @@ returns-clause-answer g c =
 
 pub returns-clause-within : goal.returns-clause-within
 returns-clause-within g c = grind (arith, common_steps)
+
+pub returns-in_err-hour-clause-placed : goal.returns-in_err-hour-clause-placed
+returns-in_err-hour-clause-placed g c = grind (arith, common_steps)
+
+pub returns-then-minute-gt59-clause-placed : goal.returns-then-minute-gt59-clause-placed
+returns-then-minute-gt59-clause-placed g c = grind (arith, common_steps)

@@ -4,6 +4,8 @@ use Rattle.speedate_base.specs.Requirement.{shifted}
 use Rattle.speedate_civil.specs.Base.{ParseError}
 use Rattle.speedate_civil.specs.ParserParts.{clock_after}
 use Rattle.speedate_civil.proofs.ClockFrontLemmas.{minute-decided, minute-none, minute-read}
+use Rattle.std.proofs.Common.{arith}
+use Rattle.std.proofs.lemmas.Grind.{common_steps}
 use Rattle.speedate_civil.proofs.time.pure.PureTime.minute_front_at.Goals as goal
 
 pub returns-then-fits-lt2-clause-answer : goal.returns-then-fits-lt2-clause-answer
@@ -40,3 +42,9 @@ returns-clause-answer g c =
     let is = minute-decided refuse c.args.behavior rest _ minute c.if-minute-gt59.false
     ∙ sym c.in_ok-after.ensures.answer in
     ap (λ (minute : ℕ). Ok (clock_after minute c.in_ok-after.after)) minute.is ∙ sym is
+
+pub returns-then-minute-gt59-clause-answer : goal.returns-then-minute-gt59-clause-answer
+returns-then-minute-gt59-clause-answer g c = grind (arith, common_steps)
+
+pub after_minute-requires-clause-minute : goal.after_minute-requires-clause-minute
+after_minute-requires-clause-minute g c = grind (arith, common_steps)

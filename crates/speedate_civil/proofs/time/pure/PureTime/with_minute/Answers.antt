@@ -4,6 +4,8 @@ use Rattle.speedate_base.specs.Requirement.{result_map}
 use Rattle.speedate_civil.specs.ParserParts.{clock_after}
 use Rattle.speedate_civil.specs.Time.{at_hour}
 use Rattle.speedate_civil.proofs.ClockFrontLemmas.{front-read, decided}
+use Rattle.std.proofs.Common.{arith}
+use Rattle.std.proofs.lemmas.Grind.{common_steps}
 use Rattle.speedate_civil.proofs.time.pure.PureTime.with_minute.Goals as goal
 
 pub returns-in_err-after-clause-answer : goal.returns-in_err-after-clause-answer
@@ -29,3 +31,9 @@ returns-clause-answer g c =
     let is = decides ∙ ap (result_map (at_hour hour)) (sym c.in_ok-after.ensures.answer) in
     let after = c.in_ok-after.after in
     ap (λ (minute : ℕ). Ok (at_hour hour (clock_after minute after))) front.minute_is ∙ sym is
+
+pub returns-then-hour-gt23-clause-answer : goal.returns-then-hour-gt23-clause-answer
+returns-then-hour-gt23-clause-answer g c = grind (arith, common_steps)
+
+pub returns-then-minute-gt59-clause-answer : goal.returns-then-minute-gt59-clause-answer
+returns-then-minute-gt59-clause-answer g c = grind (arith, common_steps)
