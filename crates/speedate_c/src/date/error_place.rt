@@ -1,4 +1,4 @@
-//! The places of errors in dates as C sees them.
+//! Where a text that is refused as a date has its error, as C sees it.
 
 ghost use Rattle.std.specs.Prelude.{◌≡◌};
 ghost use Rattle.speedate.specs.Date.{date_answer, date_answer_or, date_front, date_front_or};

@@ -1,4 +1,4 @@
-//! Timestamps of dates as C sees them.
+//! Dates from timestamps, and back, as C sees them.
 
 ghost use Rattle.std.specs.Prelude.{◌≡◌, slice_get};
 ghost use Rattle.speedate.specs.Date.{date_timestamp_answer};

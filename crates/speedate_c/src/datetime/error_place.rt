@@ -1,4 +1,4 @@
-//! The places of errors in date-times as C sees them.
+//! Where a text that is refused as a date-time has its error, as C sees it.
 
 ghost use Rattle.std.specs.Prelude.{◌≡◌};
 ghost use Rattle.speedate.specs.DateTime.{date_time_answer, date_time_answer_or, date_time_front};

@@ -1,4 +1,4 @@
-//! Timestamps of date-times as C sees them.
+//! Date-times from timestamps, and back, as C sees them.
 
 ghost use Rattle.std.specs.Prelude.{◌≡◌};
 ghost use Rattle.speedate.specs.DateTime.{local_millisecond, local_second, utc_microsecond};

@@ -1,4 +1,4 @@
-//! The places of errors in durations as C sees them.
+//! Where a text that is refused as a duration has its error, as C sees it.
 
 ghost use Rattle.std.specs.Prelude.{◌≡◌};
 ghost use Rattle.speedate.specs.Duration.{duration_answer, duration_answer_or};

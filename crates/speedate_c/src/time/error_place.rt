@@ -1,4 +1,4 @@
-//! The places of errors in times as C sees them.
+//! Where a text that is refused as a time has its error, as C sees it.
 
 ghost use Rattle.std.specs.Prelude.{◌≡◌};
 ghost use Rattle.speedate.specs.Refused.{placed, refused_place};

@@ -1,4 +1,4 @@
-//! Timestamps of times as C sees them.
+//! Times of day from timestamps, as C sees them.
 
 ghost use Rattle.std.specs.Prelude.{◌≡◌};
 ghost use Rattle.speedate.specs.Time.{timestamp_answer};
