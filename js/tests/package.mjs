@@ -489,8 +489,8 @@ const [script, apart, handed] = ["speedate.js", "bare.js", "speedate.wasm"].map(
 const gzipped = (it) => gzipSync(it, { level: 9 }).length;
 const told = process.argv.slice(2).map((it) => readFileSync(it, "utf8")).join("\n");
 const SIZES = [
-  [/about (\d+) kB, (\d+) kB gzipped/, script.length, gzipped(script)], [/the JavaScript (\d+), gzipped (\d+)/, script.length, gzipped(script)],
-  [/With `speedate.wasm` it has (\d+) kB gzipped/, gzipped(apart) + gzipped(handed)],
+  [/about (\d+) kB, or (\d+) kB gzipped/, script.length, gzipped(script)],
+  [/With `speedate.wasm` it is (\d+) kB gzipped/, gzipped(apart) + gzipped(handed)],
 ];
 for (const [form, ...sizes] of SIZES)
   for (const [i, size] of sizes.entries()) assert.ok(Math.abs(Number(form.exec(told)[i + 1]) - size / 1000) < 1, `${form}: ${size}`);
