@@ -397,8 +397,8 @@ class Date : public detail::Ordered<Date> {
 
 /* ---- Times ---- */
 
-/* A time of day, with an offset from UTC or without one. `==` compares clocks and offsets. Times have no order with
- * which they can be sorted in any mixture: compare_instants says more. */
+/* A time of day, with an offset from UTC or without one. `==` compares clocks and offsets. A mixture of times with
+ * and without an offset has no order by which it can be sorted: speedate_time_compare in speedate.h says more. */
 class Time : public detail::Equal<Time> {
   public:
     /* The time of its numbers, or SPEEDATE_OUT_OF_RANGE_HOUR, _MINUTE or _SECOND, SPEEDATE_TIME_TOO_LARGE for the

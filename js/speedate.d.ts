@@ -35,7 +35,7 @@ export class SpeedateError extends RangeError {
   readonly fault: Fault;
   /** The number of the fault in C. */ readonly code: number;
   /** What was expected at the place, for people: `month, 01 to 12`. */ readonly expected: string;
-  /** The text that is refused: of bytes a copy, for a front of those that were looked at. */ readonly text?: Text;
+  /** The text that is refused: of bytes a copy, for a front of those that were looked at. A line of a column and a value have none. */ readonly text?: Text;
   /** Where in the text the fault lies, as a Refusal has it; of a line of a column in bytes. */ readonly place?: number;
   /** Where the part ends that begins there, as a Refusal has it. */ readonly end?: number;
   /** Of a line of a column its index, from 0. */ readonly index?: number;

@@ -1985,7 +1985,7 @@ static PyMethodDef methods[] = {
            "(texts, config=None, *, strict=False, timestamps=False, faults='raise', newline='\\r\\n', empty='error', "
            "lines=False)",
            "The microseconds from 1970-01-01T00:00 that the clock of each date-time shows, as an `array.array(\"q\")`.\n\n"
-           "The arguments are those of `date_time_column`. The clock is read whatever the offset is, and with that, by\n"
+           "The arguments mean what they do in `date_time_column`. The clock is read whatever the offset is, and with that, by\n"
            "`date_time_offset_column`, it is the date-time as it stands. A timestamp shows the clock of UTC.\n\n"
            ">>> date_time_clock_column([\"1970-01-01T00:00:01\", \"1970-01-01T01:00+01:00\"])\n"
            "array('q', [1000000, 3600000000])\n\n"
@@ -1994,7 +1994,7 @@ static PyMethodDef methods[] = {
            "(texts, config=None, *, strict=False, timestamps=False, faults='raise', newline='\\r\\n', empty='error', "
            "lines=False)",
            "The seconds of the offset of each date-time, positive east of UTC, as an `array.array(\"q\")`.\n\n"
-           "The arguments are those of `date_time_column`. A date-time without an offset fails with `tz_required`. A timestamp\n"
+           "The arguments mean what they do in `date_time_column`. A date-time without an offset fails with `tz_required`. A timestamp\n"
            "has the offset of the configuration.\n\n"
            ">>> date_time_offset_column([\"1970-01-01T00:00:01Z\", \"1970-01-01T01:00+01:00\"])\n"
            "array('q', [0, 3600])\n"
@@ -2004,7 +2004,7 @@ static PyMethodDef methods[] = {
     METHOD(date_column,
            "(texts, config=None, *, timestamps=False, faults='raise', newline='\\r\\n', empty='error', lines=False)",
            "The days from 1970-01-01 to each date, as an `array.array(\"q\")`.\n\n"
-           "The arguments are those of `date_time_column`. Each text is taken as by `date`: with `timestamps=True` it may be a\n"
+           "The arguments mean what they do in `date_time_column`. Each text is taken as by `date`: with `timestamps=True` it may be a\n"
            "timestamp, if it is a midnight. The year 0 is accepted, although `date` has no such value.\n\n"
            ">>> date_column(b\"1970-01-02\\n1969-12-31\\n\")\n"
            "array('q', [1, -1])\n"
@@ -2014,7 +2014,7 @@ static PyMethodDef methods[] = {
     METHOD(time_column,
            "(texts, config=None, *, strict=False, faults='raise', newline='\\r\\n', empty='error', lines=False)",
            "The microseconds after midnight that the clock of each time shows, as an `array.array(\"q\")`.\n\n"
-           "The arguments are those of `date_time_column`. Each text is taken as by `time`, or with `strict=True` as by\n"
+           "The arguments mean what they do in `date_time_column`. Each text is taken as by `time`, or with `strict=True` as by\n"
            "`time_strict`. The clock is read whatever the offset is, which `time_offset_column` reads.\n\n"
            ">>> time_column([\"12:13:14.5\", None, \"12:13:14.5+01:00\"])\n"
            "array('q', [43994500000, -9223372036854775808, 43994500000])\n\n"
@@ -2028,7 +2028,7 @@ static PyMethodDef methods[] = {
            "NumPy takes a column as it is, by `numpy.frombuffer(column, \"timedelta64[s]\")`.\n"),
     METHOD(duration_column, "(texts, config=None, *, faults='raise', newline='\\r\\n', empty='error', lines=False)",
            "The microseconds of each duration, with its sign, as an `array.array(\"q\")`.\n\n"
-           "The arguments are those of `date_time_column`. Each text is taken as by `duration`. One of 2**63 microseconds or\n"
+           "The arguments mean what they do in `date_time_column`. Each text is taken as by `duration`. One of 2**63 microseconds or\n"
            "more, which are over 106,751,991 days, is refused with `number_too_large`.\n\n"
            "Hand a timedelta over by `text`: the sign of its `str()` covers the days alone, and here the whole text.\n\n"
            ">>> duration_column(b\"PT1.5S\\n-00:01:00\\n\")\n"
