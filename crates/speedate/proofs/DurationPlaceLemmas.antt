@@ -21,9 +21,8 @@ use Rattle.speedate.specs.DayForm.{after_days_or, day_form_or, days_table, hours
 use Rattle.speedate.specs.Duration.{duration_answer_or, days_or_clock_or, has_days, iso_after_or}
 use Rattle.speedate.specs.Duration.{iso_form, iso_form_or, iso_from_or, unsigned_answer_or}
 use Rattle.speedate.specs.DurationNumbers.{DurationNumbers, UnsignedDuration}
-use Rattle.speedate.specs.DurationNumbers.{normal_table}
-use Rattle.speedate.specs.DurationPlace.{amount_numbers, amount_place, at_bytes, first_item_after}
-use Rattle.speedate.specs.DurationPlace.{normal_places}
+use Rattle.speedate.specs.DurationNumbers.{normal_rows}
+use Rattle.speedate.specs.DurationPlace.{amount_numbers, amount_place, first_item_after}
 use Rattle.speedate.specs.IsoForm.{IsoSums, Item, TimeDesignator, item_at, item_table, item_text}
 use Rattle.speedate.specs.IsoForm.{no_sums, sums_amount, with_item}
 use Rattle.speedate.specs.IsoParts.{IsIsoRead, item_front_or}
@@ -129,9 +128,8 @@ pub duration_answer-view : {E D : Type 0} (view : E → D) (refuse : ParseError 
 duration_answer-view view refuse order behavior text =
     let size = sign_size text in
     let rest = drop size text in
-    let places = normal_places (amount_place order rest) in
     let moved = shifted size refuse in
-    let table = λ (numbers : DurationNumbers). at_bytes places (normal_table numbers) in
+    let table = normal_rows (amount_place order rest) in
     let unsigned = unsigned_answer-view view moved order behavior rest in
     then-view view _ _ _ _
     (λ amount. first_refusal_or-view view moved (table (amount_numbers amount)) _) unsigned

@@ -3,11 +3,12 @@ use Rattle.std.proofs.Common.{◌≡◌, ◌∙◌, ap, sym, true, option_map, �
 use Rattle.speedate_civil.specs.Base.{Behavior, ParseError}
 use Rattle.speedate_base.specs.Ascii.{HasNoControl}
 use Rattle.speedate_base.specs.Numbers.{number_answer, whole_number}
-use Rattle.speedate_base.specs.Requirement.{first_fault_or, or_number, result_and_then}
+use Rattle.speedate_base.specs.Requirement.{fault_alone, first_fault_or, or_number, result_and_then}
+use Rattle.speedate_base.specs.Requirement.{result_map}
 use Rattle.speedate_civil.specs.Calendar.{Ymd, days_between}
-use Rattle.speedate_civil.specs.Date.{date_answer, date_front, date_timestamp_answer}
+use Rattle.speedate_civil.specs.Date.{date_answer, date_front, date_number_answer_or}
 use Rattle.speedate_civil.specs.DateTime.{DateAndTime, date_time_answer, date_time_front}
-use Rattle.speedate_civil.specs.DateTime.{date_time_number_answer, utc_microsecond}
+use Rattle.speedate_civil.specs.DateTime.{date_time_at, number_instant_or, utc_microsecond}
 use Rattle.speedate_civil.specs.ParserParts.{refusal_size}
 use Rattle.speedate_civil.specs.Strict.{strict_date_time, strict_date_time_answer}
 use Rattle.speedate_civil.specs.Time.{end_fault}
@@ -69,8 +70,8 @@ pub date_number-of_date : (reader : DateReader) (line : List ℕ) (date : Ymd)
     → date_answer line ≡ Ok date → date_number reader line ≡ Ok (days_between epoch date)
 date_number-of_date DateReader.Rfc3339 line date read = ap (as_number (days_between epoch)) read
 date_number-of_date (DateReader.OrTimestamp config) line date read =
-    let timestamp = date_timestamp_answer config.timestamp_unit true in
-    let number = option_map timestamp (whole_number line) in
+    let unit = config.timestamp_unit in
+    let number = date_number_answer_or fault_alone unit (whole_number line) in
     let counted = as_number (days_between epoch) in
     ap (λ (answer : Result Ymd ParseError). counted (or_number number answer)) read
 
@@ -110,7 +111,8 @@ date_time_of_line-read (DateTimeParser.OrTimestamp config) line value read =
     let behavior = time.microseconds_precision_overflow_behavior in
     let offset = time.unix_timestamp_offset in
     let unit = config.timestamp_unit in
-    ap (or_number (date_time_number_answer unit behavior offset (number_answer line))) read
+    let instant = number_instant_or fault_alone unit behavior line (number_answer line) in
+    ap (or_number (option_map (result_map (date_time_at offset)) instant)) read
 date_time_of_line-read (DateTimeParser.Strict behavior) line value read =
     ap (result_and_then (strict_value line)) read
 

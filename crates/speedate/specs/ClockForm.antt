@@ -8,7 +8,7 @@ use Rattle.speedate_base.specs.Ascii.{colon}
 use Rattle.speedate_base.specs.Digits.{digits_value, run_length}
 use Rattle.speedate_base.specs.Config.{refuses_digits}
 use Rattle.speedate_base.specs.Requirement.{TextRow, ◌at_byte◌, ◌else_fault◌, ◌implies◌}
-use Rattle.speedate_base.specs.Requirement.{first_refusal_or, result_and_then, shifted}
+use Rattle.speedate_base.specs.Requirement.{first_refusal_or, shifted, ◌>>=◌}
 use Rattle.speedate_civil.specs.Time.{Clock, minute_front_or}
 use Rattle.speedate.specs.DurationNumbers.{UnsignedDuration}
 
@@ -73,9 +73,8 @@ abbrev pub after_hours_or : {E : Type 0} → (ParseError → ℕ → E) → Beha
     → Result UnsignedDuration E
 after_hours_or refuse behavior hours rest =
     first_refusal_or refuse (rest_table behavior rest)
-    (result_and_then
-    (λ clock. first_refusal_or refuse (clock_end clock rest) (Ok (clock_numbers hours clock)))
-    (minute_front_or refuse behavior rest))
+    (minute_front_or refuse behavior rest
+    >>= (λ clock. first_refusal_or refuse (clock_end clock rest) (Ok (clock_numbers hours clock))))
 
 -- the duration that a text says as a clock, or the text's refusal
 unfoldable pub clock_form_or : {E : Type 0} → (ParseError → ℕ → E) → Behavior → List ℕ

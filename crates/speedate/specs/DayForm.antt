@@ -6,7 +6,7 @@ use Rattle.std.specs.List.{list_any, starts_with}
 use Rattle.speedate_base.specs.Ascii.{capital_d, small_d}
 use Rattle.speedate_base.specs.Digits.{run_length, run_value}
 use Rattle.speedate_base.specs.Requirement.{TextRow, ◌at_byte◌, ◌else_fault◌, first_refusal_or}
-use Rattle.speedate_base.specs.Requirement.{result_and_then, shifted, ◌>>=◌}
+use Rattle.speedate_base.specs.Requirement.{shifted, ◌>>=◌}
 use Rattle.speedate.specs.ClockForm.{clock_form_or}
 use Rattle.speedate.specs.DurationNumbers.{UnsignedDuration}
 
@@ -75,9 +75,9 @@ unfoldable pub after_days_or : {E : Type 0} → (ParseError → ℕ → E) → B
     → Result UnsignedDuration E
 after_days_or refuse behavior days rest =
     if length rest == 0 then Ok (record { day = days; second = 0; microsecond = 0 })
-    else result_and_then
-    (λ clock. first_refusal_or refuse (hours_of_day clock.day) (Ok (record clock { day = days })))
-    (clock_form_or refuse behavior rest)
+    else clock_form_or refuse behavior rest
+    >>= (λ clock. first_refusal_or refuse (hours_of_day clock.day)
+    (Ok (record clock { day = days })))
 
 -- the numbers that a text says as days and a clock, the days of any size, or the text's refusal
 unfoldable pub day_form_or : {E : Type 0} → (ParseError → ℕ → E) → Behavior → List ℕ

@@ -18,8 +18,8 @@ pub use Rattle.speedate.specs.declared.duration.Duration.{Duration}
 use Rattle.speedate.specs.ClockForm.{clock_form_or}
 use Rattle.speedate.specs.DayForm.{is_day_letter, day_form_or}
 use Rattle.speedate.specs.DurationNumbers.{DurationNumbers, UnsignedDuration, signed_form}
-use Rattle.speedate.specs.DurationNumbers.{signed_day, amount_microseconds, normal_table, of_amount}
-use Rattle.speedate.specs.DurationPlace.{amount_numbers, amount_place, at_bytes, normal_places}
+use Rattle.speedate.specs.DurationNumbers.{signed_day, amount_microseconds, normal_rows, of_amount}
+use Rattle.speedate.specs.DurationPlace.{amount_numbers, amount_place}
 use Rattle.speedate.specs.IsoForm.{Item, IsoSums, no_sums, item_text, item_at, item_table}
 use Rattle.speedate.specs.IsoForm.{with_item, sums_amount, IsEndedFront, IsAnswerFrom}
 
@@ -38,11 +38,11 @@ abbrev pub ◌gives◌ : Result Duration ParseError → Result DurationNumbers P
 result gives answer = result_map duration_numbers result ≡ answer
 
 -- the normal form of a duration that is given by its sign and its numbers without it, or the
--- refusal at the place of its row
-abbrev pub signed_form_or : {E : Type 0} → (ParseError → ℕ → E) → List ℕ → Bool
-    → UnsignedDuration → Result DurationNumbers E
-signed_form_or refuse places positive amount =
-    first_refusal_or refuse (at_bytes places (normal_table (amount_numbers amount)))
+-- refusal at the place of its row, which is that of the row's test
+abbrev pub signed_form_or : {E : Type 0} → (ParseError → ℕ → E) → ((DurationNumbers → Bool) → ℕ)
+    → Bool → UnsignedDuration → Result DurationNumbers E
+signed_form_or refuse place positive amount =
+    first_refusal_or refuse (normal_rows place (amount_numbers amount))
     (Ok (of_amount positive (amount_microseconds (amount_numbers amount))))
 
 -- The answer to a text of a duration, as a function, which reads the items of an ISO 8601 duration
@@ -109,8 +109,7 @@ duration_answer_or refuse order behavior text =
     let size = sign_size text in
     let rest = drop size text in
     result_and_then
-    (signed_form_or (shifted size refuse) (normal_places (amount_place order rest))
-    (not (has_minus text)))
+    (signed_form_or (shifted size refuse) (amount_place order rest) (not (has_minus text)))
     (unsigned_answer_or (shifted size refuse) order behavior rest)
 
 -- the same, with faults

@@ -11,7 +11,8 @@ use Rattle.speedate_civil.specs.Base.{ParseError}
 pub use Rattle.speedate.specs.declared.duration.unsigned.UnsignedDuration.{UnsignedDuration}
 use Rattle.speedate_base.specs.Numbers.{with_sign}
 use Rattle.speedate_base.specs.Timestamp.{seconds_per_day}
-use Rattle.speedate_base.specs.Requirement.{NumberRow, ◌else_fault◌, first_fault_or}
+use Rattle.speedate_base.specs.Requirement.{NumberRow, Requirement, ◌at_place◌, ◌else_fault◌}
+use Rattle.speedate_base.specs.Requirement.{first_fault_or}
 
 -- a duration by its sign, its days, the seconds of a day and the microseconds of a second
 pub record DurationNumbers : Type 0 where
@@ -59,13 +60,22 @@ abbrev pub has_days_up_to : ℕ → DurationNumbers → Bool
 has_days_up_to largest numbers = nat_le (carried_day numbers) largest
 
 -- what the numbers of a duration, of any size, have to meet to be brought into their ranges: the
--- sums are counted in 32 bits, and then the days are at most 999,999,999
-abbrev pub normal_table : DurationNumbers → List NumberRow
-normal_table numbers =
-    (has_seconds_up_to 4294967295 numbers else_fault ParseError.DurationValueTooLarge)
-    ∷ (has_days_up_to 4294967295 numbers else_fault ParseError.DurationValueTooLarge)
-    ∷ (has_days_up_to 999999999 numbers else_fault ParseError.DurationDaysTooLarge)
+-- sums are counted in 32 bits, and then the days are at most 999,999,999. The place of a row is
+-- that of its test
+abbrev pub normal_rows : {Place : Type 0} → ((DurationNumbers → Bool) → Place) → DurationNumbers
+    → List (Requirement Place)
+normal_rows place numbers =
+    (has_seconds_up_to 4294967295 numbers else_fault ParseError.DurationValueTooLarge
+    at_place place (has_seconds_up_to 4294967295))
+    ∷ (has_days_up_to 4294967295 numbers else_fault ParseError.DurationValueTooLarge
+    at_place place (has_days_up_to 4294967295))
+    ∷ (has_days_up_to 999999999 numbers else_fault ParseError.DurationDaysTooLarge
+    at_place place (has_days_up_to 999999999))
     ∷ []
+
+-- the same of numbers, which have no place
+abbrev pub normal_table : DurationNumbers → List NumberRow
+normal_table numbers = normal_rows (λ test. tt) numbers
 
 -- the normal form of a duration: the numbers in their ranges that have the same amount, or the
 -- fault

@@ -2,15 +2,8 @@
 use Rattle.std.specs.Prelude.{ℕ, zero, suc, ◌+◌, ◌-◌, Bool, true, List, [], ◌∷◌, length, drop, slice_index, ◌==◌, if◌then◌else◌}
 use Rattle.speedate_civil.specs.Base.{IsoOrder}
 use Rattle.speedate_base.specs.Ascii.{capital_p}
-use Rattle.speedate_base.specs.Requirement.{NumberRow, TextRow, ◌at_byte◌}
-use Rattle.speedate.specs.DurationNumbers.{DurationNumbers, UnsignedDuration, has_days_up_to}
-use Rattle.speedate.specs.DurationNumbers.{has_seconds_up_to}
+use Rattle.speedate.specs.DurationNumbers.{DurationNumbers, UnsignedDuration}
 use Rattle.speedate.specs.IsoForm.{IsoSums, item_at, item_text, no_sums, sums_amount, with_item}
-
--- rows of numbers, each with a place of its own
-abbrev pub at_bytes : List ℕ → List NumberRow → List TextRow
-at_bytes (place ∷ places) (row ∷ rows) = (row at_byte place) ∷ at_bytes places rows
-at_bytes places rows = []
 
 -- the numbers of an amount; its sign does not matter here
 abbrev pub amount_numbers : UnsignedDuration → DurationNumbers
@@ -40,11 +33,3 @@ amount_place order text test =
     if slice_index text 0 == capital_p
     then 1 + first_item_after test 0 (no_sums order) (drop 1 text)
     else 0
-
--- the places of the rows of the normal form, by that of each test
-abbrev pub normal_places : ((DurationNumbers → Bool) → ℕ) → List ℕ
-normal_places place =
-    place (has_seconds_up_to 4294967295)
-    ∷ place (has_days_up_to 4294967295)
-    ∷ place (has_days_up_to 999999999)
-    ∷ []

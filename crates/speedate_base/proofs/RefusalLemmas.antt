@@ -1,10 +1,12 @@
 -- Refusals seen in another way: their faults alone.
-use Rattle.std.proofs.Common.{◌∙◌, length, ◌≡◌, ℕ, ◌+◌, ap, add_assoc, zero-add, sym, List, [], ◌∷◌, Result, Ok, Err, is_some, is_err, refl, rules}
+use Rattle.std.proofs.Common.{◌∙◌, length, ◌≡◌, ℕ, ◌+◌, ap, ap₂, add_assoc, zero-add, sym, List, [], ◌∷◌, ◌++◌, Option, Some, None, Result, Ok, Err, is_some, is_err, refl, rules}
 use mathlib.Core.Path.{fun_ext}
+use Rattle.std.specs.Option.{option_map}
 use Rattle.std.specs.Result.{result_and}
-use Rattle.speedate_base.specs.Requirement.{AllHold, ParseError, Requirement, TextRow}
-use Rattle.speedate_base.specs.Requirement.{first_refusal_or, moved, refusal_map, result_and_then}
-use Rattle.speedate_base.specs.Requirement.{result_map, shifted, with_no_more_or}
+use Rattle.speedate_base.specs.Requirement.{AllHold, ParseError, Requirement, TextRow, fault_alone}
+use Rattle.speedate_base.specs.Requirement.{first_refusal_or, moved, or_number, refusal_map}
+use Rattle.speedate_base.specs.Requirement.{refused_at, result_and_then, result_map, shifted}
+use Rattle.speedate_base.specs.Requirement.{with_no_more_or}
 use Rattle.speedate_base.specs.Refused.{Refused, refused_place, without_place}
 
 -- a table's refusal in another way is made so of each row
@@ -108,6 +110,15 @@ pub refusal-value : {Place A E : Type 0} (refuse : ParseError → Place → E)
 refusal-value refuse rows given value same =
     search (rules, refusal-ok refuse rows (Ok given) value same)
 
+-- a table after a table is the table of both
+pub first_refusal_or-append : {Place A E : Type 0} (refuse : ParseError → Place → E)
+    (first second : List (Requirement Place)) (next : Result A E)
+    → first_refusal_or refuse first (first_refusal_or refuse second next)
+    ≡ first_refusal_or refuse (first ++ second) next
+first_refusal_or-append refuse [] second next = refl
+first_refusal_or-append refuse (row ∷ first) second next =
+    search (rules, first_refusal_or-append refuse first second next)
+
 -- the rows of a part of a text refuse where the part does
 pub first_refusal_or-moved : {A E : Type 0} (refuse : ParseError → ℕ → E) (start : ℕ)
     (rows : List TextRow) (next : Result A E)
@@ -143,3 +154,47 @@ pub chain-view : {A E D : Type 0} (view : E → D) (refuse : ParseError → ℕ 
 chain-view view refuse rows next other same =
     first_refusal_or-view view refuse rows next
     ∙ ap (first_refusal_or (through view refuse) rows) same
+
+-- and one of all that begins at a byte
+pub refused_at-view : {A E D : Type 0} (view : E → D) (refuse : ParseError → ℕ → E) (place : ℕ)
+    (answer : Result A ParseError)
+    → refusal_map view (refused_at refuse place answer)
+    ≡ refused_at (through view refuse) place answer
+refused_at-view view refuse place (Ok value) = refl
+refused_at-view view refuse place (Err fault) = refl
+
+-- and one of a table or of a number
+number-view : {A E D : Type 0} (view : E → D) (number : Option (Result A E)) (answer : Result A E)
+    → refusal_map view (or_number number answer)
+    ≡ or_number (option_map (refusal_map view) number) (refusal_map view answer)
+number-view view number (Ok value) = refl
+number-view view (Some answer) (Err refusal) = refl
+number-view view None (Err refusal) = refl
+
+pub or_number-view : {A E D : Type 0} (view : E → D) (number : Option (Result A E))
+    (answer : Result A E) (seen : Option (Result A D)) (other : Result A D)
+    → option_map (refusal_map view) number ≡ seen → refusal_map view answer ≡ other
+    → refusal_map view (or_number number answer) ≡ or_number seen other
+or_number-view view number answer seen other numbers same =
+    number-view view number answer
+    ∙ ap₂ (λ (number : Option (Result _ _)) (answer : Result _ _). or_number number answer) numbers same
+
+-- a refusal that keeps its fault, seen by it
+pub through-fault : {E : Type 0} (fault_of : E → ParseError) (refuse : ParseError → ℕ → E)
+    → ((fault : ParseError) (place : ℕ) → fault_of (refuse fault place) ≡ fault)
+    → through fault_of refuse ≡ fault_alone
+through-fault fault_of refuse keeps = fun_ext (λ fault. fun_ext (λ place. keeps fault place))
+
+-- a number seen in another way, where no table lets a value through
+pub or_number-map : {A B E : Type 0} (view : A → B) (number : Option (Result A E)) (refusal : E)
+    → result_map view (or_number number (Err refusal))
+    ≡ or_number (option_map (result_map view) number) (Err refusal)
+or_number-map view (Some answer) refusal = refl
+or_number-map view None refusal = refl
+
+-- a value seen in another way has no place, and a refusal keeps its own
+pub refused_place-map : {A B : Type 0} (view : A → B) (answer : Result A Refused)
+    (seen : Result B Refused) → result_map view answer ≡ seen
+    → refused_place answer ≡ refused_place seen
+refused_place-map view (Ok value) seen same = ap refused_place same
+refused_place-map view (Err refused) seen same = ap refused_place same

@@ -25,10 +25,15 @@ infix 20 ◌else_fault◌
 abbrev pub ◌else_fault◌ : Bool → ParseError → NumberRow
 test else_fault fault = record { holds = test; fault = fault; place = tt }
 
+infix 18 ◌at_place◌
+-- a row with another place
+abbrev pub ◌at_place◌ : {Place To : Type 0} → Requirement Place → To → Requirement To
+row at_place place = record { holds = row.holds; fault = row.fault; place = place }
+
 infix 18 ◌at_byte◌
 -- a row with its place in a text
 abbrev pub ◌at_byte◌ : {Place : Type 0} → Requirement Place → ℕ → TextRow
-row at_byte place = record { holds = row.holds; fault = row.fault; place = place }
+row at_byte place = row at_place place
 
 -- rows of numbers that are all about what begins at a byte
 abbrev pub all_at_byte : ℕ → List NumberRow → List TextRow
@@ -111,26 +116,15 @@ infixl 10 ◌>>=◌
 abbrev pub ◌>>=◌ : {A B E : Type 0} → Result A E → (A → Result B E) → Result B E
 answer >>= next = result_and_then next answer
 
--- the answer of a table; but if that is a fault and the text is a number, the answer to that number
-abbrev pub or_number : {A : Type 0} → Option (Result A ParseError) → Result A ParseError
-    → Result A ParseError
-or_number number (Ok value) = Ok value
-or_number (Some answer) (Err fault) = answer
-or_number None (Err fault) = Err fault
-
--- the answer to a text is that of a table: the fault of the first row that does not hold, whose
--- place is the table's, and otherwise a value
-abbrev pub IsAnswerOf : {A : Type 0} → List TextRow → Result A ParseError → Type 0
-IsAnswerOf {A = A} rows answer = (value : A) × (answer ≡ first_fault_or rows (Ok value))
-
--- the place of a fault that is about all that begins at a byte; a value has none
-abbrev pub fault_at_byte : {A : Type 0} → ℕ → Result A ParseError → Option ℕ
-fault_at_byte place (Ok value) = None
-fault_at_byte place (Err fault) = Some place
-
--- the place of the fault of a table; but if there is one and the text is a number, that of the
+-- the answer of a table; but if that is a refusal and the text is a number, the answer to that
 -- number
-abbrev pub or_number_place : Option (Option ℕ) → Option ℕ → Option ℕ
-or_number_place number None = None
-or_number_place (Some answer) (Some place) = answer
-or_number_place None (Some place) = Some place
+abbrev pub or_number : {A E : Type 0} → Option (Result A E) → Result A E → Result A E
+or_number number (Ok value) = Ok value
+or_number (Some answer) (Err refusal) = answer
+or_number None (Err refusal) = Err refusal
+
+-- the answer to all that begins at a byte of a text, of which a fault is about all
+abbrev pub refused_at : {A E : Type 0} → (ParseError → ℕ → E) → ℕ → Result A ParseError
+    → Result A E
+refused_at refuse place (Ok value) = Ok value
+refused_at refuse place (Err fault) = Err (refuse fault place)

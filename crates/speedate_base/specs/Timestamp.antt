@@ -154,9 +154,6 @@ digits_row behavior row decimal =
     (refuses_digits behavior implies nat_le (length decimal.fraction) row.digits)
     else_fault row.too_long
 
-abbrev pub digits_table : Behavior → UnitRow → DecimalParts → List NumberRow
-digits_table behavior row decimal = digits_row behavior row decimal ∷ []
-
 -- the numbers of an instant
 abbrev pub unix_instant : UnixTime → Instant
 unix_instant time = record { second = time.second; microsecond = time.microsecond }

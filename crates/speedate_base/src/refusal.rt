@@ -14,24 +14,44 @@ pub trait Refusal: Copy {
     // The refusal lies within so many bytes.
     ghost lies_within: { ℕ → Self → Type 0 };
 
+    // The error of a refusal.
+    ghost fault_of: { Self → ParseError };
+
     /// The refusal with this error at this byte: `OutOfRangeMonth` for that error and byte 5, if the
     /// refusal is the error alone.
-    fn at(fault: ParseError, place: usize) -> Self
+    fn refuse_at(fault: ParseError, place: usize) -> Self
         ensures refusal { result ≡ refusal fault place }
         ensures within { (size : ℕ) → place ≤ size → lies_within size result };
+
+    /// The error of the refusal: `OutOfRangeMonth` of that error at byte 5.
+    fn fault(self) -> ParseError
+        ensures fault { result ≡ fault_of self };
+
+    // A refusal keeps the error that it was made of.
+    ghost keeps_fault: { (fault : ParseError) (place : ℕ) → fault_of (refusal fault place) ≡ fault };
 }
 
 impl Refusal for ParseError {
+    ghost use Rattle.std.specs.Prelude.{refl};
     ghost use Rattle.speedate_base.specs.Requirement.{fault_alone};
 
     ghost refusal = { fault_alone };
 
     ghost lies_within = { λ size fault. Unit {0} };
 
+    ghost fault_of = { λ fault. fault };
+
     #[inline]
-    fn at(fault: ParseError, _place: usize) -> Self {
+    fn refuse_at(fault: ParseError, _place: usize) -> Self {
         fault
     }
+
+    #[inline]
+    fn fault(self) -> ParseError {
+        self
+    }
+
+    ghost keeps_fault = { λ fault place. refl };
 }
 
 /// An error and the byte at which it lies, or the text's end: `OutOfRangeMonth` and 5 for `b"2020-13-01"`.
@@ -44,17 +64,26 @@ pub struct Refused {
 }
 
 impl Refusal for Refused {
-    ghost use Rattle.std.specs.Prelude.{◌≤◌};
+    ghost use Rattle.std.specs.Prelude.{◌≤◌, refl};
     ghost use Rattle.speedate_base.specs.Refused.{placed};
 
     ghost refusal = { placed };
 
     ghost lies_within = { λ size refused. refused.place ≤ size };
 
+    ghost fault_of = { λ refused. refused.fault };
+
     #[inline]
-    fn at(fault: ParseError, place: usize) -> Self {
+    fn refuse_at(fault: ParseError, place: usize) -> Self {
         Refused { fault, place }
     }
+
+    #[inline]
+    fn fault(self) -> ParseError {
+        self.fault
+    }
+
+    ghost keeps_fault = { λ fault place. refl };
 }
 
 impl Refused {

@@ -1,14 +1,15 @@
 -- The seconds of a date-time without an offset, as a timestamp, and its microsecond lead back to
 -- it.
-use Rattle.std.proofs.Common.{◌≡◌, ℕ, ◌<◌, ◌≤◌, ℤ, unsigned_abs, Err, Ok, Option, Result, refl, rules, arith}
+use Rattle.std.proofs.Common.{◌≡◌, ◌∙◌, ◌+◌, ◌-◌, ℕ, ◌<◌, ◌≤◌, ℤ, unsigned_abs, Bool, true, List, length, if◌then◌else◌, Ok, Err, ap, sym, rules, arith}
 use Rattle.std.proofs.lemmas.Bool.Decides.{nat_tests}
 use Rattle.std.proofs.lemmas.Int.{ints}
-use Rattle.speedate_base.specs.Numbers.{Fractional, NoNumber, Number, Whole}
-use Rattle.speedate_base.specs.Requirement.{or_number, result_and_then, result_map}
-use Rattle.speedate_base.specs.Timestamp.{Instant, later_answer}
+use Rattle.speedate_base.specs.Numbers.{DecimalParts}
+use Rattle.speedate_base.specs.Requirement.{all_at_byte, first_refusal_or}
+use Rattle.speedate_base.specs.Timestamp.{Instant, UnitRow, decimal_instant, digits_row}
+use Rattle.speedate_base.specs.Timestamp.{later_answer, range_answer, range_table}
 use Rattle.speedate_civil.specs.DateTime.{DateAndTime, IsDateAndTime, local_second, date_time_at}
-use Rattle.speedate_civil.specs.DateTime.{instant_date_time, date_time_number_answer}
-use Rattle.speedate_civil.specs.DateTime.{date_time_timestamp_answer, number_instant}
+use Rattle.speedate_civil.specs.DateTime.{date_time_timestamp_answer, decimal_instant_or}
+use Rattle.speedate_civil.specs.DateTime.{instant_date_time}
 use Rattle.speedate_base.proofs.TimestampLemmas.{instant_of_seconds}
 use Rattle.speedate_civil.specs.Base.{Behavior, ParseError, TimestampUnit}
 use Rattle.speedate_civil.proofs.DateOrderLemmas.{date_of_number-day_number}
@@ -51,19 +52,21 @@ date_time_timestamp-leads_back value valid =
       instant_date_time-local,
     )
 
--- what is done with what was read, seen in another way
-map-then : {A B C : Type 0} (view : B → C) (next : A → Result B ParseError)
-    (answer : Result A ParseError)
-    → result_and_then (λ (read : A). result_map view (next read)) answer
-    ≡ result_map view (result_and_then next answer)
-map-then view next answer = search rules
+-- an instant outside the years is refused at the beginning of its text
+range-refused : {A E : Type 0} (refuse : ParseError → ℕ → E) (instant : Instant) (value : A)
+    (fault : ParseError) → Err fault ≡ range_answer instant
+    → Err (refuse fault 0)
+    ≡ first_refusal_or refuse (all_at_byte 0 (range_table instant)) (Ok value)
+range-refused refuse instant value fault refused = search rules
 
--- a number in a text is the date-time at its instant
-pub number_instant-date_time : (unit : TimestampUnit) (behavior : Behavior) (offset : Option ℤ)
-    (number : Number) (fault : ParseError)
-    → or_number (date_time_number_answer unit behavior offset number) (Err fault)
-    ≡ result_map (date_time_at offset) (or_number (number_instant unit behavior number) (Err fault))
-number_instant-date_time unit behavior offset (Whole timestamp) fault =
-    search (rules, map-then {A = Instant} (date_time_at offset))
-number_instant-date_time unit behavior offset (Fractional decimal) fault = search rules
-number_instant-date_time unit behavior offset NoNumber fault = refl
+pub decimal-refused : {E : Type 0} (refuse : ParseError → ℕ → E) (row : UnitRow)
+    (behavior : Behavior) (text : List ℕ) (decimal : DecimalParts) (fault : ParseError)
+    → (digits_row behavior row decimal).holds ≡ true
+    → Err fault ≡ range_answer (decimal_instant row decimal)
+    → Err (refuse fault 0) ≡ decimal_instant_or refuse row behavior text decimal
+decimal-refused refuse row behavior text decimal fault few refused =
+    let instant = decimal_instant row decimal in
+    let range = first_refusal_or refuse (all_at_byte 0 (range_table instant)) (Ok instant) in
+    let place = length text - length decimal.fraction + row.digits in
+    range-refused refuse instant instant fault refused
+    ∙ ap (λ (test : Bool). if test then range else Err (refuse row.too_long place)) (sym few)

@@ -1,21 +1,20 @@
 -- The answers with another refusal: those with a place have the faults of the grammar.
-use Rattle.std.proofs.Common.{◌≡◌, ◌∙◌, ◌+◌, ap, ℕ, ℤ, List, drop, Option, Ok, is_err, is_some, true, refl, rules}
+use Rattle.std.proofs.Common.{◌≡◌, ◌∙◌, ◌+◌, ap, ℕ, ℤ, List, drop, Option, Some, None, Result, Ok, Err, sym, true, refl, rules}
 use Rattle.speedate_civil.specs.Base.{Behavior, ParseError, TimestampUnit}
-use Rattle.speedate_base.specs.Requirement.{end_table, fault_alone, fault_at_byte, first_refusal_or}
-use Rattle.speedate_base.specs.Requirement.{refusal_map, result_map, shifted, with_no_more_or}
-use Rattle.speedate_base.specs.Refused.{placed, refused_place}
-use Rattle.speedate_base.specs.declared.refusal.Refused.{Refused}
+use Rattle.speedate_base.specs.Requirement.{end_table, fault_alone, first_refusal_or, refusal_map}
+use Rattle.speedate_base.specs.Requirement.{refused_at, result_map, shifted, with_no_more_or}
+use Rattle.speedate_base.specs.Timestamp.{decimal_instant, decimal_row}
 use Rattle.speedate_base.proofs.RefusalLemmas.{chain-view, first_refusal_or-view, map-view}
-use Rattle.speedate_base.proofs.RefusalLemmas.{refusal-all, refusal-value, refused-is_some}
-use Rattle.speedate_base.proofs.RefusalLemmas.{then-view, through}
-use Rattle.speedate_base.proofs.RequirementLemmas.{fault_at_byte-is_some, or_number-is_some}
+use Rattle.speedate_base.proofs.RefusalLemmas.{or_number-view, refusal-all, refusal-value}
+use Rattle.speedate_base.proofs.RefusalLemmas.{refused_at-view, then-view, through, through-fault}
 use Rattle.speedate_civil.specs.Calendar.{Ymd}
 use Rattle.speedate_civil.specs.Date.{date_answer, date_answer_or, date_front, date_front_or}
-use Rattle.speedate_civil.specs.Date.{date_numbers, date_or_timestamp, date_table}
-use Rattle.speedate_civil.specs.Date.{date_timestamp_answer}
-use Rattle.speedate_civil.specs.DateTime.{DateAndTime, date_time_answer_or, date_time_front_or}
-use Rattle.speedate_civil.specs.DateTime.{separator_table}
-use Rattle.speedate_civil.specs.ErrorPlace.{date_or_timestamp_place}
+use Rattle.speedate_civil.specs.Date.{date_number_answer_or, date_numbers, date_or_timestamp_or}
+use Rattle.speedate_civil.specs.Date.{date_table, date_timestamp_answer}
+use Rattle.speedate_civil.specs.DateTime.{DateAndTime, date_time_answer, date_time_answer_or}
+use Rattle.speedate_civil.specs.DateTime.{date_time_at, date_time_front_or}
+use Rattle.speedate_civil.specs.DateTime.{date_time_or_timestamp_or, decimal_table}
+use Rattle.speedate_civil.specs.DateTime.{number_instant_or, separator_table, whole_instant}
 use Rattle.speedate_civil.specs.Strict.{strict_date_time, strict_time, strict_date_time_answer_or}
 use Rattle.speedate_civil.specs.Strict.{strict_time_answer_or}
 use Rattle.speedate_civil.specs.Time.{Clock, TimeOfDay, at_hour, clock_front_or, clock_with_offset}
@@ -23,6 +22,7 @@ use Rattle.speedate_civil.specs.Time.{end_fault, hour_range, hour_table, minute_
 use Rattle.speedate_civil.specs.Time.{minute_digits, minute_table, offset_front_or, time_answer_or}
 use Rattle.speedate_civil.specs.Time.{time_front_or}
 use Rattle.speedate_base.specs.Digits.{two_digit_value}
+use Rattle.speedate_base.specs.Numbers.{Fractional, NoNumber, Number, Whole, number_answer}
 use Rattle.speedate_base.specs.Numbers.{whole_number}
 use Rattle.std.specs.Option.{option_map}
 
@@ -145,14 +145,76 @@ strict_date_time_answer-view view refuse behavior text =
     let table = strict_date_time text in
     then-view view _ _ _ _ (λ value. first_refusal_or-view view refuse table (Ok value)) answer
 
-pub date_or_timestamp-is_some : (unit : TimestampUnit) (text : List ℕ)
-    → is_some (date_or_timestamp_place unit text) ≡ is_err (date_or_timestamp unit text)
-date_or_timestamp-is_some unit text =
-    let number = whole_number text in
-    let answer = date_timestamp_answer unit true in
-    let date = date_answer_or placed text in
-    let seen = date_answer-view (λ (refused : Refused). refused.fault) placed text in
-    or_number-is_some (option_map answer number)
-    (option_map (λ one. fault_at_byte 0 (answer one)) number)
-    (date_answer text) (refused_place date)
-    (fault_at_byte-is_some answer 0 number) (refused-is_some date _ seen)
+-- Timestamps.
+
+date_number-view : {E D : Type 0} (view : E → D) (refuse : ParseError → ℕ → E)
+    (unit : TimestampUnit) (number : Option ℤ)
+    → option_map (refusal_map view) (date_number_answer_or refuse unit number)
+    ≡ date_number_answer_or (through view refuse) unit number
+date_number-view view refuse unit None = refl
+date_number-view view refuse unit (Some timestamp) =
+    ap (λ (answer : Result Ymd _). Some answer)
+    (refused_at-view view refuse 0 (date_timestamp_answer unit true timestamp))
+
+pub date_or_timestamp-view : {E D : Type 0} (view : E → D) (refuse : ParseError → ℕ → E)
+    (unit : TimestampUnit) (text : List ℕ)
+    → refusal_map view (date_or_timestamp_or refuse unit text)
+    ≡ date_or_timestamp_or (through view refuse) unit text
+date_or_timestamp-view view refuse unit text =
+    or_number-view view _ _ _ _ (date_number-view view refuse unit (whole_number text))
+    (date_answer-view view refuse text)
+
+-- a number in a text is the date-time at its instant
+instant-view : {E D : Type 0} (view : E → D) (refuse : ParseError → ℕ → E) (unit : TimestampUnit)
+    (behavior : Behavior) (offset : Option ℤ) (text : List ℕ) (number : Number)
+    → option_map (refusal_map view)
+    (option_map (result_map (date_time_at offset))
+    (number_instant_or refuse unit behavior text number))
+    ≡ option_map (result_map (date_time_at offset))
+    (number_instant_or (through view refuse) unit behavior text number)
+instant-view view refuse unit behavior offset text (Whole timestamp) =
+    let at = date_time_at offset in
+    let answer = whole_instant unit timestamp in
+    let seen = refused_at-view view refuse 0 answer in
+    ap (λ (answer : Result DateAndTime _). Some answer)
+    (map-view view at (refused_at refuse 0 answer) ∙ ap (result_map at) seen)
+instant-view view refuse unit behavior offset text (Fractional decimal) =
+    let at = date_time_at offset in
+    let row = decimal_row unit decimal in
+    let table = decimal_table row behavior text decimal in
+    let instant = Ok (decimal_instant row decimal) in
+    let seen = first_refusal_or-view view refuse table instant in
+    ap (λ (answer : Result DateAndTime _). Some answer)
+    (map-view view at (first_refusal_or refuse table instant) ∙ ap (result_map at) seen)
+instant-view view refuse unit behavior offset text NoNumber = refl
+
+pub date_time_or_timestamp-view : {E D : Type 0} (view : E → D) (refuse : ParseError → ℕ → E)
+    (unit : TimestampUnit) (behavior : Behavior) (offset : Option ℤ) (text : List ℕ)
+    → refusal_map view (date_time_or_timestamp_or refuse unit behavior offset text)
+    ≡ date_time_or_timestamp_or (through view refuse) unit behavior offset text
+date_time_or_timestamp-view view refuse unit behavior offset text =
+    or_number-view view _ _ _ _
+    (instant-view view refuse unit behavior offset text (number_answer text))
+    (date_time_answer-view view refuse behavior text)
+
+-- a text that is refused is refused by the fault that its refusal keeps
+pub date_answer-fault : {E : Type 0} (fault_of : E → ParseError) (refuse : ParseError → ℕ → E)
+    (text : List ℕ) (refusal : E)
+    → ((fault : ParseError) (place : ℕ) → fault_of (refuse fault place) ≡ fault)
+    → date_answer_or refuse text ≡ Err refusal → date_answer text ≡ Err (fault_of refusal)
+date_answer-fault fault_of refuse text refusal keeps refused =
+    ap (λ (refuse : ParseError → ℕ → ParseError). date_answer_or refuse text)
+    (sym (through-fault fault_of refuse keeps))
+    ∙ sym (date_answer-view fault_of refuse text)
+    ∙ ap (refusal_map fault_of) refused
+
+pub date_time_answer-fault : {E : Type 0} (fault_of : E → ParseError)
+    (refuse : ParseError → ℕ → E) (behavior : Behavior) (text : List ℕ) (refusal : E)
+    → ((fault : ParseError) (place : ℕ) → fault_of (refuse fault place) ≡ fault)
+    → date_time_answer_or refuse behavior text ≡ Err refusal
+    → date_time_answer behavior text ≡ Err (fault_of refusal)
+date_time_answer-fault fault_of refuse behavior text refusal keeps refused =
+    ap (λ (refuse : ParseError → ℕ → ParseError). date_time_answer_or refuse behavior text)
+    (sym (through-fault fault_of refuse keeps))
+    ∙ sym (date_time_answer-view fault_of refuse behavior text)
+    ∙ ap (refusal_map fault_of) refused

@@ -5,7 +5,6 @@ mod DateLemmas
 pub mod DateOrderLemmas
 pub mod DateTimeInstantLemmas
 mod DateTimeLemmas
-mod DateTimePlaceLemmas
 pub mod DateTimeTimestampLemmas
 pub mod DateTimestampLemmas
 mod DayNumberLemmas

@@ -1,5 +1,5 @@
 -- Dates: from their numbers, from texts, and from timestamps.
-use Rattle.std.specs.Prelude.{ℕ, pos, List, [], ◌∷◌, nat_le, ℤ, Result, Ok, ◌++◌, length, ◌==◌, slice_index, Bool, true, ◌&&◌, ◌+ℤ◌, unsigned_abs, option_map, ◌≡◌}
+use Rattle.std.specs.Prelude.{ℕ, pos, List, [], ◌∷◌, nat_le, ℤ, Option, Result, Ok, ◌++◌, length, ◌==◌, slice_index, Bool, true, ◌&&◌, ◌+ℤ◌, unsigned_abs, option_map, ◌≡◌}
 use Rattle.std.specs.Int.{is_in_range, int_div_euclid, int_rem_euclid}
 use Rattle.speedate_civil.specs.Base.{ParseError, TimestampUnit}
 use Rattle.speedate_base.specs.Ascii.{hyphen}
@@ -9,8 +9,8 @@ use Rattle.speedate_base.specs.Numbers.{whole_number}
 use Rattle.speedate_base.specs.Timestamp.{seconds_per_day, Instant, instant_answer, range_answer}
 use Rattle.speedate_base.specs.Requirement.{NumberRow, TextRow, ◌else_fault◌, ◌at_byte◌}
 use Rattle.speedate_base.specs.Requirement.{fault_alone, first_fault_or, first_refusal_or}
-use Rattle.speedate_base.specs.Requirement.{with_no_more_or, ◌implies◌, or_number, result_map}
-use Rattle.speedate_base.specs.Requirement.{with_size, ◌>>=◌}
+use Rattle.speedate_base.specs.Requirement.{with_no_more_or, ◌implies◌, or_number, refused_at}
+use Rattle.speedate_base.specs.Requirement.{result_map, with_size, ◌>>=◌}
 pub use Rattle.speedate_civil.specs.declared.date.Date.{Date}
 use Rattle.speedate_civil.specs.Calendar.{Ymd, month_length, epoch_day, date_of_number}
 
@@ -125,7 +125,18 @@ date_timestamp_answer unit exact timestamp = do
   within ← range_answer instant
   instant_date exact within
 
--- the date that a text is, as its text or as an exact timestamp, or the text's fault
+-- the answer to a text that is a number, which is an exact timestamp as a whole
+abbrev pub date_number_answer_or : {E : Type 0} → (ParseError → ℕ → E) → TimestampUnit
+    → Option ℤ → Option (Result Ymd E)
+date_number_answer_or refuse unit number =
+    option_map (λ timestamp. refused_at refuse 0 (date_timestamp_answer unit true timestamp)) number
+
+-- the date that a text is, as its text or as an exact timestamp, or the text's refusal
+abbrev pub date_or_timestamp_or : {E : Type 0} → (ParseError → ℕ → E) → TimestampUnit → List ℕ
+    → Result Ymd E
+date_or_timestamp_or refuse unit text =
+    or_number (date_number_answer_or refuse unit (whole_number text)) (date_answer_or refuse text)
+
+-- the same, with the text's fault
 abbrev pub date_or_timestamp : TimestampUnit → List ℕ → Result Ymd ParseError
-date_or_timestamp unit text =
-    or_number (option_map (date_timestamp_answer unit true) (whole_number text)) (date_answer text)
+date_or_timestamp unit text = date_or_timestamp_or fault_alone unit text

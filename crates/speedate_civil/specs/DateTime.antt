@@ -1,5 +1,5 @@
 -- Date-times: from texts, from timestamps, at other offsets, and the order by instant.
-use Rattle.std.specs.Prelude.{◌/◌, ℤ, pos, ◌+ℤ◌, ◌-ℤ◌, ◌*ℤ◌, ℕ, ◌+◌, Bool, ◌||◌, ◌==◌, List, [], ◌∷◌, ◌++◌, drop, slice_index, Result, Ok, ◌≡◌, Option, Some, None, int_le, Err, if◌then◌else◌}
+use Rattle.std.specs.Prelude.{◌/◌, ℤ, pos, ◌+ℤ◌, ◌-ℤ◌, ◌*ℤ◌, ℕ, ◌+◌, ◌-◌, Bool, ◌||◌, ◌==◌, List, [], ◌∷◌, ◌++◌, drop, length, slice_index, Result, Ok, ◌≡◌, Option, Some, None, option_map, int_le, Err, if◌then◌else◌}
 use Rattle.speedate_civil.specs.Base.{DateTimeConfig, Behavior, ParseError, TimestampUnit}
 use Rattle.std.specs.Option.{unwrap_or}
 use Rattle.std.specs.declared.cmp.Ordering.{Ordering}
@@ -7,13 +7,13 @@ use Rattle.speedate_base.specs.Ascii.{space, capital_t, low_line, small_t}
 use Rattle.speedate_base.specs.Numbers.{DecimalParts, Number, Whole, Fractional, NoNumber}
 use Rattle.speedate_base.specs.Numbers.{number_answer}
 use Rattle.speedate_base.specs.Offset.{offset_table}
-use Rattle.speedate_base.specs.Timestamp.{decimal_row, decimal_instant, digits_table, Instant}
-use Rattle.speedate_base.specs.Timestamp.{timestamp_microsecond, instant_answer, range_answer}
-use Rattle.speedate_base.specs.Timestamp.{last_second, later_answer}
-use Rattle.speedate_base.specs.Requirement.{TextRow, ◌else_fault◌, ◌at_byte◌, fault_alone}
-use Rattle.speedate_base.specs.Requirement.{first_fault_or, first_refusal_or, shifted}
-use Rattle.speedate_base.specs.Requirement.{with_no_more_or, result_map, or_number, with_size}
-use Rattle.speedate_base.specs.Requirement.{◌>>=◌}
+use Rattle.speedate_base.specs.Timestamp.{UnitRow, decimal_row, decimal_instant, digits_row}
+use Rattle.speedate_base.specs.Timestamp.{Instant, timestamp_microsecond, instant_answer}
+use Rattle.speedate_base.specs.Timestamp.{range_answer, range_table, last_second, later_answer}
+use Rattle.speedate_base.specs.Requirement.{TextRow, ◌else_fault◌, ◌at_byte◌, all_at_byte}
+use Rattle.speedate_base.specs.Requirement.{fault_alone, first_fault_or, first_refusal_or, shifted}
+use Rattle.speedate_base.specs.Requirement.{with_no_more_or, result_map, or_number, refused_at}
+use Rattle.speedate_base.specs.Requirement.{with_size, ◌>>=◌}
 pub use Rattle.speedate_civil.specs.declared.datetime.DateTime.{DateTime}
 use Rattle.speedate_civil.specs.declared.datetime.now.Moment.{Moment}
 use Rattle.speedate_civil.specs.Instant.{by_instant, move_table}
@@ -160,13 +160,6 @@ abbrev pub date_time_decimal_answer : TimestampUnit → Option ℤ → DecimalPa
 date_time_decimal_answer unit offset decimal =
     instant_date_time offset (decimal_instant (decimal_row unit decimal) decimal)
 
--- the date-time of a decimal timestamp in a text, whose digits may be counted first, or the fault
-abbrev pub date_time_decimal_text : TimestampUnit → Behavior → Option ℤ → DecimalParts
-    → Result DateAndTime ParseError
-date_time_decimal_text unit behavior offset decimal =
-    first_fault_or (digits_table behavior (decimal_row unit decimal) decimal)
-    (date_time_decimal_answer unit offset decimal)
-
 -- the instant of a timestamp, in the years 0000 to 9999, or the fault
 abbrev pub whole_instant : TimestampUnit → ℤ → Result Instant ParseError
 whole_instant unit timestamp = do
@@ -174,43 +167,54 @@ whole_instant unit timestamp = do
   later ← later_answer 0 instant
   range_answer later
 
--- the instant of a decimal timestamp in a text, whose digits may be counted first, or the fault
-abbrev pub decimal_text_instant : TimestampUnit → Behavior → DecimalParts
-    → Result Instant ParseError
-decimal_text_instant unit behavior decimal =
-    let row = decimal_row unit decimal in
-    first_fault_or (digits_table behavior row decimal) (range_answer (decimal_instant row decimal))
+-- what a text that is a decimal has to meet to be a timestamp: digits past the microsecond have a
+-- place of their own
+abbrev pub decimal_table : UnitRow → Behavior → List ℕ → DecimalParts → List TextRow
+decimal_table row behavior text decimal =
+    (digits_row behavior row decimal at_byte (length text - length decimal.fraction + row.digits))
+    ∷ all_at_byte 0 (range_table (decimal_instant row decimal))
 
--- the instant of a number in a text, if there is one
-abbrev pub number_instant : TimestampUnit → Behavior → Number → Option (Result Instant ParseError)
-number_instant unit behavior (Whole timestamp) = Some (whole_instant unit timestamp)
-number_instant unit behavior (Fractional decimal) =
-    Some (decimal_text_instant unit behavior decimal)
-number_instant unit behavior NoNumber = None
+-- the instant of a decimal timestamp, which is all of a text, or the text's refusal
+abbrev pub decimal_instant_or : {E : Type 0} → (ParseError → ℕ → E) → UnitRow → Behavior → List ℕ
+    → DecimalParts → Result Instant E
+decimal_instant_or refuse row behavior text decimal =
+    first_refusal_or refuse (decimal_table row behavior text decimal)
+    (Ok (decimal_instant row decimal))
 
--- the answer to a number in a text, if there is one
-abbrev pub date_time_number_answer : TimestampUnit → Behavior → Option ℤ → Number
-    → Option (Result DateAndTime ParseError)
-date_time_number_answer unit behavior offset (Whole timestamp) =
-    Some (date_time_timestamp_answer unit offset 0 timestamp)
-date_time_number_answer unit behavior offset (Fractional decimal) =
-    Some (date_time_decimal_text unit behavior offset decimal)
-date_time_number_answer unit behavior offset NoNumber = None
+-- the instant of a number, which is all of a text, if there is one, or the text's refusal
+abbrev pub number_instant_or : {E : Type 0} → (ParseError → ℕ → E) → TimestampUnit → Behavior
+    → List ℕ → Number → Option (Result Instant E)
+number_instant_or refuse unit behavior text (Whole timestamp) =
+    Some (refused_at refuse 0 (whole_instant unit timestamp))
+number_instant_or refuse unit behavior text (Fractional decimal) =
+    Some (decimal_instant_or refuse (decimal_row unit decimal) behavior text decimal)
+number_instant_or refuse unit behavior text NoNumber = None
 
--- the date-time that a text is, as its text or as a timestamp, or the text's fault
+-- the date-time that a text is, as its text or as that of the instant of a timestamp, or the text's
+-- refusal
+abbrev pub date_time_or_timestamp_or : {E : Type 0} → (ParseError → ℕ → E) → TimestampUnit
+    → Behavior → Option ℤ → List ℕ → Result DateAndTime E
+date_time_or_timestamp_or refuse unit behavior offset text =
+    or_number (option_map (result_map (date_time_at offset))
+    (number_instant_or refuse unit behavior text (number_answer text)))
+    (date_time_answer_or refuse behavior text)
+
+-- the same, with the text's fault
 abbrev pub date_time_or_timestamp : TimestampUnit → Behavior → Option ℤ → List ℕ
     → Result DateAndTime ParseError
 date_time_or_timestamp unit behavior offset text =
-    or_number (date_time_number_answer unit behavior offset (number_answer text))
-    (date_time_answer behavior text)
+    date_time_or_timestamp_or fault_alone unit behavior offset text
 
--- the date-time that a text is, as its text or as a timestamp, by a configuration, or the text's
--- fault
-abbrev pub date_time_by_config : DateTimeConfig → List ℕ → Result DateAndTime ParseError
-date_time_by_config config text =
+-- the same, by a configuration
+abbrev pub date_time_by_config_or : {E : Type 0} → (ParseError → ℕ → E) → DateTimeConfig → List ℕ
+    → Result DateAndTime E
+date_time_by_config_or refuse config text =
     let time = config.time_config in
-    date_time_or_timestamp config.timestamp_unit time.microseconds_precision_overflow_behavior
-    time.unix_timestamp_offset text
+    date_time_or_timestamp_or refuse config.timestamp_unit
+    time.microseconds_precision_overflow_behavior time.unix_timestamp_offset text
+
+abbrev pub date_time_by_config : DateTimeConfig → List ℕ → Result DateAndTime ParseError
+date_time_by_config config text = date_time_by_config_or fault_alone config text
 
 -- the moment of a second and a microsecond, as an instant, or the fault
 abbrev pub new_moment_answer : ℕ → ℕ → Result Instant ParseError

@@ -6,4 +6,3 @@ pub mod DateTime
 pub mod Time
 pub mod ParserParts
 pub mod Strict
-pub mod ErrorPlace

@@ -12,7 +12,8 @@ mod usual;
 use crate::date::Date;
 use crate::time::Time;
 pub use now::Moment;
-pub use parse::{require_standard_date_time, timestamp_instant};
+pub use parse::require_standard_date_time;
+pub use timestamp::timestamp_instant;
 pub use usual::quick_front;
 
 /// A date and a time of day, with an offset from UTC or without one.

@@ -41,7 +41,7 @@ impl UnsignedDuration {
     {
         let end = hours_end::<E>(bytes, hours.length, start)?;
         if hours.value > HOURS_MAX {
-            return Err(E::at(ParseError::DurationHourValueTooLarge, start));
+            return Err(E::refuse_at(ParseError::DurationHourValueTooLarge, start));
         }
         Self::after_hours(
             &bytes[end + 1..],
@@ -66,14 +66,14 @@ impl UnsignedDuration {
         ensures placed { IfErr result (E.lies_within (start + length rest.now)) }
     {
         if !takes_digits(behavior, rest.len(), REST_LENGTH_MAX) {
-            return Err(E::at(ParseError::SecondFractionTooLong, start + REST_LENGTH_MAX));
+            return Err(E::refuse_at(ParseError::SecondFractionTooLong, start + REST_LENGTH_MAX));
         }
         if rest.len() < 2 {
-            return Err(E::at(ParseError::TooShort, start + rest.len()));
+            return Err(E::refuse_at(ParseError::TooShort, start + rest.len()));
         }
         let clock = PureTime::minute_front_at::<E>(rest, start, behavior)?;
         if clock.size != rest.len() {
-            return Err(E::at(ParseError::ExtraCharacters, start + clock.size));
+            return Err(E::refuse_at(ParseError::ExtraCharacters, start + clock.size));
         }
         Ok(UnsignedDuration {
             day: hours / 24,
@@ -95,7 +95,7 @@ fn hours_end<E: Refusal>(bytes: &[u8], end: usize, start: usize) -> Result<usize
     ensures placed { IfErr result (E.lies_within (start + length bytes.now)) }
 {
     if bytes.len() < 5 {
-        return Err(E::at(ParseError::TooShort, start + bytes.len()));
+        return Err(E::refuse_at(ParseError::TooShort, start + bytes.len()));
     }
     if !has_hours(bytes, end) {
         return Err(hours_refusal(bytes, end, start));
@@ -126,10 +126,10 @@ fn hours_refusal<E: Refusal>(bytes: &[u8], end: usize, start: usize) -> E
     ensures placed { E.lies_within (start + length bytes.now) result }
 {
     match first_colon(bytes) {
-        None => E::at(ParseError::InvalidCharHour, start + end),
+        None => E::refuse_at(ParseError::InvalidCharHour, start + end),
         Some(place) if place > HOURS_LENGTH_MAX => {
-            E::at(ParseError::DurationHourValueTooLarge, start)
+            E::refuse_at(ParseError::DurationHourValueTooLarge, start)
         }
-        Some(_) => E::at(ParseError::InvalidCharHour, start),
+        Some(_) => E::refuse_at(ParseError::InvalidCharHour, start),
     }
 }

@@ -56,7 +56,7 @@ impl UnsignedDuration {
         }
         let clock = Self::from_clock::<E>(rest, digit_run(rest), start, behavior)?;
         if clock.day != 0 {
-            return Err(E::at(ParseError::DurationHourValueTooLarge, start));
+            return Err(E::refuse_at(ParseError::DurationHourValueTooLarge, start));
         }
         Ok(UnsignedDuration { day: days, ..clock })
     }
@@ -74,18 +74,18 @@ fn days_at_front<E: Refusal>(bytes: &[u8], days: DigitRun, start: usize) -> Resu
     ensures placed { IfErr result (E.lies_within (start + length bytes.now)) }
 {
     if days.length == 0 {
-        return Err(E::at(ParseError::DurationInvalidNumber, start));
+        return Err(E::refuse_at(ParseError::DurationInvalidNumber, start));
     }
     if days.value > u64::from(u32::MAX) {
-        return Err(E::at(ParseError::DurationValueTooLarge, start));
+        return Err(E::refuse_at(ParseError::DurationValueTooLarge, start));
     }
     let letter = days.length + usize::from(bytes[days.length..].starts_with(b" "));
     if !is_day_letter(byte_at(bytes, letter)) {
-        return Err(E::at(ParseError::DurationInvalidDays, start + letter));
+        return Err(E::refuse_at(ParseError::DurationInvalidDays, start + letter));
     }
     let ending = letter + 1;
     let Some(size) = ending_size(&bytes[ending..]) else {
-        return Err(E::at(ParseError::DurationInvalidDays, start + ending));
+        return Err(E::refuse_at(ParseError::DurationInvalidDays, start + ending));
     };
     let gap = ending + size;
     Ok((days.value as u32, gap + gap_size(&bytes[gap..])))

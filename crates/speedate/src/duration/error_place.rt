@@ -6,9 +6,8 @@ ghost use Rattle.speedate_base.specs.Refused.{placed, refused_place, without_pla
 ghost use Rattle.speedate_base.specs.Requirement.{first_place, result_map, shifted};
 ghost use Rattle.speedate.specs.Duration.{duration_answer, duration_answer_or, duration_numbers};
 ghost use Rattle.speedate.specs.Duration.{signed_form_or};
-ghost use Rattle.speedate.specs.DurationNumbers.{normal_table};
-ghost use Rattle.speedate.specs.DurationPlace.{amount_numbers, amount_place, at_bytes};
-ghost use Rattle.speedate.specs.DurationPlace.{normal_places};
+ghost use Rattle.speedate.specs.DurationNumbers.{normal_rows};
+ghost use Rattle.speedate.specs.DurationPlace.{amount_numbers, amount_place};
 ghost use Rattle.speedate.specs.IsoParts.{IsIsoRead, bound_test};
 
 use super::iso::{Bound, first_item};
@@ -28,10 +27,6 @@ impl Duration {
     pub fn error_place(bytes: &[u8], config: &TimeConfig) -> Option<usize>
         ensures place { result ≡ refused_place (duration_answer_or placed
             (time_choices config.now).order (time_choices config.now).behavior bytes.now) }
-        ensures fault { without_place (duration_answer_or placed
-            (time_choices config.now).order (time_choices config.now).behavior bytes.now)
-            ≡ duration_answer (time_choices config.now).order (time_choices config.now).behavior
-            bytes.now }
         ensures refused { is_some result ≡ is_err (duration_answer
             (time_choices config.now).order (time_choices config.now).behavior bytes.now) }
         ensures within { IfSome result (λ place. place ≤ length bytes.now) }
@@ -92,7 +87,7 @@ impl Duration {
         requires read { IsIsoRead order text.now }
         requires room { start + length text.now ≤ usize.MAX }
         ensures answer { result_map duration_numbers result ≡ signed_form_or (shifted start placed)
-            (normal_places (amount_place order text.now)) positive amount }
+            (amount_place order text.now) positive amount }
         ensures within { IfErr result (λ refused. refused.place ≤ start + length text.now) }
     {
         match Self::with_sign(positive, amount) {
@@ -130,8 +125,8 @@ fn duration_error_place(bytes: &[u8], order: IsoOrder, behavior: Behavior) -> Op
 /// The place of the error for which an amount has no normal form, in its text after the sign.
 fn normal_error_place(text: &[u8], order: IsoOrder, amount: UnsignedDuration) -> Option<usize>
     requires { IsIsoRead order text.now }
-    ensures place { result ≡ first_place (at_bytes (normal_places (amount_place order text.now))
-        (normal_table (amount_numbers amount))) }
+    ensures place { result
+        ≡ first_place (normal_rows (amount_place order text.now) (amount_numbers amount)) }
     ensures within { IfSome result (λ place. place ≤ length text.now) }
 {
     if !Bound::Seconds.holds(amount) {

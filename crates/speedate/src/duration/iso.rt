@@ -341,7 +341,7 @@ impl Sums {
             rest = &rest[size..];
         }
         if !sums.has_component {
-            return Err(E::at(ParseError::TooShort, end));
+            return Err(E::refuse_at(ParseError::TooShort, end));
         }
         Ok(sums.sum())
     }
@@ -362,7 +362,7 @@ impl Sums {
             return self.with_component(text, start);
         }
         if self.is_time {
-            return Err(E::at(ParseError::DurationTRepeated, start));
+            return Err(E::refuse_at(ParseError::DurationTRepeated, start));
         }
         Ok((self.begin_time(), 1))
     }
@@ -382,13 +382,13 @@ impl Sums {
     {
         let number = digit_run(text);
         if number.length == 0 {
-            return Err(E::at(ParseError::DurationInvalidNumber, start));
+            return Err(E::refuse_at(ParseError::DurationInvalidNumber, start));
         }
         if number.value > u64::from(u32::MAX) {
-            return Err(E::at(ParseError::DurationValueTooLarge, start));
+            return Err(E::refuse_at(ParseError::DurationValueTooLarge, start));
         }
         if self.has_fraction {
-            return Err(E::at(ParseError::DurationInvalidFraction, start));
+            return Err(E::refuse_at(ParseError::DurationInvalidFraction, start));
         }
         let rest = &text[number.length..];
         let (microseconds, size) = fraction_at_front(rest);
@@ -399,14 +399,14 @@ impl Sums {
         };
         let place = number.length + size;
         let Some(unit) = DurationUnit::from_designator(byte_at(rest, size), self.is_time) else {
-            return Err(E::at(unit_fault, start + place));
+            return Err(E::refuse_at(unit_fault, start + place));
         };
         if !self.takes(&unit) {
-            return Err(E::at(ParseError::DurationUnitOrder, start + place));
+            return Err(E::refuse_at(ParseError::DurationUnitOrder, start + place));
         }
         let number = number.value as u32;
         let Some(sums) = self.with_number(number, &unit, &rest[..size], microseconds) else {
-            return Err(E::at(ParseError::DurationValueTooLarge, start));
+            return Err(E::refuse_at(ParseError::DurationValueTooLarge, start));
         };
         Ok((sums, place + 1))
     }

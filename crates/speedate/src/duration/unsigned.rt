@@ -58,7 +58,7 @@ impl UnsignedDuration {
         ensures placed { IfErr result (E.lies_within (start + length bytes.now)) }
     {
         if bytes.is_empty() {
-            return Err(E::at(ParseError::TooShort, start));
+            return Err(E::refuse_at(ParseError::TooShort, start));
         }
         let number = digit_run(bytes);
         if byte_at(bytes, number.length) == b':' {

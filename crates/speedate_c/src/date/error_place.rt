@@ -2,8 +2,7 @@
 
 ghost use Rattle.std.specs.Prelude.{◌≡◌};
 ghost use Rattle.speedate.specs.Date.{date_answer, date_answer_or, date_front, date_front_or};
-ghost use Rattle.speedate.specs.Date.{date_or_timestamp};
-ghost use Rattle.speedate.specs.ErrorPlace.{date_or_timestamp_place};
+ghost use Rattle.speedate.specs.Date.{date_or_timestamp, date_or_timestamp_or};
 ghost use Rattle.speedate.specs.Refused.{placed, refused_place};
 ghost use Rattle.speedate_c.specs.Written.{written_answer, written_front, written_part};
 ghost use Rattle.speedate_c.specs.Written.{written_place, with_option};
@@ -34,7 +33,7 @@ pub extern "C" fn speedate_date_parse_or_part(
         (λ config. written_answer shown_date out.old (date_or_timestamp config.unit text.now)) }
     ensures part { part.new ≡ with_option (choices_of config) part.old
         (λ config. written_part result
-        (date_or_timestamp_place config.unit text.now)
+        (refused_place (date_or_timestamp_or placed config.unit text.now))
         text.now part.old) }
 {
     let config = config_or_return!(config.to_config());
@@ -99,7 +98,7 @@ pub extern "C" fn speedate_date_error_place(
     ensures answer { (result, place.new)
         ≡ with_option (choices_of config) (config_out_of_range, place.old)
         (λ config. written_place (date_or_timestamp config.unit text.now)
-        (date_or_timestamp_place config.unit text.now) place.old) }
+        (refused_place (date_or_timestamp_or placed config.unit text.now)) place.old) }
 {
     let config = config_or_return!(config.to_date_config());
     write_place(Date::error_place(text, &config), place);

@@ -3,7 +3,7 @@
 ghost use Rattle.std.specs.Prelude.{◌≡◌};
 ghost use Rattle.speedate.specs.DateTime.{date_time_answer, date_time_answer_or, date_time_front};
 ghost use Rattle.speedate.specs.DateTime.{date_time_front_or, date_time_or_timestamp};
-ghost use Rattle.speedate.specs.ErrorPlace.{date_time_or_timestamp_place};
+ghost use Rattle.speedate.specs.DateTime.{date_time_or_timestamp_or};
 ghost use Rattle.speedate.specs.Refused.{placed, refused_place};
 ghost use Rattle.speedate.specs.Strict.{strict_date_time_answer, strict_date_time_answer_or};
 ghost use Rattle.speedate_c.specs.Written.{written_answer, written_front, written_part};
@@ -36,7 +36,8 @@ pub extern "C" fn speedate_datetime_parse_or_part(
         (date_time_or_timestamp config.unit config.behavior config.offset text.now)) }
     ensures part { part.new ≡ with_option (choices_of config) part.old
         (λ config. written_part result
-        (date_time_or_timestamp_place config.unit config.behavior config.offset text.now)
+        (refused_place (date_time_or_timestamp_or placed config.unit config.behavior
+        config.offset text.now))
         text.now part.old) }
 {
     let config = config_or_return!(config.to_config());
@@ -139,7 +140,8 @@ pub extern "C" fn speedate_datetime_error_place(
         ≡ with_option (choices_of config) (config_out_of_range, place.old)
         (λ config. written_place
         (date_time_or_timestamp config.unit config.behavior config.offset text.now)
-        (date_time_or_timestamp_place config.unit config.behavior config.offset text.now)
+        (refused_place (date_time_or_timestamp_or placed config.unit config.behavior
+        config.offset text.now))
         place.old) }
 {
     let config = config_or_return!(config.to_config());

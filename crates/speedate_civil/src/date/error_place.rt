@@ -1,15 +1,13 @@
 //! Where a text that is refused as a date has its error.
 
-ghost use Rattle.std.specs.Prelude.{◌≡◌, ◌≤◌, Err, IfErr, IfSome, Some, is_err, is_some, length};
+ghost use Rattle.std.specs.Prelude.{◌≡◌, ◌≤◌, IfErr, IfSome, is_err, is_some, length};
 ghost use Rattle.speedate_base.specs.Requirement.{result_map, with_size};
 ghost use Rattle.speedate_base.specs.Refused.{placed, without_place, refused_place};
 ghost use Rattle.speedate_civil.specs.Date.{date_answer, date_answer_or, date_front, date_front_or};
-ghost use Rattle.speedate_civil.specs.Date.{date_or_timestamp, ymd};
-ghost use Rattle.speedate_civil.specs.ErrorPlace.{date_or_timestamp_place};
+ghost use Rattle.speedate_civil.specs.Date.{date_or_timestamp, date_or_timestamp_or, ymd};
 
 use super::Date;
 use speedate_base::config::DateConfig;
-use speedate_base::numbers::int_parse_bytes;
 use speedate_base::refusal::Refused;
 
 impl Date {
@@ -19,19 +17,13 @@ impl Date {
     /// It is the place in [the row](docs/GRAMMAR.md#date) that names the error; of a timestamp,
     /// which is refused as a whole, it is 0.
     pub fn error_place(bytes: &[u8], config: &DateConfig) -> Option<usize>
-        ensures place { result ≡ date_or_timestamp_place config.now.timestamp_unit bytes.now }
+        ensures place { result ≡ refused_place
+            (date_or_timestamp_or placed config.now.timestamp_unit bytes.now) }
         ensures refused { is_some result
             ≡ is_err (date_or_timestamp config.now.timestamp_unit bytes.now) }
         ensures within { IfSome result (λ place. place ≤ length bytes.now) }
     {
-        let place = Self::error_place_rfc3339(bytes)?;
-        match int_parse_bytes(bytes) {
-            Some(timestamp) => match Self::from_timestamp(timestamp, true, config) {
-                Ok(_) => None,
-                Err(_) => Some(0),
-            },
-            None => Some(place),
-        }
+        Refused::place_of(Self::whole_or_timestamp(bytes, config))
     }
 
     /// The byte at which the error lies for which [`Date::parse_bytes_rfc3339`] refuses a text, and
@@ -40,7 +32,6 @@ impl Date {
     /// It is the place in [the row](docs/GRAMMAR.md#date) that names the error.
     pub fn error_place_rfc3339(bytes: &[u8]) -> Option<usize>
         ensures place { result ≡ refused_place (date_answer_or placed bytes.now) }
-        ensures fault { without_place (date_answer_or placed bytes.now) ≡ date_answer bytes.now }
         ensures refused { is_some result ≡ is_err (date_answer bytes.now) }
         ensures within { IfSome result (λ place. place ≤ length bytes.now) }
     {
@@ -53,7 +44,6 @@ impl Date {
     /// It is the place in [the row](docs/GRAMMAR.md#date) that names the error.
     pub fn error_place_front(bytes: &[u8]) -> Option<usize>
         ensures place { result ≡ refused_place (date_front_or placed bytes.now) }
-        ensures fault { without_place (date_front_or placed bytes.now) ≡ date_front bytes.now }
         ensures refused { is_some result ≡ is_err (date_front bytes.now) }
         ensures within { IfSome result (λ place. place ≤ length bytes.now) }
     {
@@ -70,14 +60,11 @@ impl Date {
     pub fn parse_or_place(bytes: &[u8], config: &DateConfig) -> Result<Self, Refused>
         ensures answer { without_place (result_map ymd result)
             ≡ date_or_timestamp config.now.timestamp_unit bytes.now }
-        ensures place { refused_place result
-            ≡ date_or_timestamp_place config.now.timestamp_unit bytes.now }
+        ensures place { refused_place result ≡ refused_place
+            (date_or_timestamp_or placed config.now.timestamp_unit bytes.now) }
         ensures within { IfErr result (λ refused. refused.place ≤ length bytes.now) }
     {
-        match Self::parse_or_place_rfc3339(bytes) {
-            Ok(date) => Ok(date),
-            Err(refused) => Self::timestamp_or_place(bytes, refused, config),
-        }
+        Self::whole_or_timestamp(bytes, config)
     }
 
     /// Parses a date as [`Date::parse_bytes_rfc3339`] does, and gives the place of the error too, as
@@ -107,29 +94,5 @@ impl Date {
         ensures within { IfErr result (λ refused. refused.place ≤ length bytes.now) }
     {
         Self::front(bytes)
-    }
-
-    /// Parses the timestamp that the bytes are, which are no date, by this refusal, or gives the place.
-    fn timestamp_or_place(
-        bytes: &[u8],
-        refused: Refused,
-        config: &DateConfig,
-    ) -> Result<Self, Refused>
-        requires fault { date_answer bytes.now ≡ Err refused.fault }
-        requires place { refused_place (date_answer_or placed bytes.now) ≡ Some refused.place }
-        requires within { refused.place ≤ length bytes.now }
-        ensures answer { without_place (result_map ymd result)
-            ≡ date_or_timestamp config.now.timestamp_unit bytes.now }
-        ensures place { refused_place result
-            ≡ date_or_timestamp_place config.now.timestamp_unit bytes.now }
-        ensures within { IfErr result (λ refused. refused.place ≤ length bytes.now) }
-    {
-        match int_parse_bytes(bytes) {
-            Some(timestamp) => match Self::from_timestamp(timestamp, true, config) {
-                Ok(date) => Ok(date),
-                Err(fault) => Err(Refused { fault, place: 0 }),
-            },
-            None => Err(refused),
-        }
     }
 }

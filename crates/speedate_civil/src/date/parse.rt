@@ -8,7 +8,7 @@ ghost use Rattle.speedate_base.specs.Numbers.{NoNumber, number_answer};
 ghost use Rattle.speedate_civil.specs.Calendar.{Ymd};
 ghost use Rattle.speedate_civil.specs.Date.{ymd, date_front, date_front_or, date_answer};
 ghost use Rattle.speedate_civil.specs.Date.{date_answer_or, date_or_timestamp, ◌gives◌};
-ghost use Rattle.speedate_civil.specs.Date.{◌gives_front◌};
+ghost use Rattle.speedate_civil.specs.Date.{date_or_timestamp_or, ◌gives_front◌};
 ghost use Rattle.speedate_civil.specs.ParserParts.{may_be_number};
 
 use super::{Date, TEXT_LENGTH, is_day};
@@ -75,10 +75,7 @@ impl Date {
     pub fn parse_bytes_with_config(bytes: &[u8], config: &DateConfig) -> Result<Self, ParseError>
         ensures answer { result gives date_or_timestamp config.now.timestamp_unit bytes.now }
     {
-        match Self::parse_bytes_rfc3339(bytes) {
-            Ok(date) => Ok(date),
-            Err(fault) => Self::parse_timestamp(bytes, fault, config),
-        }
+        Self::whole_or_timestamp(bytes, config)
     }
 
     /// Parses a date from a text, and no timestamp: 29 February 2020 from `"2020-02-29"`.
@@ -154,7 +151,7 @@ impl Date {
     {
         let (date, size) = Self::front::<E>(bytes)?;
         if size != bytes.len() {
-            return Err(E::at(ParseError::ExtraCharacters, size));
+            return Err(E::refuse_at(ParseError::ExtraCharacters, size));
         }
         Ok(date)
     }
@@ -167,14 +164,14 @@ impl Date {
         ensures placed { IfErr result (E.lies_within (length bytes.now)) }
     {
         if bytes.len() < TEXT_LENGTH {
-            return Err(E::at(ParseError::TooShort, bytes.len()));
+            return Err(E::refuse_at(ParseError::TooShort, bytes.len()));
         }
         let place = fit_length(first_eight(bytes), u8x8::from_array(*b"0000-00-"));
         if place < LANES {
             return match place {
-                0..=3 => Err(E::at(ParseError::InvalidCharYear, 0)),
-                4 | 7 => Err(E::at(ParseError::InvalidCharDateSep, place)),
-                _ => Err(E::at(ParseError::InvalidCharMonth, 5)),
+                0..=3 => Err(E::refuse_at(ParseError::InvalidCharYear, 0)),
+                4 | 7 => Err(E::refuse_at(ParseError::InvalidCharDateSep, place)),
+                _ => Err(E::refuse_at(ParseError::InvalidCharMonth, 5)),
             };
         }
         Self::with_month(bytes)
@@ -193,32 +190,50 @@ impl Date {
         let [century, _, year, _, _, month, _, _] = digit_pairs(first_eight(bytes), form, LANES);
         let year = 100 * u16::from(century) + u16::from(year);
         let Some(day) = two_digits(bytes, 8) else {
-            return Err(E::at(ParseError::InvalidCharDay, 8));
+            return Err(E::refuse_at(ParseError::InvalidCharDay, 8));
         };
         if month < 1 || month > 12 {
-            return Err(E::at(ParseError::OutOfRangeMonth, 5));
+            return Err(E::refuse_at(ParseError::OutOfRangeMonth, 5));
         }
         if !is_day(year, month, day) {
-            return Err(E::at(ParseError::OutOfRangeDay, 8));
+            return Err(E::refuse_at(ParseError::OutOfRangeDay, 8));
         }
         Ok((Date { year, month, day }, TEXT_LENGTH))
     }
 
-    /// Parses the timestamp that the bytes are, which are no date, by this error.
-    fn parse_timestamp(
+    /// Parses the date, or the timestamp, that takes all the bytes.
+    #[inline(always)]
+    pub(super) fn whole_or_timestamp<E: Refusal>(
         bytes: &[u8],
-        fault: ParseError,
         config: &DateConfig,
-    ) -> Result<Self, ParseError>
-        requires { date_answer bytes.now ≡ Err fault }
-        ensures answer { result gives date_or_timestamp config.now.timestamp_unit bytes.now }
+    ) -> Result<Self, E>
+        ensures answer { result
+            gives date_or_timestamp_or E.refusal config.now.timestamp_unit bytes.now }
+        ensures placed { IfErr result (E.lies_within (length bytes.now)) }
     {
-        if !may_be_number(fault) {
-            return Err(fault);
+        match Self::whole::<E>(bytes) {
+            Ok(date) => Ok(date),
+            Err(refusal) => Self::parse_timestamp(bytes, refusal, config),
+        }
+    }
+
+    /// Parses the timestamp that the bytes are, which are refused so as a date.
+    fn parse_timestamp<E: Refusal>(bytes: &[u8], refusal: E, config: &DateConfig) -> Result<Self, E>
+        requires refused { date_answer_or E.refusal bytes.now ≡ Err refusal }
+        requires placed { E.lies_within (length bytes.now) refusal }
+        ensures answer { result
+            gives date_or_timestamp_or E.refusal config.now.timestamp_unit bytes.now }
+        ensures placed { IfErr result (E.lies_within (length bytes.now)) }
+    {
+        if !may_be_number(refusal.fault()) {
+            return Err(refusal);
         }
         match int_parse_bytes(bytes) {
-            Some(timestamp) => Self::from_timestamp(timestamp, true, config),
-            None => Err(fault),
+            Some(timestamp) => match Self::from_timestamp(timestamp, true, config) {
+                Ok(date) => Ok(date),
+                Err(fault) => Err(E::refuse_at(fault, 0)),
+            },
+            None => Err(refusal),
         }
     }
 }

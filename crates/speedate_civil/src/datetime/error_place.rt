@@ -1,22 +1,18 @@
 //! Where a text that is refused as a date-time has its error.
 
-ghost use Rattle.std.specs.Prelude.{◌≡◌, ◌≤◌, IfErr, IfSome, Some, is_err, is_some, length};
-ghost use Rattle.speedate_base.specs.Config.{choices, time_choices};
-ghost use Rattle.speedate_base.specs.Numbers.{decimal_value};
-ghost use Rattle.speedate_base.specs.Requirement.{first_place, result_map, with_size};
+ghost use Rattle.std.specs.Prelude.{◌≡◌, ◌≤◌, IfErr, IfSome, is_err, is_some, length};
+ghost use Rattle.speedate_base.specs.Config.{time_choices};
+ghost use Rattle.speedate_base.specs.Requirement.{result_map, with_size};
 ghost use Rattle.speedate_base.specs.Refused.{placed, refused_place, without_place};
-ghost use Rattle.speedate_base.specs.Timestamp.{decimal_row};
-ghost use Rattle.speedate_civil.specs.DateTime.{date_time_answer, date_time_answer_or};
-ghost use Rattle.speedate_civil.specs.DateTime.{date_time_by_config, date_time_front};
-ghost use Rattle.speedate_civil.specs.DateTime.{date_and_time, date_time_front_or};
-ghost use Rattle.speedate_civil.specs.ErrorPlace.{date_time_or_timestamp_place, decimal_table};
+ghost use Rattle.speedate_civil.specs.DateTime.{date_and_time, date_time_answer};
+ghost use Rattle.speedate_civil.specs.DateTime.{date_time_answer_or, date_time_by_config};
+ghost use Rattle.speedate_civil.specs.DateTime.{date_time_by_config_or, date_time_front};
+ghost use Rattle.speedate_civil.specs.DateTime.{date_time_front_or};
 ghost use Rattle.speedate_civil.specs.Strict.{strict_date_time_answer, strict_date_time_answer_or};
 
 use super::DateTime;
 use speedate_base::config::{DateTimeConfig, MicrosecondsPrecisionOverflowBehavior, TimeConfig};
-use speedate_base::numbers::{Decimal, IntFloat, float_parse_bytes, takes_digits};
 use speedate_base::refusal::Refused;
-use speedate_base::util::{decimal_to_seconds_micros, decimal_unit};
 
 impl DateTime {
     /// The byte at which the error lies for which [`DateTime::parse_bytes_with_config`] refuses a text,
@@ -27,12 +23,12 @@ impl DateTime {
     /// but digits past the microsecond have their own.
     #[inline(always)]
     pub fn error_place(bytes: &[u8], config: &DateTimeConfig) -> Option<usize>
-        ensures place { result ≡ date_time_or_timestamp_place (choices config.now).unit
-            (choices config.now).behavior (choices config.now).offset bytes.now }
+        ensures place { result
+            ≡ refused_place (date_time_by_config_or placed config.now bytes.now) }
         ensures refused { is_some result ≡ is_err (date_time_by_config config.now bytes.now) }
         ensures within { IfSome result (λ place. place ≤ length bytes.now) }
     {
-        Self::timestamp_error_place(bytes, config)
+        Refused::place_of(Self::whole_or_timestamp(bytes, config))
     }
 
     /// The byte at which the error lies for which [`DateTime::parse_bytes_rfc3339_with_config`] refuses
@@ -44,9 +40,6 @@ impl DateTime {
         ensures place { result
             ≡ refused_place
             (date_time_answer_or placed (time_choices config.now).behavior bytes.now) }
-        ensures fault { without_place
-            (date_time_answer_or placed (time_choices config.now).behavior bytes.now)
-            ≡ date_time_answer (time_choices config.now).behavior bytes.now }
         ensures refused { is_some result
             ≡ is_err (date_time_answer (time_choices config.now).behavior bytes.now) }
         ensures within { IfSome result (λ place. place ≤ length bytes.now) }
@@ -66,8 +59,6 @@ impl DateTime {
     ) -> Option<usize>
         ensures place { result
             ≡ refused_place (strict_date_time_answer_or placed behavior bytes.now) }
-        ensures fault { without_place (strict_date_time_answer_or placed behavior bytes.now)
-            ≡ strict_date_time_answer behavior bytes.now }
         ensures refused { is_some result
             ≡ is_err (strict_date_time_answer behavior bytes.now) }
         ensures within { IfSome result (λ place. place ≤ length bytes.now) }
@@ -85,9 +76,6 @@ impl DateTime {
         ensures place { result
             ≡ refused_place
             (date_time_front_or placed (time_choices config.now).behavior bytes.now) }
-        ensures fault { without_place
-            (date_time_front_or placed (time_choices config.now).behavior bytes.now)
-            ≡ date_time_front (time_choices config.now).behavior bytes.now }
         ensures refused { is_some result
             ≡ is_err (date_time_front (time_choices config.now).behavior bytes.now) }
         ensures within { IfSome result (λ place. place ≤ length bytes.now) }
@@ -99,8 +87,6 @@ impl DateTime {
     /// Parses a date-time as [`DateTime::parse_bytes_with_config`] does, and gives the place of the error too,
     /// as [`DateTime::error_place`] does: 12:13 on 29 February 2020 from `b"2020-02-29T12:13"`.
     ///
-    /// A text that is no date-time is parsed once more, since most numbers are no errors.
-    ///
     /// # Errors
     ///
     /// Those of [`DateTime::parse_bytes_with_config`], each with its place: `OutOfRangeSecond` and 17 for
@@ -108,18 +94,11 @@ impl DateTime {
     pub fn parse_or_place(bytes: &[u8], config: &DateTimeConfig) -> Result<Self, Refused>
         ensures answer { without_place (result_map date_and_time result)
             ≡ date_time_by_config config.now bytes.now }
-        ensures place { refused_place result ≡ date_time_or_timestamp_place
-            (choices config.now).unit (choices config.now).behavior
-            (choices config.now).offset bytes.now }
+        ensures place { refused_place result
+            ≡ refused_place (date_time_by_config_or placed config.now bytes.now) }
         ensures within { IfErr result (λ refused. refused.place ≤ length bytes.now) }
     {
-        match Self::parse_bytes_with_config(bytes, config) {
-            Ok(value) => Ok(value),
-            Err(fault) => {
-                let place = Self::error_place(bytes, config).unwrap();
-                Err(Refused { fault, place })
-            }
-        }
+        Self::whole_or_timestamp(bytes, config)
     }
 
     /// Parses a date-time as [`DateTime::parse_bytes_rfc3339_with_config`] does, and gives the place of the
@@ -179,45 +158,5 @@ impl DateTime {
         ensures within { IfErr result (λ refused. refused.place ≤ length bytes.now) }
     {
         Self::front(bytes, config.microseconds_precision_overflow_behavior)
-    }
-
-    /// The place of the error for which a text is neither a date-time nor a timestamp.
-    #[inline(always)]
-    fn timestamp_error_place(bytes: &[u8], config: &DateTimeConfig) -> Option<usize>
-        ensures place { result ≡ date_time_or_timestamp_place (choices config.now).unit
-            (choices config.now).behavior (choices config.now).offset bytes.now }
-        ensures within { IfSome result (λ place. place ≤ length bytes.now) }
-    {
-        let place = Self::error_place_rfc3339(bytes, &config.time_config)?;
-        match float_parse_bytes(bytes) {
-            IntFloat::Int(timestamp) => {
-                match Self::from_timestamp_with_config(timestamp, 0, config) {
-                    Ok(_) => None,
-                    Err(_) => Some(0),
-                }
-            }
-            IntFloat::Float(decimal) => decimal_error_place(bytes, decimal, config),
-            IntFloat::Err => Some(place),
-        }
-    }
-}
-
-/// The place of the error for which a text that is a decimal is no timestamp.
-fn decimal_error_place(bytes: &[u8], decimal: Decimal<'_>, config: &DateTimeConfig) -> Option<usize>
-    requires { length decimal.fraction.now ≤ length bytes.now }
-    ensures place { result ≡ first_place (decimal_table
-        (decimal_row (choices config.now).unit (decimal_value decimal.entry))
-        (choices config.now).behavior bytes.now (decimal_value decimal.entry)) }
-    ensures within { IfSome result (λ place. place ≤ length bytes.now) }
-{
-    let unit = decimal_unit(decimal, config.timestamp_unit);
-    let behavior = config.time_config.microseconds_precision_overflow_behavior;
-    let digits = decimal.fraction.len();
-    if !takes_digits(behavior, digits, unit.digits) {
-        return Some(bytes.len() - digits + unit.digits);
-    }
-    match decimal_to_seconds_micros(decimal, unit) {
-        Ok(_) => None,
-        Err(_) => Some(0),
     }
 }

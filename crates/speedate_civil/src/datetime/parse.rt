@@ -8,11 +8,10 @@ ghost use Rattle.speedate_base.specs.Numbers.{NoNumber, number_answer};
 ghost use Rattle.speedate_base.specs.Offset.{IsWholeMinutes};
 ghost use Rattle.speedate_base.specs.Requirement.{first_fault_or, first_place, first_refusal_or};
 ghost use Rattle.speedate_base.specs.Requirement.{result_map, shifted, with_size};
-ghost use Rattle.speedate_base.specs.Timestamp.{IsInYears, unix_instant};
 ghost use Rattle.speedate_civil.specs.Base.{Behavior, TimestampUnit};
 ghost use Rattle.speedate_civil.specs.DateTime.{DateAndTime, date_and_time, date_time_answer};
-ghost use Rattle.speedate_civil.specs.DateTime.{date_time_answer_or, date_time_at};
-ghost use Rattle.speedate_civil.specs.DateTime.{date_time_by_config, date_time_front};
+ghost use Rattle.speedate_civil.specs.DateTime.{date_time_answer_or, date_time_by_config};
+ghost use Rattle.speedate_civil.specs.DateTime.{date_time_by_config_or, date_time_front};
 ghost use Rattle.speedate_civil.specs.DateTime.{date_time_front_or, date_time_or_timestamp};
 ghost use Rattle.speedate_civil.specs.DateTime.{is_separator, separator_table, ◌gives_front◌};
 ghost use Rattle.speedate_civil.specs.DateTime.{◌gives◌};
@@ -21,14 +20,13 @@ ghost use Rattle.speedate_civil.specs.Strict.{strict_date_time_answer, strict_da
 ghost use Rattle.speedate_civil.specs.Time.{time_front_or, time_of_day};
 
 use super::DateTime;
-use super::timestamp::parse_unix_time;
-use crate::date::{Date, may_be_number};
+use super::timestamp::timestamp_instant;
+use crate::date::Date;
 use crate::time::{Time, end_fault};
 use speedate_base::config::{DateTimeConfig, MicrosecondsPrecisionOverflowBehavior, TimeConfig};
 use speedate_base::faults::ParseError;
 use speedate_base::numbers::byte_at;
 use speedate_base::refusal::Refusal;
-use speedate_base::util::UnixTime;
 use std::str::FromStr;
 
 /// The place of the separator, after the ten bytes of a date.
@@ -122,10 +120,7 @@ impl DateTime {
         ensures minutes { IsWholeMinutes (choices config.now).offset
             → IfOk result (λ value. IsWholeMinutes value.time.tz_offset) }
     {
-        match Self::parse_bytes_rfc3339_with_config(bytes, &config.time_config) {
-            Ok(value) => Ok(value),
-            Err(fault) => Self::parse_timestamp(bytes, fault, config),
-        }
+        Self::whole_or_timestamp(bytes, config)
     }
 
     /// Parses a date-time from a text, and no timestamp: 12:13:14 on 29 February 2020 in UTC from
@@ -257,7 +252,7 @@ impl DateTime {
     {
         let (value, size) = Self::front::<E>(bytes, behavior)?;
         if size != bytes.len() {
-            return Err(E::at(end_fault(value.time.tz_offset), size));
+            return Err(E::refuse_at(end_fault(value.time.tz_offset), size));
         }
         Ok(value)
     }
@@ -294,23 +289,43 @@ impl DateTime {
         Ok((DateTime { date, time }, TIME_PLACE + size))
     }
 
-    /// Parses the timestamp that the bytes are, which are no date-time, by this error.
+    /// Parses the date-time, or the timestamp, that takes all the bytes.
+    #[inline(always)]
+    pub(super) fn whole_or_timestamp<E: Refusal>(
+        bytes: &[u8],
+        config: &DateTimeConfig,
+    ) -> Result<Self, E>
+        ensures answer { result gives date_time_by_config_or E.refusal config.now bytes.now }
+        ensures placed { IfErr result (E.lies_within (length bytes.now)) }
+        ensures minutes { IsWholeMinutes (choices config.now).offset
+            → IfOk result (λ value. IsWholeMinutes value.time.tz_offset) }
+    {
+        let behavior = config.time_config.microseconds_precision_overflow_behavior;
+        match Self::parse_whole::<E>(bytes, behavior) {
+            Ok(value) => Ok(value),
+            Err(refusal) => Self::parse_timestamp(bytes, refusal, config),
+        }
+    }
+
+    /// Parses the timestamp that the bytes are, which are refused so as a date-time.
     ///
     /// The instant comes back from a call, and its date and time are calculated here, so that they go
     /// straight to where the caller wants them.
     #[inline(always)]
-    fn parse_timestamp(
+    fn parse_timestamp<E: Refusal>(
         bytes: &[u8],
-        fault: ParseError,
+        refusal: E,
         config: &DateTimeConfig,
-    ) -> Result<Self, ParseError>
-        requires { date_time_answer
-            (choices config.now).behavior bytes.now ≡ Err fault }
-        ensures answer { result gives date_time_by_config config.now bytes.now }
+    ) -> Result<Self, E>
+        requires refused { date_time_answer_or E.refusal (choices config.now).behavior bytes.now
+            ≡ Err refusal }
+        requires placed { E.lies_within (length bytes.now) refusal }
+        ensures answer { result gives date_time_by_config_or E.refusal config.now bytes.now }
+        ensures placed { IfErr result (E.lies_within (length bytes.now)) }
         ensures minutes { IsWholeMinutes (choices config.now).offset
             → IfOk result (λ value. IsWholeMinutes value.time.tz_offset) }
     {
-        let time = timestamp_instant(bytes, fault, config)?;
+        let time = timestamp_instant(bytes, refusal, config)?;
         Ok(Self::from_instant(time, config.time_config.unix_timestamp_offset))
     }
 }
@@ -349,7 +364,7 @@ fn time_after_date<E: Refusal>(
     ensures minutes { IfOk result (λ front. IsWholeMinutes front.0.tz_offset) }
 {
     if !has_separator(bytes) {
-        return Err(E::at(ParseError::InvalidCharDateTimeSep, SEPARATOR_PLACE));
+        return Err(E::refuse_at(ParseError::InvalidCharDateTimeSep, SEPARATOR_PLACE));
     }
     Time::front_at(&bytes[TIME_PLACE..], TIME_PLACE, behavior)
 }
@@ -388,7 +403,7 @@ fn require_strict<E: Refusal>(text: &[u8]) -> Result<(), E>
         → IfErr result (E.lies_within size) }
 {
     if !has_letter_t(text) {
-        return Err(E::at(ParseError::InvalidCharDateTimeSep, SEPARATOR_PLACE));
+        return Err(E::refuse_at(ParseError::InvalidCharDateTimeSep, SEPARATOR_PLACE));
     }
     Time::require_strict(&text[TIME_PLACE..], TIME_PLACE)
 }
@@ -402,32 +417,4 @@ pub(super) fn has_letter_t(text: &[u8]) -> bool
 {
     let byte = byte_at(text, SEPARATOR_PLACE);
     byte == b'T' || byte == b't'
-}
-
-/// The instant of the timestamp that the bytes are, as the clock of its date-time shows it: second 1 for
-/// `b"1"` in seconds, whatever the offset is. The bytes are refused as a date-time by this error, which
-/// is a condition on the caller.
-///
-/// # Errors
-///
-/// This error if they are no number, and otherwise those of
-/// [this table](docs/GRAMMAR.md#timestamps), in the order of its rows.
-#[inline(always)]
-pub fn timestamp_instant(
-    bytes: &[u8],
-    fault: ParseError,
-    config: &DateTimeConfig,
-) -> Result<UnixTime, ParseError>
-    requires { date_time_answer
-        (choices config.now).behavior bytes.now ≡ Err fault }
-    ensures answer { result_map (date_time_at (choices config.now).offset)
-        (result_map unix_instant result) ≡ date_time_by_config config.now bytes.now }
-    ensures within { IfOk result (λ time. IsInYears (unix_instant time)) }
-{
-    if !may_be_number(fault) {
-        return Err(fault);
-    }
-    let behavior = config.time_config.microseconds_precision_overflow_behavior;
-    let time = parse_unix_time(bytes, fault, config.timestamp_unit, behavior)?;
-    Ok(time)
 }

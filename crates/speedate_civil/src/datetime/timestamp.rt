@@ -1,7 +1,7 @@
 //! Date-times from timestamps, as numbers and as texts, and back.
 
 ghost use Rattle.std.specs.Option.{ForSome};
-ghost use Rattle.std.specs.Prelude.{◌≡◌, ◌≤ℤ◌, ◌+ℤ◌, ◌-ℤ◌, ◌*ℤ◌, Ok, IfOk, None, pos, Err};
+ghost use Rattle.std.specs.Prelude.{◌≡◌, ◌≤◌, ◌≤ℤ◌, ◌+ℤ◌, ◌-ℤ◌, ◌*ℤ◌, Ok, IfErr, IfOk, None, length, pos, Err};
 ghost use Rattle.speedate_base.specs.Config.{choices};
 ghost use Rattle.speedate_base.specs.Nearest.{IsNearest};
 ghost use Rattle.speedate_base.specs.Numbers.{decimal_scale, decimal_value, number_answer};
@@ -11,20 +11,23 @@ ghost use Rattle.speedate_base.specs.Timestamp.{IsInYears, decimal_instant, deci
 ghost use Rattle.speedate_base.specs.Timestamp.{decimal_row, first_second, last_second};
 ghost use Rattle.speedate_base.specs.Timestamp.{unix_instant, unix_row};
 ghost use Rattle.speedate_civil.specs.Base.{TimestampUnit};
-ghost use Rattle.speedate_civil.specs.DateTime.{IsShownAt, date_and_time, date_time_at};
-ghost use Rattle.speedate_civil.specs.DateTime.{date_time_decimal_answer};
-ghost use Rattle.speedate_civil.specs.DateTime.{date_time_timestamp_answer, decimal_text_instant};
+ghost use Rattle.speedate_civil.specs.DateTime.{IsShownAt, date_and_time, date_time_answer_or};
+ghost use Rattle.speedate_civil.specs.DateTime.{date_time_at, date_time_by_config_or};
+ghost use Rattle.speedate_civil.specs.DateTime.{date_time_decimal_answer, decimal_instant_or};
+ghost use Rattle.speedate_civil.specs.DateTime.{date_time_timestamp_answer};
 ghost use Rattle.speedate_civil.specs.DateTime.{instant_date_time, local_microsecond};
 ghost use Rattle.speedate_civil.specs.DateTime.{local_millisecond, local_second, meant_microsecond};
-ghost use Rattle.speedate_civil.specs.DateTime.{number_instant, utc_microsecond, utc_millisecond};
-ghost use Rattle.speedate_civil.specs.DateTime.{utc_second, whole_instant, ◌gives◌};
+ghost use Rattle.speedate_civil.specs.DateTime.{number_instant_or, utc_microsecond};
+ghost use Rattle.speedate_civil.specs.DateTime.{utc_millisecond, utc_second, whole_instant};
+ghost use Rattle.speedate_civil.specs.DateTime.{◌gives◌};
 
 use super::DateTime;
-use crate::date::Date;
+use crate::date::{Date, may_be_number};
 use crate::time::Time;
 use speedate_base::config::{DateTimeConfig, MicrosecondsPrecisionOverflowBehavior, TimestampUnit};
 use speedate_base::faults::ParseError;
 use speedate_base::numbers::{Decimal, IntFloat, float_parse_bytes, takes_digits};
+use speedate_base::refusal::Refusal;
 use speedate_base::util::{
     UnixTime, UnixUnit, decimal_to_seconds_micros, decimal_unit, timestamp_to_seconds_micros,
 };
@@ -203,21 +206,58 @@ impl DateTime {
     }
 }
 
-/// Parses the instant of the timestamp that the bytes are. Fails with this error if they are no number.
-pub(super) fn parse_unix_time(
+/// The instant of the timestamp that the bytes are, as the clock of its date-time shows it: second 1 for
+/// `b"1"` in seconds, whatever the offset is. The bytes are refused so as a date-time, which is a
+/// condition on the caller.
+///
+/// # Errors
+///
+/// This refusal if they are no number, and otherwise those of
+/// [this table](docs/GRAMMAR.md#timestamps), in the order of its rows.
+#[inline(always)]
+pub fn timestamp_instant<E: Refusal>(
     bytes: &[u8],
-    fault: ParseError,
+    refusal: E,
+    config: &DateTimeConfig,
+) -> Result<UnixTime, E>
+    requires refused { date_time_answer_or E.refusal (choices config.now).behavior bytes.now
+        ≡ Err refusal }
+    requires placed { E.lies_within (length bytes.now) refusal }
+    ensures answer { result_map (date_time_at (choices config.now).offset)
+        (result_map unix_instant result)
+        ≡ date_time_by_config_or E.refusal config.now bytes.now }
+    ensures within { IfOk result (λ time. IsInYears (unix_instant time)) }
+    ensures placed { IfErr result (E.lies_within (length bytes.now)) }
+{
+    if !may_be_number(refusal.fault()) {
+        return Err(refusal);
+    }
+    let behavior = config.time_config.microseconds_precision_overflow_behavior;
+    let time = parse_unix_time(bytes, refusal, config.timestamp_unit, behavior)?;
+    Ok(time)
+}
+
+/// Parses the instant of the timestamp that the bytes are. Fails with this refusal if they are no number.
+fn parse_unix_time<E: Refusal>(
+    bytes: &[u8],
+    refusal: E,
     unit: TimestampUnit,
     behavior: MicrosecondsPrecisionOverflowBehavior,
-) -> Result<UnixTime, ParseError>
+) -> Result<UnixTime, E>
+    requires placed { E.lies_within (length bytes.now) refusal }
     ensures answer { result_map unix_instant result
-        ≡ or_number (number_instant unit behavior (number_answer bytes.now)) (Err fault) }
+        ≡ or_number (number_instant_or E.refusal unit behavior bytes.now (number_answer bytes.now))
+        (Err refusal) }
     ensures within { IfOk result (λ time. IsInYears (unix_instant time)) }
+    ensures placed { IfErr result (E.lies_within (length bytes.now)) }
 {
     match float_parse_bytes(bytes) {
-        IntFloat::Int(timestamp) => whole_unix_time(timestamp, unit),
-        IntFloat::Float(decimal) => decimal_unix_time(decimal, unit, behavior),
-        IntFloat::Err => Err(fault),
+        IntFloat::Int(timestamp) => match whole_unix_time(timestamp, unit) {
+            Ok(time) => Ok(time),
+            Err(fault) => Err(E::refuse_at(fault, 0)),
+        },
+        IntFloat::Float(decimal) => decimal_unix_time(bytes, decimal, unit, behavior),
+        IntFloat::Err => Err(refusal),
     }
 }
 
@@ -231,20 +271,28 @@ fn whole_unix_time(timestamp: i64, unit: TimestampUnit) -> Result<UnixTime, Pars
     time.checked_add_microseconds(0)?.in_years()
 }
 
-/// The instant of a decimal timestamp in a text, whose digits are counted if those past the microsecond
-/// are refused.
-fn decimal_unix_time(
+/// The instant of the decimal timestamp that the bytes are, whose digits are counted if those past the
+/// microsecond are refused.
+fn decimal_unix_time<E: Refusal>(
+    bytes: &[u8],
     decimal: Decimal<'_>,
     unit: TimestampUnit,
     behavior: MicrosecondsPrecisionOverflowBehavior,
-) -> Result<UnixTime, ParseError>
+) -> Result<UnixTime, E>
+    requires { length decimal.fraction.now ≤ length bytes.now }
     ensures answer { result_map unix_instant result
-        ≡ decimal_text_instant unit behavior (decimal_value decimal.entry) }
+        ≡ decimal_instant_or E.refusal (decimal_row unit (decimal_value decimal.entry)) behavior
+        bytes.now (decimal_value decimal.entry) }
     ensures within { IfOk result (λ time. IsInYears (unix_instant time)) }
+    ensures placed { IfErr result (E.lies_within (length bytes.now)) }
 {
     let unit = decimal_unit(decimal, unit);
-    if !takes_digits(behavior, decimal.fraction.len(), unit.digits) {
-        return Err(unit.too_long);
+    let digits = decimal.fraction.len();
+    if !takes_digits(behavior, digits, unit.digits) {
+        return Err(E::refuse_at(unit.too_long, bytes.len() - digits + unit.digits));
     }
-    decimal_to_seconds_micros(decimal, unit)
+    match decimal_to_seconds_micros(decimal, unit) {
+        Ok(time) => Ok(time),
+        Err(fault) => Err(E::refuse_at(fault, 0)),
+    }
 }

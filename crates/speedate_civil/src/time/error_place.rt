@@ -20,9 +20,6 @@ impl Time {
     pub fn error_place(bytes: &[u8], config: &TimeConfig) -> Option<usize>
         ensures place { result
             ≡ refused_place (time_answer_or placed (time_choices config.now).behavior bytes.now) }
-        ensures fault { without_place
-            (time_answer_or placed (time_choices config.now).behavior bytes.now)
-            ≡ time_answer (time_choices config.now).behavior bytes.now }
         ensures refused { is_some result
             ≡ is_err (time_answer (time_choices config.now).behavior bytes.now) }
         ensures within { IfSome result (λ place. place ≤ length bytes.now) }
@@ -41,8 +38,6 @@ impl Time {
     ) -> Option<usize>
         ensures place { result
             ≡ refused_place (strict_time_answer_or placed behavior bytes.now) }
-        ensures fault { without_place (strict_time_answer_or placed behavior bytes.now)
-            ≡ strict_time_answer behavior bytes.now }
         ensures refused { is_some result
             ≡ is_err (strict_time_answer behavior bytes.now) }
         ensures within { IfSome result (λ place. place ≤ length bytes.now) }
@@ -57,9 +52,6 @@ impl Time {
     pub fn error_place_front(bytes: &[u8], config: &TimeConfig) -> Option<usize>
         ensures place { result
             ≡ refused_place (time_front_or placed (time_choices config.now).behavior bytes.now) }
-        ensures fault { without_place
-            (time_front_or placed (time_choices config.now).behavior bytes.now)
-            ≡ time_front (time_choices config.now).behavior bytes.now }
         ensures refused { is_some result
             ≡ is_err (time_front (time_choices config.now).behavior bytes.now) }
         ensures within { IfSome result (λ place. place ≤ length bytes.now) }

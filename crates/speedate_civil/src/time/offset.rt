@@ -121,11 +121,11 @@ pub(super) fn signed_offset<E: Refusal>(
 {
     let ((hour, minute), size) = hour_and_minute::<E>(eight_bytes(bytes, place), start)?;
     if minute > 59 {
-        return Err(E::at(ParseError::OutOfRangeTzMinute, start + (size - 2)));
+        return Err(E::refuse_at(ParseError::OutOfRangeTzMinute, start + (size - 2)));
     }
     let seconds = 3600 * u32::from(hour) + 60 * u32::from(minute);
     if seconds >= SECONDS_PER_DAY {
-        return Err(E::at(ParseError::OutOfRangeTz, start));
+        return Err(E::refuse_at(ParseError::OutOfRangeTz, start));
     }
     Ok((Some(with_sign(west, seconds)), sign + size))
 }
@@ -144,14 +144,14 @@ fn hour_and_minute<E: Refusal>(front: u8x8, start: usize) -> Result<((u8, u8), u
     let pattern = u8x8::from_array(*b"00:00:00");
     let fits = fit_length(front, pattern);
     if fits < 2 {
-        return Err(E::at(ParseError::InvalidCharTzHour, start));
+        return Err(E::refuse_at(ParseError::InvalidCharTzHour, start));
     }
     if fits >= 5 {
         let [hour, _, _, minute, _, _, _, _] = digit_pairs(front, pattern, 5);
         return Ok(((hour, minute), 5));
     }
     if fits > 2 {
-        return Err(E::at(ParseError::InvalidCharTzMinute, start + 3));
+        return Err(E::refuse_at(ParseError::InvalidCharTzMinute, start + 3));
     }
     hour_then_minute(front, start)
 }
@@ -169,7 +169,7 @@ fn hour_then_minute<E: Refusal>(front: u8x8, start: usize) -> Result<((u8, u8), 
 {
     let pattern = u8x8::splat(b'0');
     if fit_length(front, pattern) < 4 {
-        return Err(E::at(ParseError::InvalidCharTzMinute, start + 2));
+        return Err(E::refuse_at(ParseError::InvalidCharTzMinute, start + 2));
     }
     let [hour, _, minute, _, _, _, _, _] = digit_pairs(front, pattern, 4);
     Ok(((hour, minute), 4))

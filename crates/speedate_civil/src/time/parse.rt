@@ -157,7 +157,7 @@ impl Time {
     {
         let (time, size) = Self::front::<E>(bytes, behavior)?;
         if size != bytes.len() {
-            return Err(E::at(end_fault(time.tz_offset), size));
+            return Err(E::refuse_at(end_fault(time.tz_offset), size));
         }
         Ok(time)
     }
@@ -258,10 +258,10 @@ impl Time {
             → IfErr result (E.lies_within size) }
     {
         if byte_at(text, 5) != b':' {
-            return Err(E::at(ParseError::InvalidCharTimeSep, start + 5));
+            return Err(E::refuse_at(ParseError::InvalidCharTimeSep, start + 5));
         }
         match byte_at(text, 8) {
-            b',' => Err(E::at(ParseError::InvalidCharTzSign, start + 8)),
+            b',' => Err(E::refuse_at(ParseError::InvalidCharTzSign, start + 8)),
             b'.' => Self::require_strict_offset(text, run_end(text, 9), start),
             _ => Self::require_strict_offset(text, 8, start),
         }
@@ -278,15 +278,15 @@ impl Time {
             → IfErr result (E.lies_within size) }
     {
         if place >= text.len() {
-            return Err(E::at(ParseError::TzRequired, start + place));
+            return Err(E::refuse_at(ParseError::TzRequired, start + place));
         }
         if has_minus_sign(text, place) {
-            return Err(E::at(ParseError::InvalidCharTzSign, start + place));
+            return Err(E::refuse_at(ParseError::InvalidCharTzSign, start + place));
         }
         if is_utc(text[place]) || byte_at(text, place + 3) == b':' {
             Ok(())
         } else {
-            Err(E::at(ParseError::InvalidCharTzMinute, start + (place + 3)))
+            Err(E::refuse_at(ParseError::InvalidCharTzMinute, start + (place + 3)))
         }
     }
 }

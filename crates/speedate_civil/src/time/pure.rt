@@ -95,15 +95,15 @@ impl PureTime {
         ensures within { IfOk result (λ time. time.size ≤ length text.now) }
     {
         if text.len() < 5 {
-            return Err(E::at(ParseError::TooShort, start + text.len()));
+            return Err(E::refuse_at(ParseError::TooShort, start + text.len()));
         }
         let front = eight_bytes(text, 0);
         let fits = fit_length(front, u8x8::from_array(*b"00:00:00"));
         if fits < 5 {
             return match fits {
-                0 | 1 => Err(E::at(ParseError::InvalidCharHour, start)),
-                2 => Err(E::at(ParseError::InvalidCharTimeSep, start + 2)),
-                _ => Err(E::at(ParseError::InvalidCharMinute, start + 3)),
+                0 | 1 => Err(E::refuse_at(ParseError::InvalidCharHour, start)),
+                2 => Err(E::refuse_at(ParseError::InvalidCharTimeSep, start + 2)),
+                _ => Err(E::refuse_at(ParseError::InvalidCharMinute, start + 3)),
             };
         }
         Self::with_minute(front, fits, text, start, behavior)
@@ -132,10 +132,10 @@ impl PureTime {
         let pattern = u8x8::from_array(*b"00:00:00");
         let [hour, _, _, minute, _, _, _, _] = digit_pairs(front, pattern, 5);
         if hour > 23 {
-            return Err(E::at(ParseError::OutOfRangeHour, start));
+            return Err(E::refuse_at(ParseError::OutOfRangeHour, start));
         }
         if minute > 59 {
-            return Err(E::at(ParseError::OutOfRangeMinute, start + 3));
+            return Err(E::refuse_at(ParseError::OutOfRangeMinute, start + 3));
         }
         let second = SecondField::in_front(front, fits, 3);
         let after = Self::after_minute::<E>(second, text, 3, start + 3, behavior)?;
@@ -189,11 +189,11 @@ impl PureTime {
         let pattern = u8x8::from_array(*b"00:00:00");
         let fits = fit_length(front, pattern);
         if fits < 2 {
-            return Err(E::at(ParseError::InvalidCharMinute, start));
+            return Err(E::refuse_at(ParseError::InvalidCharMinute, start));
         }
         let [minute, _, _, _, _, _, _, _] = digit_pairs(front, pattern, 2);
         if minute > 59 {
-            return Err(E::at(ParseError::OutOfRangeMinute, start));
+            return Err(E::refuse_at(ParseError::OutOfRangeMinute, start));
         }
         let second = SecondField::in_front(front, fits, 0);
         let after = Self::after_minute::<E>(second, rest, 0, start, behavior)?;
@@ -245,7 +245,10 @@ impl PureTime {
     {
         let second = match second {
             SecondField::Number(second) => second,
-            SecondField::Faulty => return Err(E::at(ParseError::InvalidCharSecond, start + 3)),
+            SecondField::Faulty => return Err(E::refuse_at(
+                ParseError::InvalidCharSecond,
+                start + 3,
+            )),
             SecondField::Absent => {
                 return Ok(AfterMinute {
                     second: 0,
@@ -255,7 +258,7 @@ impl PureTime {
             }
         };
         if second > 59 {
-            return Err(E::at(ParseError::OutOfRangeSecond, start + 3));
+            return Err(E::refuse_at(ParseError::OutOfRangeSecond, start + 3));
         }
         if !Self::has_decimal_mark(&bytes[minute..]) {
             return Ok(AfterMinute {
@@ -266,10 +269,10 @@ impl PureTime {
         }
         let fraction = fraction_after_second(bytes, minute);
         if fraction.length == 0 {
-            return Err(E::at(ParseError::SecondFractionMissing, start + 6));
+            return Err(E::refuse_at(ParseError::SecondFractionMissing, start + 6));
         }
         if !takes_digits(behavior, fraction.length, 6) {
-            return Err(E::at(ParseError::SecondFractionTooLong, start + 12));
+            return Err(E::refuse_at(ParseError::SecondFractionTooLong, start + 12));
         }
         Ok(AfterMinute {
             second,

@@ -6,14 +6,12 @@ use Rattle.speedate.specs.Duration.{duration_answer_or}
 use Rattle.speedate.proofs.DurationPlaceLemmas.{duration_answer-view}
 use Rattle.speedate.proofs.duration.Duration.error_place.Goals as goal
 
-pub returns-clause-fault : goal.returns-clause-fault
-returns-clause-fault c =
-    duration_answer-view (λ (refused : Refused). refused.fault) placed c.args.config.now.iso_order
-    c.args.config.now.microseconds_precision_overflow_behavior c.args.bytes.now
-
 pub returns-clause-refused : goal.returns-clause-refused
 returns-clause-refused c =
+    let order = c.args.config.now.iso_order in
+    let behavior = c.args.config.now.microseconds_precision_overflow_behavior in
+    let text = c.args.bytes.now in
+    let fault : Refused → _ = λ refused. refused.fault in
     ap is_some c.duration_error_place.ensures.place
-    ∙ refused-is_some (duration_answer_or placed c.args.config.now.iso_order
-    c.args.config.now.microseconds_precision_overflow_behavior c.args.bytes.now) _
-    (returns-clause-fault c)
+    ∙ refused-is_some (duration_answer_or placed order behavior text) _
+    (duration_answer-view fault placed order behavior text)

@@ -14,5 +14,5 @@ overflow_add-start g c =
 
 pub returns-in-None-clause-placed : goal.returns-in-None-clause-placed
 returns-in-None-clause-placed g c =
-    c.at.ensures.within _
+    c.refuse_at.ensures.within _
     (omega (arith, prefix_len-le-length is_ascii_digit c.args.bytes.now, c.requires.end))

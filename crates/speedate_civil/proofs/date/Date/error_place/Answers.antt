@@ -1,13 +1,15 @@
-use Rattle.std.proofs.Common.{rules}
-use Rattle.speedate_civil.proofs.ErrorPlaceLemmas.{date_or_timestamp-is_some}
+use Rattle.std.proofs.Common.{◌∙◌, ap, is_some, rules}
+use Rattle.speedate_base.specs.Refused.{placed}
+use Rattle.speedate_base.specs.declared.refusal.Refused.{Refused}
+use Rattle.speedate_base.proofs.RefusalLemmas.{refused-is_some}
+use Rattle.speedate_civil.proofs.ErrorPlaceLemmas.{date_or_timestamp-view}
 use Rattle.speedate_civil.proofs.date.Date.error_place.Goals as goal
 
-pub returns-in-Ok-clause-refused : goal.returns-in-Ok-clause-refused
-returns-in-Ok-clause-refused c =
-    let same = date_or_timestamp-is_some c.args.config.now.timestamp_unit c.args.bytes.now in
-    search rules
+pub returns-clause-place : goal.returns-clause-place
+returns-clause-place c = search rules
 
-pub returns-in-Err-clause-refused : goal.returns-in-Err-clause-refused
-returns-in-Err-clause-refused c =
-    let same = date_or_timestamp-is_some c.args.config.now.timestamp_unit c.args.bytes.now in
-    search rules
+pub returns-clause-refused : goal.returns-clause-refused
+returns-clause-refused c =
+    ap is_some (returns-clause-place c) ∙ refused-is_some _ _
+    (date_or_timestamp-view (λ (refused : Refused). refused.fault) placed
+    c.args.config.now.timestamp_unit c.args.bytes.now)

@@ -5,13 +5,10 @@ use Rattle.speedate_base.proofs.RefusalLemmas.{refused-is_some}
 use Rattle.speedate_civil.proofs.ErrorPlaceLemmas.{date_front-view}
 use Rattle.speedate_civil.proofs.date.Date.error_place_front.Goals as goal
 
-pub returns-clause-fault : goal.returns-clause-fault
-returns-clause-fault c = date_front-view (λ (refused : Refused). refused.fault) placed
-    c.args.bytes.now
-
 pub returns-clause-place : goal.returns-clause-place
 returns-clause-place c = search rules
 
 pub returns-clause-refused : goal.returns-clause-refused
 returns-clause-refused c =
-    ap is_some (returns-clause-place c) ∙ refused-is_some _ _ (returns-clause-fault c)
+    ap is_some (returns-clause-place c) ∙ refused-is_some _ _
+    (date_front-view (λ (refused : Refused). refused.fault) placed c.args.bytes.now)

@@ -1,20 +1,20 @@
-use Rattle.std.proofs.Common.{◌≡◌, ◌∙◌, refl, ap, sym, false, Option, Some, None, is_err, is_some}
-use Rattle.speedate_civil.specs.ErrorPlace.{date_time_or_timestamp_place}
-use Rattle.speedate_civil.proofs.DateTimePlaceLemmas.{date_time_or_timestamp-is_some}
+use Rattle.std.proofs.Common.{◌∙◌, ap}
+use Rattle.speedate_base.specs.Refused.{placed, without_place}
+use Rattle.speedate_base.specs.declared.refusal.Refused.{Refused}
+use Rattle.speedate_base.proofs.RefusalLemmas.{refused_place-map}
+use Rattle.speedate_civil.specs.DateTime.{date_and_time}
+use Rattle.speedate_civil.proofs.ErrorPlaceLemmas.{date_time_or_timestamp-view}
 use Rattle.speedate_civil.proofs.datetime.DateTime.parse_or_place.Goals as goal
 
--- what is not there is `None`
-none_of : {A : Type 0} (found : Option A) → is_some found ≡ false → None ≡ found
-none_of None same = refl
-none_of (Some x) same = absurd (cc)
-
-pub returns-in-Ok-clause-place : goal.returns-in-Ok-clause-place
-returns-in-Ok-clause-place c =
+pub returns-clause-answer : goal.returns-clause-answer
+returns-clause-answer c =
     let config = c.args.config.now in
-    let text = c.args.bytes.now in
     let unit = config.timestamp_unit in
     let behavior = config.time_config.microseconds_precision_overflow_behavior in
     let offset = config.time_config.unix_timestamp_offset in
-    none_of (date_time_or_timestamp_place unit behavior offset text)
-    (date_time_or_timestamp-is_some unit behavior offset text
-    ∙ sym (ap is_err c.in-Ok.ensures.answer))
+    ap without_place c.whole_or_timestamp.ensures.answer
+    ∙ date_time_or_timestamp-view (λ (refused : Refused). refused.fault) placed unit behavior offset
+    c.args.bytes.now
+
+pub returns-clause-place : goal.returns-clause-place
+returns-clause-place c = refused_place-map date_and_time _ _ c.whole_or_timestamp.ensures.answer

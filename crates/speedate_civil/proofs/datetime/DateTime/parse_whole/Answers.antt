@@ -15,7 +15,7 @@ returns-then-size-bytes-clause-answer g c =
     let fault = λ (read : DateAndTime). end_fault read.time.offset in
     let fault_is = ap (λ (fault : ParseError). refuse fault size) c.end_fault.ensures.fault in
     let longer = refusal-longer refuse fault bytes value size in
-    ap Err (c.at.ensures.refusal ∙ fault_is)
+    ap Err (c.refuse_at.ensures.refusal ∙ fault_is)
     ∙ sym (longer (λ same. c.if-size-bytes.true (sym same)))
     ∙ ap (result_and_then (with_no_more_or refuse fault bytes)) c.in_ok-value.ensures.answer
 

@@ -54,10 +54,10 @@ returns-then-not-sums g c =
     grind (arith, nat_tests, c.loop-rest-test.false, c.is_empty.ensures) in
     let no_component : c.loop-rest.sums.has_component ≡ false = search rules in
     record {
-      answer = ap Err c.at.ensures.refusal
+      answer = ap Err c.refuse_at.ensures.refusal
           ∙ iso_from-short refuse (sums_parts c.loop-rest.sums) end rest none no_component
           ∙ c.loop-rest.invariant.0;
-      placed = c.at.ensures.within end (omega arith);
+      placed = c.refuse_at.ensures.within end (omega arith);
     }
 
 pub returns : goal.returns

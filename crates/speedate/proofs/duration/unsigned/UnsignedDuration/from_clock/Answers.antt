@@ -28,7 +28,7 @@ returns-in_err-end g c =
 pub returns-then-hours-gt-HOURS_MAX-clause-answer
     : goal.returns-then-hours-gt-HOURS_MAX-clause-answer
 returns-then-hours-gt-HOURS_MAX-clause-answer g c =
-    ap Err (c.at.ensures.refusal
+    ap Err (c.refuse_at.ensures.refusal
     ∙ ap (g.E.Refusal.refusal ParseError.DurationHourValueTooLarge) (sym (add-zero c.args.start)))
     ∙ clock-many (shifted c.args.start g.E.Refusal.refusal) c.args.behavior c.args.bytes.now
     c.in_ok-end.end c.args.hours.value c.in_ok-end.ensures.answer c.requires.value

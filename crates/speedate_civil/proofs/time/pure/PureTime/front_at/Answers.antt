@@ -11,7 +11,7 @@ returns-in_default-clause-answer g c =
     let loaded = c.eight_bytes-front.ensures.bytes in
     let counted = c.fit_length-fits.ensures.count in
     let none = no-minute refuse c.args.behavior c.args.text.now _ _ long loaded counted in
-    ap Err c.at-in_default.ensures.refusal ∙ sym (none (omega arith) c.if-fits-lt5.true)
+    ap Err c.refuse_at-in_default.ensures.refusal ∙ sym (none (omega arith) c.if-fits-lt5.true)
 
 pub returns-in-2-clause-answer : goal.returns-in-2-clause-answer
 returns-in-2-clause-answer g c = grind (arith, common_steps)

@@ -16,7 +16,7 @@ returns-then-fits-lt2-clause-answer g c =
     let counted = c.fit_length-fits.ensures.count in
     let none = minute-none (shifted start refusal) c.args.behavior c.args.rest.now _ _ loaded in
     let begins = ap (refusal ParseError.InvalidCharMinute) (sym (add-zero start)) in
-    ap Err (c.at.ensures.refusal ∙ begins) ∙ sym (none counted c.if-fits-lt2.true)
+    ap Err (c.refuse_at.ensures.refusal ∙ begins) ∙ sym (none counted c.if-fits-lt2.true)
 
 pub returns-in_err-after-clause-answer : goal.returns-in_err-after-clause-answer
 returns-in_err-after-clause-answer g c =
