@@ -4,10 +4,11 @@ use mathlib.Core.Path.{fun_ext}
 use Rattle.std.specs.Option.{option_map}
 use Rattle.std.specs.Result.{result_and}
 use Rattle.speedate_base.specs.Requirement.{AllHold, ParseError, Requirement, TextRow, fault_alone}
-use Rattle.speedate_base.specs.Requirement.{first_refusal_or, moved, or_number, refusal_map}
+use Rattle.speedate_base.specs.Requirement.{first_place, first_refusal_or, moved, or_number}
+use Rattle.speedate_base.specs.Requirement.{refusal_map}
 use Rattle.speedate_base.specs.Requirement.{refused_at, result_and_then, result_map, shifted}
 use Rattle.speedate_base.specs.Requirement.{with_no_more_or}
-use Rattle.speedate_base.specs.Refused.{Refused, refused_place, without_place}
+use Rattle.speedate_base.specs.Refused.{Refused, placed, refused_place, without_place}
 
 -- a table's refusal in another way is made so of each row
 pub first_refusal_or-view : {Place A E D : Type 0} (view : E → D) (refuse : ParseError → Place → E)
@@ -198,3 +199,23 @@ pub refused_place-map : {A B : Type 0} (view : A → B) (answer : Result A Refus
     → refused_place answer ≡ refused_place seen
 refused_place-map view (Ok value) seen same = ap refused_place same
 refused_place-map view (Err refused) seen same = ap refused_place same
+
+-- the place of a table's refusal is that of its first row that does not hold
+first_place-is : {A : Type 0} (rows : List TextRow) (value : A)
+    → refused_place (first_refusal_or placed rows (Ok value)) ≡ first_place rows
+first_place-is [] value = refl
+first_place-is (row ∷ rows) value = search (rules, first_place-is rows value)
+
+-- so it is where the table of a part follows, which begins at a byte
+pub first_place-tables : {A : Type 0} (first part : List TextRow) (start : ℕ) (value : A)
+    (answer : Result A Refused)
+    → answer ≡ first_refusal_or placed first
+    (first_refusal_or (shifted start placed) part (Ok value))
+    → refused_place answer ≡ first_place (first ++ moved start part)
+first_place-tables first part start value answer same =
+    let later = first_refusal_or-moved placed start part (Ok value) in
+    ap refused_place
+    (same
+    ∙ ap (first_refusal_or placed first) (sym later)
+    ∙ first_refusal_or-append placed first (moved start part) (Ok value))
+    ∙ first_place-is (first ++ moved start part) value

@@ -87,13 +87,22 @@ impl Refusal for Refused {
 }
 
 impl Refused {
-    ghost use Rattle.std.specs.Prelude.{◌≡◌};
-    ghost use Rattle.speedate_base.specs.Refused.{refused_place};
+    ghost use Rattle.std.specs.Prelude.{◌≡◌, ◌++◌, ℕ, List, Ok};
+    ghost use Rattle.speedate_base.specs.Requirement.{TextRow, first_place, first_refusal_or};
+    ghost use Rattle.speedate_base.specs.Requirement.{moved, shifted};
+    ghost use Rattle.speedate_base.specs.Refused.{placed, refused_place};
 
     /// The place of a refusal, and none of a value: 5 for `OutOfRangeMonth` at byte 5.
+    ///
+    /// If the answer is that of a table, and then of the table of a part that begins at a byte, it is the
+    /// place of the first row, of both tables in this order, that does not hold.
     #[inline(always)]
     pub fn place_of<T: Copy>(answer: Result<T, Refused>) -> Option<usize>
         ensures place { result ≡ refused_place answer }
+        ensures first_row { (first part : List TextRow) (start : ℕ) (value : T)
+            → answer ≡ first_refusal_or placed first
+            (first_refusal_or (shifted start placed) part (Ok value))
+            → result ≡ first_place (first ++ moved start part) }
     {
         match answer {
             Ok(_) => None,

@@ -118,10 +118,11 @@ pub IsPart-read : (config : TimeConfig) (at_end : Bool) (room lines bytes : ℕ)
     lines ≡ length read.numbers → out ≡ read.numbers ++ drop lines old
     → number ≡ total (take lines out) → bytes ≤ length text
     → whole_lines at_end (drop bytes text) ≡ drop lines (whole_lines at_end text)
+    → (at_end ≡ false → unfinished_line (drop bytes text) ≡ unfinished_line text)
     → unsigned_abs number ≤ 9223372036854775808 * length (take lines out)
     → IsPart at_end text lines bytes number
 IsPart-read config at_end room lines bytes number text old out is counted written summed within rest
-    bound =
+    unfinished bound =
     let read = IsRead-text config at_end room text is in
     let all : List (List ℕ) = whole_lines at_end text in
     let numbers : List ℤ = (column_read config at_end room text).numbers in
@@ -133,6 +134,7 @@ IsPart-read config at_end room lines bytes number text old out is counted writte
       few = omega (arith, counted, read.few);
       within = within;
       rest = rest;
+      unfinished = unfinished;
       sum =
           read.sum
           ∙ ap (λ (n : ℕ). after n (total numbers) (lengths_of (drop n all))) (sym counted)
@@ -214,6 +216,8 @@ IsPart-then {at_end = at_end} {text = text} {lines = lines} {bytes = bytes} {mor
           ∙ next.rest
           ∙ ap (drop more) part.rest
           ∙ drop-drop more lines all;
+      unfinished = λ goes_on.
+          ap unfinished_line (sym cut) ∙ next.unfinished goes_on ∙ part.unfinished goes_on;
       sum =
           part.sum
           ∙ ap (after lines number) next.sum

@@ -1,10 +1,10 @@
 -- Lengths of time, one on each line of a text, and how long they are together.
-use Rattle.std.specs.Prelude.{◌≡◌, ℕ, suc, ◌+◌, ◌*◌, ◌≤◌, Bool, true, List, [], ◌∷◌, length, drop, Option, Some, None, Result, Ok, Err, ℤ, pos, unsigned_abs, ◌+ℤ◌}
+use Rattle.std.specs.Prelude.{◌≡◌, ℕ, suc, ◌+◌, ◌*◌, ◌≤◌, Bool, true, false, List, [], ◌∷◌, length, drop, Option, Some, None, Result, Ok, Err, ℤ, pos, unsigned_abs, ◌+ℤ◌}
 use Rattle.speedate.specs.Base.{Behavior, IsoOrder}
 use Rattle.speedate.specs.Column.{number_of_duration}
 use Rattle.speedate.specs.declared.LineError.{LineError}
 use Rattle.speedate.specs.Duration.{duration_answer}
-use Rattle.speedate.specs.Lines.{whole_lines, without_return}
+use Rattle.speedate.specs.Lines.{unfinished_line, whole_lines, without_return}
 
 -- the microseconds of a line, which is a duration; a carriage return at its end is dropped
 abbrev pub length_of_line : List ℕ → Result ℤ LineError
@@ -50,12 +50,13 @@ after lines microseconds rest = record {
 }
 
 -- a part of a text, from its front on: so many lines and bytes, and their microseconds; what
--- follows these bytes has the other lines
+-- follows these bytes has the other lines, and the unfinished one
 pub record IsPart (at_end : Bool) (text : List ℕ) (lines bytes : ℕ) (microseconds : ℤ) : Type 0
   where
     pub few : lines ≤ length (whole_lines at_end text)
     pub within : bytes ≤ length text
     pub rest : whole_lines at_end (drop bytes text) ≡ drop lines (whole_lines at_end text)
+    pub unfinished : at_end ≡ false → unfinished_line (drop bytes text) ≡ unfinished_line text
     pub sum : lengths_of (whole_lines at_end text)
         ≡ after lines microseconds (lengths_of (whole_lines at_end (drop bytes text)))
     pub bound : unsigned_abs microseconds ≤ 9223372036854775808 * lines

@@ -1,7 +1,7 @@
 //! A time sheet: lengths of time, one on each line, and how long they are together.
 
 ghost use Rattle.std.specs.Prelude.{◌≡◌, ◌*◌, ◌<◌, ◌≤◌, drop, false, length, true, unsigned_abs};
-ghost use Rattle.speedate.specs.Lines.{whole_lines};
+ghost use Rattle.speedate.specs.Lines.{unfinished_line, whole_lines};
 ghost use Rattle.speedate_uses.specs.Lengths.{IsPart, ended, lengths_of, total};
 
 use speedate::{DurationReader, LineConfig, LineError, TimeConfig, read_column};
@@ -42,6 +42,8 @@ pub fn total_of_lines(text: &[u8], at_end: bool) -> Total
     ensures within { result.bytes ≤ length text.now }
     ensures rest { whole_lines at_end (drop result.bytes text.now)
         ≡ drop result.lines (whole_lines at_end text.now) }
+    ensures unfinished { at_end ≡ false
+        → unfinished_line (drop result.bytes text.now) ≡ unfinished_line text.now }
 {
     let mut lines = 0;
     let mut bytes = 0;

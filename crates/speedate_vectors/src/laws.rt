@@ -10,11 +10,12 @@ ghost use Rattle.speedate.specs.Duration.{duration_numbers};
 ghost use Rattle.speedate.specs.Time.{time_of_day};
 
 use speedate::{
-    ConfigError, Date, DateConfig, DateConfigBuilder, DateReader, DateTime, DateTimeClockReader,
-    DateTimeConfig, DateTimeConfigBuilder, DateTimeOffsetReader, DateTimeReader, Decimal, Duration,
-    DurationReader, IntFloat, IsoOrder, LineConfig, LineError,
-    MicrosecondsPrecisionOverflowBehavior, Moment, ParseError, Progress, Time, TimeConfig,
-    TimeConfigBuilder, TimeOffsetReader, TimeReader, TimestampUnit,
+    CallKind, ConfigError, Date, DateConfig, DateConfigBuilder, DateReader, DateTime,
+    DateTimeClockReader, DateTimeConfig, DateTimeConfigBuilder, DateTimeOffsetReader,
+    DateTimeParser, DateTimeReader, Decimal, Duration, DurationReader, IntFloat, IsoOrder,
+    LineConfig, LineError, MicrosecondsPrecisionOverflowBehavior, Moment, ParseError, Progress,
+    Refused, Time, TimeConfig, TimeConfigBuilder, TimeOffsetReader, TimeParser, TimeReader,
+    TimestampUnit,
 };
 use speedate_base::numbers::{DigitRun, Fraction};
 use speedate_base::util::{UnixTime, UnixUnit};
@@ -26,6 +27,8 @@ use std::alloc::AllocError;
 pub struct Each<'a> {
     /// The errors.
     pub faults: (ParseError, ConfigError),
+    /// An error with its place, and the kind of call for which it is described.
+    pub refusals: (Refused, CallKind),
     /// The choices.
     pub choices: (
         MicrosecondsPrecisionOverflowBehavior,
@@ -47,6 +50,8 @@ pub struct Each<'a> {
         TimeReader,
         TimeOffsetReader,
     ),
+    /// How columns parse their lines.
+    pub parsers: (DateTimeParser, TimeParser),
     /// How far they come.
     pub columns: (Progress, LineError),
     /// What is parsed as a number.
@@ -77,6 +82,13 @@ pub fn same_choices(first: &Each<'_>, second: &Each<'_>) -> (bool, bool, bool, b
         first.choices.1 == second.choices.1,
         first.choices.2 == second.choices.2,
     )
+}
+
+/// Whether two errors with their places are equal: false if only the places are.
+pub fn same_refused(first: &Refused, second: &Refused) -> bool
+    ensures same { IsTrue result ↔ (first.now ≡ second.now) }
+{
+    first == second
 }
 
 /// Whether two errors of lines are equal: false if one is that of a text, and the other is not.

@@ -5,7 +5,7 @@ use speedate::{
     DateTimeClockReader, DateTimeConfig, DateTimeConfigBuilder, DateTimeOffsetReader,
     DateTimeParser, DateTimeReader, Decimal, Duration, DurationReader, IntFloat, IsoOrder,
     LineConfig, LineError, LineFront, LineReader, MicrosecondsPrecisionOverflowBehavior, Moment,
-    ParseError, Progress, Time, TimeConfig, TimeConfigBuilder, TimeOffsetReader, TimeParser,
+    ParseError, Progress, Refused, Time, TimeConfig, TimeConfigBuilder, TimeOffsetReader, TimeParser,
     TimeReader, TimestampUnit,
 };
 use std::error::Error;
@@ -48,7 +48,7 @@ fn each_type_has_its_traits() {
     is_reader::<TimeReader>();
     is_reader::<TimeOffsetReader>();
     is_reader::<DurationReader>();
-    is_value::<LineError>();
+    is_value::<(LineError, Refused)>();
     is_value::<(Date, Time, DateTime, Duration, Moment)>();
     is_choice::<TimestampUnit>();
     is_choice::<MicrosecondsPrecisionOverflowBehavior>();

@@ -1,6 +1,6 @@
 //! Where a text that is refused as a date has its error.
 
-ghost use Rattle.std.specs.Prelude.{◌≡◌, ◌≤◌, IfErr, IfSome, is_err, is_some, length};
+ghost use Rattle.std.specs.Prelude.{◌≡◌, ◌≤◌, IfErr, IfOk, IfSome, is_err, is_some, length};
 ghost use Rattle.speedate_base.specs.Requirement.{result_map, with_size};
 ghost use Rattle.speedate_base.specs.Refused.{placed, without_place, refused_place};
 ghost use Rattle.speedate_civil.specs.Date.{date_answer, date_answer_or, date_front, date_front_or};
@@ -92,6 +92,7 @@ impl Date {
         ensures answer { without_place (result_map (with_size ymd) result) ≡ date_front bytes.now }
         ensures place { refused_place result ≡ refused_place (date_front_or placed bytes.now) }
         ensures within { IfErr result (λ refused. refused.place ≤ length bytes.now) }
+        ensures size { IfOk result (λ front. front.1 ≤ length bytes.now) }
     {
         Self::front(bytes)
     }

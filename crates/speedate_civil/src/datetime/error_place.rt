@@ -1,8 +1,9 @@
 //! Where a text that is refused as a date-time has its error.
 
-ghost use Rattle.std.specs.Prelude.{◌≡◌, ◌≤◌, IfErr, IfSome, is_err, is_some, length};
-ghost use Rattle.speedate_base.specs.Config.{time_choices};
+ghost use Rattle.std.specs.Prelude.{◌≡◌, ◌≤◌, IfErr, IfOk, IfSome, is_err, is_some, length};
+ghost use Rattle.speedate_base.specs.Config.{choices, time_choices};
 ghost use Rattle.speedate_base.specs.Requirement.{result_map, with_size};
+ghost use Rattle.speedate_base.specs.Offset.{IsWholeMinutes};
 ghost use Rattle.speedate_base.specs.Refused.{placed, refused_place, without_place};
 ghost use Rattle.speedate_civil.specs.DateTime.{date_and_time, date_time_answer};
 ghost use Rattle.speedate_civil.specs.DateTime.{date_time_answer_or, date_time_by_config};
@@ -97,6 +98,8 @@ impl DateTime {
         ensures place { refused_place result
             ≡ refused_place (date_time_by_config_or placed config.now bytes.now) }
         ensures within { IfErr result (λ refused. refused.place ≤ length bytes.now) }
+        ensures minutes { IsWholeMinutes (choices config.now).offset
+            → IfOk result (λ value. IsWholeMinutes value.time.tz_offset) }
     {
         Self::whole_or_timestamp(bytes, config)
     }
@@ -116,6 +119,7 @@ impl DateTime {
             ≡ refused_place
             (date_time_answer_or placed (time_choices config.now).behavior bytes.now) }
         ensures within { IfErr result (λ refused. refused.place ≤ length bytes.now) }
+        ensures minutes { IfOk result (λ value. IsWholeMinutes value.time.tz_offset) }
     {
         Self::parse_whole(bytes, config.microseconds_precision_overflow_behavior)
     }
@@ -137,6 +141,7 @@ impl DateTime {
         ensures place { refused_place result
             ≡ refused_place (strict_date_time_answer_or placed behavior bytes.now) }
         ensures within { IfErr result (λ refused. refused.place ≤ length bytes.now) }
+        ensures minutes { IfOk result (λ value. IsWholeMinutes value.time.tz_offset) }
     {
         Self::strict(bytes, behavior)
     }
@@ -156,6 +161,8 @@ impl DateTime {
             ≡ refused_place
             (date_time_front_or placed (time_choices config.now).behavior bytes.now) }
         ensures within { IfErr result (λ refused. refused.place ≤ length bytes.now) }
+        ensures size { IfOk result (λ front. front.1 ≤ length bytes.now) }
+        ensures minutes { IfOk result (λ front. IsWholeMinutes front.0.time.tz_offset) }
     {
         Self::front(bytes, config.microseconds_precision_overflow_behavior)
     }

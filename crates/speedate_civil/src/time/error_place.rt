@@ -1,7 +1,8 @@
 //! Where a text that is refused as a time has its error.
 
-ghost use Rattle.std.specs.Prelude.{◌≡◌, ◌≤◌, IfErr, IfSome, is_err, is_some, length};
+ghost use Rattle.std.specs.Prelude.{◌≡◌, ◌≤◌, IfErr, IfOk, IfSome, is_err, is_some, length};
 ghost use Rattle.speedate_base.specs.Config.{time_choices};
+ghost use Rattle.speedate_base.specs.Offset.{IsWholeMinutes};
 ghost use Rattle.speedate_base.specs.Refused.{placed, refused_place, without_place};
 ghost use Rattle.speedate_base.specs.Requirement.{result_map, with_size};
 ghost use Rattle.speedate_civil.specs.Strict.{strict_time_answer, strict_time_answer_or};
@@ -73,6 +74,7 @@ impl Time {
         ensures place { refused_place result
             ≡ refused_place (time_answer_or placed (time_choices config.now).behavior bytes.now) }
         ensures within { IfErr result (λ refused. refused.place ≤ length bytes.now) }
+        ensures minutes { IfOk result (λ value. IsWholeMinutes value.tz_offset) }
     {
         Self::parse_whole(bytes, config.microseconds_precision_overflow_behavior)
     }
@@ -93,6 +95,7 @@ impl Time {
         ensures place { refused_place result
             ≡ refused_place (strict_time_answer_or placed behavior bytes.now) }
         ensures within { IfErr result (λ refused. refused.place ≤ length bytes.now) }
+        ensures minutes { IfOk result (λ value. IsWholeMinutes value.tz_offset) }
     {
         Self::strict(bytes, behavior)
     }
@@ -110,6 +113,8 @@ impl Time {
         ensures place { refused_place result
             ≡ refused_place (time_front_or placed (time_choices config.now).behavior bytes.now) }
         ensures within { IfErr result (λ refused. refused.place ≤ length bytes.now) }
+        ensures size { IfOk result (λ front. front.1 ≤ length bytes.now) }
+        ensures minutes { IfOk result (λ front. IsWholeMinutes front.0.tz_offset) }
     {
         Self::front(bytes, config.microseconds_precision_overflow_behavior)
     }

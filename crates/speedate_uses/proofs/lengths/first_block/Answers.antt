@@ -12,7 +12,7 @@ returns-clause-part c =
     rw (to_z-of_z fits) (
     IsPart-read c.default.result c.args.at_end 64 _ _ c.sum.result c.args.text.now _ _
     c.default.ensures read.lines read.numbers c.sum.ensures.total read.within read.rest
-    c.sum.ensures.bound)
+    read.unfinished c.sum.ensures.bound)
 
 pub returns-clause-last : goal.returns-clause-last
 returns-clause-last c =
