@@ -177,8 +177,8 @@ pub or_number-view : {A E D : Type 0} (view : E → D) (number : Option (Result 
     → option_map (refusal_map view) number ≡ seen → refusal_map view answer ≡ other
     → refusal_map view (or_number number answer) ≡ or_number seen other
 or_number-view view number answer seen other numbers same =
-    number-view view number answer
-    ∙ ap₂ (λ (number : Option (Result _ _)) (answer : Result _ _). or_number number answer) numbers same
+    let choose = λ (number : Option (Result _ _)) (answer : Result _ _). or_number number answer in
+    number-view view number answer ∙ ap₂ choose numbers same
 
 -- a refusal that keeps its fault, seen by it
 pub through-fault : {E : Type 0} (fault_of : E → ParseError) (refuse : ParseError → ℕ → E)

@@ -5,8 +5,8 @@ use speedate::{
     DateTimeClockReader, DateTimeConfig, DateTimeConfigBuilder, DateTimeOffsetReader,
     DateTimeParser, DateTimeReader, Decimal, Duration, DurationReader, IntFloat, IsoOrder,
     LineConfig, LineError, LineFront, LineReader, MicrosecondsPrecisionOverflowBehavior, Moment,
-    ParseError, Progress, Refused, Time, TimeConfig, TimeConfigBuilder, TimeOffsetReader, TimeParser,
-    TimeReader, TimestampUnit,
+    ParseError, Progress, Refused, Time, TimeConfig, TimeConfigBuilder, TimeOffsetReader,
+    TimeParser, TimeReader, TimestampUnit,
 };
 use std::error::Error;
 use std::fmt::{Debug, Display};

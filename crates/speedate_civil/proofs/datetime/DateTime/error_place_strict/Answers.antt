@@ -11,4 +11,5 @@ returns-clause-place c = search rules
 pub returns-clause-refused : goal.returns-clause-refused
 returns-clause-refused c =
     ap is_some (returns-clause-place c) ∙ refused-is_some _ _
-    (strict_date_time_answer-view (λ (refused : Refused). refused.fault) placed c.args.behavior c.args.bytes.now)
+    (strict_date_time_answer-view (λ (refused : Refused). refused.fault) placed
+    c.args.behavior c.args.bytes.now)
