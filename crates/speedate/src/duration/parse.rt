@@ -141,11 +141,11 @@ impl Duration {
     /// Parses a duration, with or without a sign. The order and the behavior are arguments of their own,
     /// and no configuration: the compiler sees a constant argument, but none in a struct.
     ///
-    /// `COLUMN` changes no answer. It gives columns a copy of their own: functions as long as these are
+    /// `OWN_COPY` changes no answer. It gives columns a copy of their own: functions as long as these are
     /// inlined only where they have one caller.
     #[inline(always)]
     #[tactic(auto, using(std::proofs::lemmas::List::take_rest))]
-    pub(crate) fn parse<const COLUMN: bool>(
+    pub(crate) fn parse<const OWN_COPY: bool>(
         bytes: &[u8],
         order: IsoOrder,
         behavior: MicrosecondsPrecisionOverflowBehavior,
@@ -154,7 +154,7 @@ impl Duration {
     {
         let (negative, size) = sign(bytes);
         let rest = &bytes[size..];
-        let amount = UnsignedDuration::parse::<ParseError, COLUMN>(rest, order, size, behavior)?;
+        let amount = UnsignedDuration::parse::<ParseError, OWN_COPY>(rest, order, size, behavior)?;
         Self::with_sign(!negative, amount)
     }
 

@@ -132,10 +132,10 @@ impl Date {
         Self::front(bytes)
     }
 
-    /// Parses the date at the front of a date-time. It is apart from [`Date::front`], so that it is inlined
-    /// by its size.
+    /// Parses the date at the front of a date-time, as [`Date::front`] does. It is a function of its own, so
+    /// that the compiler inlines it by its size.
     #[inline]
-    pub(crate) fn front_of<E: Refusal>(bytes: &[u8]) -> Result<(Self, usize), E>
+    pub(crate) fn front_in_date_time<E: Refusal>(bytes: &[u8]) -> Result<(Self, usize), E>
         ensures answer { result gives_front date_front_or E.refusal bytes.now }
         ensures within { IfOk result (λ front. front.1 ≤ length bytes.now) }
         ensures placed { IfErr result (E.lies_within (length bytes.now)) }
@@ -177,7 +177,8 @@ impl Date {
         Self::with_month(bytes)
     }
 
-    /// The date at the front of a text whose first eight bytes look like those of one.
+    /// Parses the date at the front of a text whose first eight bytes are digits and hyphens as a date has
+    /// them, up to its month.
     #[inline(always)]
     pub(crate) fn with_month<E: Refusal>(bytes: &[u8]) -> Result<(Self, usize), E>
         requires long { 10 ≤ length bytes.now }

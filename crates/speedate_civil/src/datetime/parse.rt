@@ -20,7 +20,6 @@ ghost use Rattle.speedate_civil.specs.Strict.{strict_date_time_answer, strict_da
 ghost use Rattle.speedate_civil.specs.Time.{time_front_or, time_of_day};
 
 use super::DateTime;
-use super::timestamp::timestamp_instant;
 use crate::date::Date;
 use crate::time::{Time, end_fault};
 use speedate_base::config::{DateTimeConfig, MicrosecondsPrecisionOverflowBehavior, TimeConfig};
@@ -62,9 +61,7 @@ impl DateTime {
     ///
     /// # Errors
     ///
-    /// Of a timestamp those of [this table](docs/GRAMMAR.md#timestamps), in the order of its rows. Of
-    /// any other text those of [a date](docs/GRAMMAR.md#date) except `ExtraCharacters`, then
-    /// `InvalidCharDateTimeSep` if no separator follows, then those of [a time](docs/GRAMMAR.md#time).
+    /// Those of [`DateTime::parse_str`], in its order.
     #[inline(always)]
     pub fn parse_bytes(bytes: &[u8]) -> Result<Self, ParseError>
         ensures answer { result gives date_time_or_timestamp TimestampUnit.Infer Behavior.Error None
@@ -84,12 +81,9 @@ impl DateTime {
     ///
     /// # Errors
     ///
-    /// Of a timestamp those of [this table](docs/GRAMMAR.md#timestamps), in the order of its rows. Of
-    /// any other text those of [a date](docs/GRAMMAR.md#date) except `ExtraCharacters`, then
-    /// `InvalidCharDateTimeSep` if no separator follows, then those of [a time](docs/GRAMMAR.md#time).
-    /// Only with the behavior `Error` are digits past the microsecond refused: with
-    /// `SecondFractionTooLong`, or, in a timestamp of another unit, `MillisecondFractionTooLong` or
-    /// `MicrosecondFractionTooLong`.
+    /// Those of [`DateTime::parse_str`], in its order. Only with the behavior `Error` are digits past the
+    /// microsecond refused: with `SecondFractionTooLong`, or, in a timestamp of another unit,
+    /// `MillisecondFractionTooLong` or `MicrosecondFractionTooLong`.
     #[inline(always)]
     pub fn parse_str_with_config(text: &str, config: &DateTimeConfig) -> Result<Self, ParseError>
         ensures answer { result gives date_time_by_config config.now text.now }
@@ -105,12 +99,7 @@ impl DateTime {
     ///
     /// # Errors
     ///
-    /// Of a timestamp those of [this table](docs/GRAMMAR.md#timestamps), in the order of its rows. Of
-    /// any other text those of [a date](docs/GRAMMAR.md#date) except `ExtraCharacters`, then
-    /// `InvalidCharDateTimeSep` if no separator follows, then those of [a time](docs/GRAMMAR.md#time).
-    /// Only with the behavior `Error` are digits past the microsecond refused: with
-    /// `SecondFractionTooLong`, or, in a timestamp of another unit, `MillisecondFractionTooLong` or
-    /// `MicrosecondFractionTooLong`.
+    /// Those of [`DateTime::parse_str_with_config`], in its order.
     #[inline(always)]
     pub fn parse_bytes_with_config(
         bytes: &[u8],
@@ -284,7 +273,7 @@ impl DateTime {
         ensures minutes { IfOk result (λ front. IsWholeMinutes front.0.time.tz_offset) }
         ensures no_number { OnOk result (number_answer bytes.now ≡ NoNumber) }
     {
-        let (date, _) = Date::front_of::<E>(bytes)?;
+        let (date, _) = Date::front_in_date_time::<E>(bytes)?;
         let (time, size) = time_after_date::<E>(bytes, behavior)?;
         Ok((DateTime { date, time }, TIME_PLACE + size))
     }
@@ -306,28 +295,6 @@ impl DateTime {
             Err(refusal) => Self::parse_timestamp(bytes, refusal, config),
         }
     }
-
-    /// Parses the timestamp that the bytes are, which are refused so as a date-time.
-    ///
-    /// The instant comes back from a call, and its date and time are calculated here, so that they go
-    /// straight to where the caller wants them.
-    #[inline(always)]
-    fn parse_timestamp<E: Refusal>(
-        bytes: &[u8],
-        refusal: E,
-        config: &DateTimeConfig,
-    ) -> Result<Self, E>
-        requires refused { date_time_answer_or E.refusal (choices config.now).behavior bytes.now
-            ≡ Err refusal }
-        requires placed { E.lies_within (length bytes.now) refusal }
-        ensures answer { result gives date_time_by_config_or E.refusal config.now bytes.now }
-        ensures placed { IfErr result (E.lies_within (length bytes.now)) }
-        ensures minutes { IsWholeMinutes (choices config.now).offset
-            → IfOk result (λ value. IsWholeMinutes value.time.tz_offset) }
-    {
-        let time = timestamp_instant(bytes, refusal, config)?;
-        Ok(Self::from_instant(time, config.time_config.unix_timestamp_offset))
-    }
 }
 
 impl FromStr for DateTime {
@@ -340,9 +307,7 @@ impl FromStr for DateTime {
     ///
     /// # Errors
     ///
-    /// Of a timestamp those of [this table](docs/GRAMMAR.md#timestamps), in the order of its rows. Of
-    /// any other text those of [a date](docs/GRAMMAR.md#date) except `ExtraCharacters`, then
-    /// `InvalidCharDateTimeSep` if no separator follows, then those of [a time](docs/GRAMMAR.md#time).
+    /// Those of [`DateTime::parse_str`], in its order.
     fn from_str(text: &str) -> Result<Self, ParseError> {
         Self::parse_str(text)
     }

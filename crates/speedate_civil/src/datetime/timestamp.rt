@@ -154,6 +154,28 @@ impl DateTime {
         DateTime { date, time }
     }
 
+    /// Parses the timestamp that the bytes are, which are refused so as a date-time.
+    ///
+    /// The instant comes back from a call, and its date and time are calculated here, so that they go
+    /// straight to where the caller wants them.
+    #[inline(always)]
+    pub(super) fn parse_timestamp<E: Refusal>(
+        bytes: &[u8],
+        refusal: E,
+        config: &DateTimeConfig,
+    ) -> Result<Self, E>
+        requires refused { date_time_answer_or E.refusal (choices config.now).behavior bytes.now
+            ≡ Err refusal }
+        requires placed { E.lies_within (length bytes.now) refusal }
+        ensures answer { result gives date_time_by_config_or E.refusal config.now bytes.now }
+        ensures placed { IfErr result (E.lies_within (length bytes.now)) }
+        ensures minutes { IsWholeMinutes (choices config.now).offset
+            → IfOk result (λ value. IsWholeMinutes value.time.tz_offset) }
+    {
+        let time = timestamp_instant(bytes, refusal, config)?;
+        Ok(Self::from_instant(time, config.time_config.unix_timestamp_offset))
+    }
+
     /// The second since 1970-01-01T00:00:00 that a clock at the offset shows: 86,400 for
     /// 1970-01-02T00:00:00+01:00. It is a Unix timestamp if the offset is absent or 0; for others
     /// [`DateTime::timestamp_tz`] is. [`DateTime::from_timestamp_with_config`], in seconds and with the
