@@ -51,7 +51,7 @@ pub fn digit_run(bytes: &[u8]) -> DigitRun
 /// 0 and 0 for `b"."`. `None` if there are more than six.
 #[inline(always)]
 pub fn up_to_six_digits(bytes: &[u8]) -> Option<(u32, usize)>
-    ensures answer { result ≡ (if nat_le (run_length bytes.now 0) FEW
+    ensures answer { result ≡ (if nat_le (run_length bytes.now 0) 6
         then Some (run_value bytes.now 0, run_length bytes.now 0) else None) }
     ensures small { IfSome result (λ few. few.0 < 1000000) }
     ensures within { IfSome result (λ few. few.1 ≤ length bytes.now) }

@@ -134,7 +134,7 @@ pub(crate) fn digits_in_front(lanes: u8x8) -> usize
 /// digits.
 #[inline(always)]
 pub(crate) fn digits_in_sixteen(lanes: u8x16) -> Option<usize>
-    ensures count { result ≡ (if nat_lt (prefix_len is_ascii_digit lanes) MANY_LANES
+    ensures count { result ≡ (if nat_lt (prefix_len is_ascii_digit lanes) 16
         then Some (prefix_len is_ascii_digit lanes) else None) }
 {
     let values = lanes - u8x16::splat(b'0');
@@ -146,7 +146,7 @@ pub(crate) fn digits_in_sixteen(lanes: u8x16) -> Option<usize>
 /// zeros.
 #[inline(always)]
 pub(crate) fn zeros_in_sixteen(lanes: u8x16) -> Option<usize>
-    ensures count { result ≡ (if nat_lt (zeros_length lanes) MANY_LANES
+    ensures count { result ≡ (if nat_lt (zeros_length lanes) 16
         then Some (zeros_length lanes) else None) }
 {
     let others = lanes.simd_ne(u8x16::splat(b'0')).to_bitmask();
