@@ -245,7 +245,7 @@ SPEEDATE_NODISCARD int speedate_code_expected(int code, int kind, char *buffer, 
 /* Where the part of a text ends that a fault is about, which begins at its place: 7 for 21, "2020-13-01" and 5, so that
  * a form underlines the bytes 5 and 6. The code is one with which a call refuses the text, and the place the one that
  * an _error_place call gives. *end is at least `place`, and at most `size` if `place` is. It is `place` if the part is
- * missing, and lies within no character of UTF-8. GRAMMAR.md has the part of each fault. It fails with
+ * missing. GRAMMAR.md has the part of each fault, in bytes that are not UTF-8 too. It fails with
  * SPEEDATE_VALUE_OUT_OF_RANGE for a number that is no error of the library: 0, and those over SPEEDATE_LAST_FAULT. */
 SPEEDATE_NODISCARD int speedate_code_part_end(int code, const char *text, size_t size, size_t place, size_t *end);
 

@@ -55,8 +55,8 @@ macro_rules! parse_errors {
             }
 
             /// Where the part of the input ends that the error is about, which begins at its place: so these bytes are
-            /// what a form underlines. It is at most the length of the input if the place is, and the place if the part is missing; in an
-            /// input of UTF-8 it lies within no character.
+            /// what a form underlines. It is at most the length of the input if the place is, and the place if the part is
+            /// missing.
             ///
             /// ```
             /// use speedate::{Date, DateConfig, ParseError};

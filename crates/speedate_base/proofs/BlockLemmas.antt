@@ -1,5 +1,5 @@
 -- Eight bytes of a text that are looked at together.
-use Rattle.std.proofs.Common.{◌≡◌, ℕ, ◌+◌, ◌-◌, ◌*◌, ◌<◌, ◌≤◌, ◌==◌, Bool, true, if◌then◌else◌, List, length, take, drop, Result, Ok, Err, arith, rules, ap, ◌∙◌, take-add}
+use Rattle.std.proofs.Common.{◌≡◌, ℕ, ◌+◌, ◌-◌, ◌*◌, ◌<◌, ◌≤◌, ◌==◌, nat_lt, Bool, true, Some, None, if◌then◌else◌, List, length, take, drop, Result, Ok, Err, arith, rules, ap, ◌∙◌, take-add}
 use Rattle.std.specs.Char.{is_ascii_digit}
 use Rattle.std.specs.List.{prefix_len, list_all}
 use Rattle.std.proofs.lemmas.Bool.Decides.{nat_tests}
@@ -23,36 +23,23 @@ pub block-all : (bytes : List ℕ) (place count : ℕ) → place + 8 ≤ length 
     → list_all is_ascii_digit (block bytes place) ≡ true
 block-all bytes place count within is full = search rules
 
--- bytes that pass a test from a place on, counted in a block: if fewer than the whole block do,
--- they end there
-pub prefix_ends : (p : ℕ → Bool) (bytes : List ℕ) (place size count : ℕ)
-    → place + size ≤ length bytes → count ≡ prefix_len p (take size (drop place bytes))
-    → count < size → prefix_len p (drop place bytes) ≡ count
-prefix_ends p bytes place size count within is less =
+-- where all bytes of a block pass a test, those that pass go on after it
+pub prefix_on : (p : ℕ → Bool) (bytes : List ℕ) (place next : ℕ) → next ≡ place + 16
+    → next ≤ length bytes
+    → None ≡ (if nat_lt (prefix_len p (take 16 (drop place bytes))) 16
+    then Some (prefix_len p (take 16 (drop place bytes))) else None)
+    → prefix_len p (drop place bytes) ≡ 16 + prefix_len p (drop next bytes)
+prefix_on p bytes place next after within full =
     grind (
       arith,
       nat_tests,
-      take-append-drop size (drop place bytes),
-      prefix_len-append p (take size (drop place bytes)) (drop size (drop place bytes)),
-      length-take-le size (drop place bytes),
+      after,
+      take-append-drop 16 (drop place bytes),
+      prefix_len-append p (take 16 (drop place bytes)) (drop 16 (drop place bytes)),
+      prefix_len-le-length p (take 16 (drop place bytes)),
+      length-take-le 16 (drop place bytes),
       length-drop place bytes,
-    )
-
--- and a whole block goes on after it
-pub prefix_on : (p : ℕ → Bool) (bytes : List ℕ) (place size count : ℕ)
-    → place + size ≤ length bytes → count ≡ prefix_len p (take size (drop place bytes))
-    → size ≤ count
-    → prefix_len p (drop place bytes) ≡ size + prefix_len p (drop (place + size) bytes)
-prefix_on p bytes place size count within is full =
-    grind (
-      arith,
-      nat_tests,
-      take-append-drop size (drop place bytes),
-      prefix_len-append p (take size (drop place bytes)) (drop size (drop place bytes)),
-      prefix_len-le-length p (take size (drop place bytes)),
-      length-take-le size (drop place bytes),
-      length-drop place bytes,
-      drop-drop size place bytes,
+      drop-drop 16 place bytes,
     )
 
 -- a run goes on after digits
@@ -75,6 +62,15 @@ pub block-ends : (bytes : List ℕ) (place count : ℕ) → place + 8 ≤ length
     → count ≡ prefix_len is_ascii_digit (block bytes place) → count < 8
     → run_length bytes place ≡ count
 block-ends bytes place count within is less = search (rules, run-front, block-length)
+
+-- and the same for sixteen
+pub run_ends : {count : ℕ} (bytes : List ℕ) (place : ℕ) → place + 16 ≤ length bytes
+    → Some count ≡ (if nat_lt (prefix_len is_ascii_digit (take 16 (drop place bytes))) 16
+    then Some (prefix_len is_ascii_digit (take 16 (drop place bytes))) else None)
+    → run_length bytes place ≡ count
+run_ends bytes place within less =
+    let rest = drop place bytes in
+    grind (arith, nat_tests, run-front rest 16, length-take-le 16 rest, length-drop place bytes)
 
 -- eight more digits
 pub block-more : (bytes : List ℕ) (place : ℕ) → place + 8 ≤ length bytes

@@ -1,5 +1,6 @@
 -- What is known of bytes that are as a pattern has them.
-use Rattle.std.proofs.Common.{◌≡◌, ℕ, zero, suc, ◌+◌, ◌-◌, ◌%◌, ◌≤◌, Bool, true, not, min, nat_eq, if◌then◌else◌, List, [], ◌∷◌, length, drop, refl, w64, arith, rules}
+use Rattle.std.proofs.Common.{◌≡◌, ℕ, zero, suc, ◌+◌, ◌-◌, ◌%◌, ◌≤◌, Bool, true, not, min, nat_eq, nat_lt, ◌==◌, if◌then◌else◌, Some, None, List, [], ◌∷◌, length, drop, refl, w64, arith, rules}
+use Rattle.std.specs.Bool.{then_some}
 use Rattle.std.specs.Int.{from_le_bytes}
 use Rattle.std.specs.List.{list_all, prefix_len}
 use Rattle.std.proofs.lemmas.List.{get_or-drop, map-id}
@@ -86,3 +87,24 @@ lowest_bit tests count long few =
 pub no_bits : (tests : List Bool) → nat_eq (mask_l tests) 0 ≡ list_all not tests
 no_bits [] = refl
 no_bits (test ∷ tests) = grind (arith, nat_tests, no_bits tests)
+
+-- no bit is set if and only if the tests end without one
+no_bits_whole : (tests : List Bool)
+    → nat_eq (mask_l tests) 0 ≡ (prefix_len not tests == length tests)
+no_bits_whole [] = refl
+no_bits_whole (test ∷ tests) = grind (arith, nat_tests, no_bits_whole tests)
+
+-- the place of the lowest bit of a mask, if one is set
+pub lowest_bit_set : (tests : List Bool) (count : ℕ) → length tests ≡ count → count ≤ 64
+    → then_some (not (nat_eq (mask_l tests % 18446744073709551616) 0))
+    (count_trailing_zeros 64 (mask_l tests % 18446744073709551616))
+    ≡ (if nat_lt (prefix_len not tests) count then Some (prefix_len not tests) else None)
+lowest_bit_set tests count long few =
+    grind (
+      arith,
+      nat_tests,
+      lowest_bit tests count long few,
+      mask_l-mod tests 64,
+      no_bits_whole tests,
+      prefix_len-le-length not tests,
+    )

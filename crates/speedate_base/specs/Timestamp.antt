@@ -2,6 +2,8 @@
 -- the instants that they mean.
 use Rattle.std.specs.Prelude.{ℕ, ◌^◌, Bool, true, IsTrue, nat_le, nat_lt, if◌then◌else◌, List, [], ◌∷◌, ℤ, pos, neg_ℤ, ◌*ℤ◌, int_le, unsigned_abs, Result, Ok, ◌*◌, length, ◌+◌, ◌/◌, ◌%◌, ◌+ℤ◌, int_lt}
 use Rattle.std.specs.Int.{int_div_euclid, int_rem_euclid}
+use Rattle.std.specs.Ordering.{int_cmp, nat_cmp, on, then_cmp}
+use Rattle.std.specs.declared.cmp.Ordering.{Ordering}
 use Rattle.speedate_base.specs.declared.util.unix_time.UnixUnit.{UnixUnit}
 use Rattle.speedate_base.specs.declared.util.unix_time.UnixTime.{UnixTime}
 use Rattle.speedate_base.specs.Config.{refuses_digits, Behavior, TimestampUnit}
@@ -19,6 +21,11 @@ seconds_per_day = 86400
 pub record Instant : Type 0 where
   pub second : ℤ
   pub microsecond : ℕ
+
+-- the order of instants: by second, then by microsecond
+abbrev pub instant_order : Instant → Instant → Ordering
+instant_order =
+    then_cmp (on (λ instant. instant.second) int_cmp) (on (λ instant. instant.microsecond) nat_cmp)
 
 -- a unit of timestamps: its microseconds, how many digits after a point are whole ones, and the
 -- fault of a text with more

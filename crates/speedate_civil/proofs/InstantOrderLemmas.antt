@@ -8,13 +8,12 @@ use Rattle.std.proofs.lemmas.Bool.Decides.{nat_tests}
 use Rattle.std.proofs.lemmas.Int.{ints}
 use Rattle.std.proofs.Math.Bool.{and_comm}
 use Rattle.speedate_base.specs.Ascii.{capital_t}
-use Rattle.speedate_base.specs.Timestamp.{seconds_per_day, Instant}
+use Rattle.speedate_base.specs.Timestamp.{seconds_per_day, Instant, instant_order}
 use Rattle.speedate_civil.specs.Time.{fraction_text, TimeOfDay, IsTime, minute_time, second_of_day}
 use Rattle.speedate_civil.specs.Time.{time_text, time_instant, time_instant_order}
 use Rattle.speedate_civil.specs.DateTime.{DateAndTime, IsDateAndTime, date_time_text}
 use Rattle.speedate_civil.specs.DateTime.{date_time_instant, date_time_instant_order}
-use Rattle.speedate_civil.specs.Instant.{instant_order, by_instant, BothOrNeither, IsNotAfter}
-use Rattle.speedate_civil.specs.Instant.{IsBeforeNextOnly}
+use Rattle.speedate_civil.specs.Instant.{by_instant, BothOrNeither, IsNotAfter, IsBeforeNextOnly}
 use Rattle.speedate_civil.specs.Calendar.{Ymd, date_order}
 use Rattle.speedate_civil.proofs.DateOrderLemmas.{date_order-day_number, date_text-front-order}
 use Rattle.speedate_civil.proofs.DateOrderLemmas.{digits-order}

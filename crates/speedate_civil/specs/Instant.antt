@@ -1,11 +1,11 @@
 -- What times and date-times share: a move to another offset, and the order by instant.
 use Rattle.std.specs.Prelude.{◌≡◌, ◌&&◌, ◌++◌, Bool, IsTrue, List, [], ◌∷◌, Option, Some, ℤ, is_some}
-use Rattle.std.specs.Ordering.{int_cmp, is_le, nat_cmp, on, then_cmp}
+use Rattle.std.specs.Ordering.{is_le, on}
 use Rattle.std.specs.declared.cmp.Ordering.{Ordering}
 use Rattle.std.specs.declared.cmp.Ordering.TheVariants.{Equal, Less}
 use Rattle.speedate_base.specs.Offset.{offset_table}
 use Rattle.speedate_base.specs.Requirement.{NumberRow, ◌else_fault◌}
-use Rattle.speedate_base.specs.Timestamp.{Instant}
+use Rattle.speedate_base.specs.Timestamp.{Instant, instant_order}
 use Rattle.speedate_civil.specs.Base.{ParseError}
 
 -- what a move to another offset has to meet: that one is in its range, and there is an old one, at
@@ -13,11 +13,6 @@ use Rattle.speedate_civil.specs.Base.{ParseError}
 abbrev pub move_table : ℤ → Option ℤ → List NumberRow
 move_table offset old =
     offset_table (Some offset) ++ (is_some old else_fault ParseError.TzRequired) ∷ []
-
--- the order of instants: by second, then by microsecond
-abbrev pub instant_order : Instant → Instant → Ordering
-instant_order =
-    then_cmp (on (λ instant. instant.second) int_cmp) (on (λ instant. instant.microsecond) nat_cmp)
 
 -- the order of values by their instants, which are those in UTC if both have an offset
 abbrev pub by_instant : {K : Type 0} → (K → Option ℤ) → (Bool → K → Instant) → K → K → Ordering

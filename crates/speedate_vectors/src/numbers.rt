@@ -90,6 +90,7 @@ const NUMBERS: &str = "\
 '.'                                   none
 '-.'                                  none
 '1..5'                                none
+'--1'                                 none
 '--1.5'                               none
 '1.5 '                                none
 '123.12 '                             none

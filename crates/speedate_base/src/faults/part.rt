@@ -13,8 +13,7 @@ impl ParseError {
     /// form underlines.
     ///
     /// The end is at most the text's length if the place is, and the place itself if the part is missing.
-    /// In a text of UTF-8 it lies within no character. [A table](docs/GRAMMAR.md#the-part-of-an-error) has the part
-    /// of each error.
+    /// [A table](docs/GRAMMAR.md#the-part-of-an-error) has the part of each error.
     pub fn part_end(&self, text: &[u8], place: usize) -> usize
         ensures end { result ≡ part_end self.now text.now place }
         ensures from { place ≤ result }

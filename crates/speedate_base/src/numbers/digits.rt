@@ -51,7 +51,7 @@ pub fn digit_run(bytes: &[u8]) -> DigitRun
 /// 0 and 0 for `b"."`. `None` if there are more than six.
 #[inline(always)]
 pub fn up_to_six_digits(bytes: &[u8]) -> Option<(u32, usize)>
-    ensures answer { result ≡ (if nat_le (run_length bytes.now 0) FEW
+    ensures answer { result ≡ (if nat_le (run_length bytes.now 0) 6
         then Some (run_value bytes.now 0, run_length bytes.now 0) else None) }
     ensures small { IfSome result (λ few. few.0 < 1000000) }
     ensures within { IfSome result (λ few. few.1 ≤ length bytes.now) }
@@ -115,15 +115,14 @@ pub(crate) fn long_run_end(bytes: &[u8], place: usize) -> usize
     ensures end { result ≡ place + run_length bytes.now place }
     ensures within { result ≤ length bytes.now }
 {
-    let mut end = place;
-    while bytes.len() - end >= MANY_LANES {
-        let count = digits_in_sixteen(u8x16::from_slice(&bytes[end..]));
-        if count < MANY_LANES {
-            return end + count;
+    let blocks = (bytes.len() - place) / MANY_LANES;
+    for block in 0..blocks {
+        let start = place + MANY_LANES * block;
+        if let Some(count) = digits_in_sixteen(u8x16::from_slice(&bytes[start..])) {
+            return start + count;
         }
-        end += MANY_LANES;
     }
-    run_end(bytes, end)
+    run_end(bytes, place + MANY_LANES * blocks)
 }
 
 /// The number that digits spell, or `u64::MAX` if it is larger: 120 for `b"120"`.
@@ -204,29 +203,28 @@ fn zeros_in_front(bytes: &[u8]) -> usize
     ensures count { result ≡ zeros_length bytes.now }
     ensures within { result ≤ length bytes.now }
 {
-    let mut end = 0;
-    while bytes.len() - end >= MANY_LANES {
-        let count = zeros_in_sixteen(u8x16::from_slice(&bytes[end..]));
-        if count < MANY_LANES {
-            return end + count;
+    let blocks = bytes.len() / MANY_LANES;
+    for block in 0..blocks {
+        let start = MANY_LANES * block;
+        if let Some(count) = zeros_in_sixteen(u8x16::from_slice(&bytes[start..])) {
+            return start + count;
         }
-        end += MANY_LANES;
     }
-    zeros_end(bytes, end)
+    let start = MANY_LANES * blocks;
+    start + zeros_byte_by_byte(&bytes[start..])
 }
 
-/// Where the zeros from `place` on end, byte by byte: at place 3 for `b"x0012"` and place 1.
+/// What [`zeros_in_front`] counts, for few bytes.
 #[inline(always)]
-fn zeros_end(bytes: &[u8], place: usize) -> usize
-    requires { place ≤ length bytes.now }
-    ensures end { result ≡ place + zeros_length (drop place bytes.now) }
+fn zeros_byte_by_byte(bytes: &[u8]) -> usize
+    ensures count { result ≡ zeros_length bytes.now }
     ensures within { result ≤ length bytes.now }
 {
-    let mut end = place;
-    while end < bytes.len() && bytes[end] == b'0' {
-        end += 1;
+    let mut count = 0;
+    while count < bytes.len() && bytes[count] == b'0' {
+        count += 1;
     }
-    end
+    count
 }
 
 /// The number of [`spelled_number`], from eight bytes at a time.

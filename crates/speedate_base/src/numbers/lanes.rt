@@ -1,6 +1,6 @@
 //! Texts of a fixed form, and digits, eight or sixteen bytes at a time.
 
-ghost use Rattle.std.specs.Prelude.{◌≡◌, ℕ, ◌+◌, ◌-◌, ◌*◌, ◌^◌, ◌<◌, ◌≤◌, ◌&&◌, IsTrue, length, drop, slice_index};
+ghost use Rattle.std.specs.Prelude.{◌≡◌, ℕ, ◌+◌, ◌-◌, ◌*◌, ◌^◌, ◌<◌, ◌≤◌, ◌&&◌, nat_lt, IsTrue, Some, None, if◌then◌else◌, length, drop, slice_index};
 ghost use Rattle.std.specs.Char.{is_ascii_digit};
 ghost use Rattle.std.specs.List.{list_all, prefix_len};
 ghost use Rattle.speedate_base.specs.Digits.{are_at_most, digits_value, eight_at, fit_length};
@@ -130,22 +130,27 @@ pub(crate) fn digits_in_front(lanes: u8x8) -> usize
     fit_length(lanes, u8x8::splat(b'0'))
 }
 
-/// How many digits stand at the front of sixteen bytes: 3 for `b"120.567890123456"`.
+/// How many digits are at the front of sixteen bytes: 3 for `b"120.567890123456"`. `None` if all are
+/// digits.
 #[inline(always)]
-pub(crate) fn digits_in_sixteen(lanes: u8x16) -> usize
-    ensures count { result ≡ prefix_len is_ascii_digit lanes }
+pub(crate) fn digits_in_sixteen(lanes: u8x16) -> Option<usize>
+    ensures count { result ≡ (if nat_lt (prefix_len is_ascii_digit lanes) 16
+        then Some (prefix_len is_ascii_digit lanes) else None) }
 {
-    let others = (lanes - u8x16::splat(b'0')).simd_gt(u8x16::splat(9));
-    (others.to_bitmask().trailing_zeros() as usize).min(MANY_LANES)
+    let values = lanes - u8x16::splat(b'0');
+    let others = values.simd_gt(u8x16::splat(9)).to_bitmask();
+    (others != 0).then_some(others.trailing_zeros() as usize)
 }
 
-/// How many zeros stand at the front of sixteen bytes: 3 for `b"0001234567890123"`.
+/// How many zeros are at the front of sixteen bytes: 3 for `b"0001234567890123"`. `None` if all are
+/// zeros.
 #[inline(always)]
-pub(crate) fn zeros_in_sixteen(lanes: u8x16) -> usize
-    ensures count { result ≡ zeros_length lanes }
+pub(crate) fn zeros_in_sixteen(lanes: u8x16) -> Option<usize>
+    ensures count { result ≡ (if nat_lt (zeros_length lanes) 16
+        then Some (zeros_length lanes) else None) }
 {
-    let others = lanes.simd_ne(u8x16::splat(b'0'));
-    (others.to_bitmask().trailing_zeros() as usize).min(MANY_LANES)
+    let others = lanes.simd_ne(u8x16::splat(b'0')).to_bitmask();
+    (others != 0).then_some(others.trailing_zeros() as usize)
 }
 
 /// The number that eight digits spell: 12,000,034 for `b"12000034"`.

@@ -3,6 +3,7 @@
 ghost use Rattle.std.specs.Prelude.{◌≡◌, ◌<◌, ◌≤◌, ◌^◌};
 
 use crate::faults::ParseError;
+use std::cmp::Ordering;
 
 /// The first second of the year 0000, counted from 1970-01-01T00:00:00.
 pub const FIRST_SECOND: i64 = -62_167_219_200;
@@ -24,7 +25,7 @@ impl UnixTime {
     ghost use Rattle.std.specs.Prelude.{IfOk, pos, ◌*ℤ◌, ◌+ℤ◌, unsigned_abs};
     ghost use Rattle.speedate_base.specs.Requirement.{result_map};
     ghost use Rattle.speedate_base.specs.Timestamp.{IsInYears, instant_at, range_answer};
-    ghost use Rattle.speedate_base.specs.Timestamp.{unix_instant, later_answer};
+    ghost use Rattle.speedate_base.specs.Timestamp.{unix_instant, instant_order, later_answer};
 
     /// The instant of a timestamp in seconds.
     #[inline(always)]
@@ -90,6 +91,15 @@ impl UnixTime {
             second,
             microsecond: sum % 1_000_000,
         })
+    }
+
+    /// Compares two instants, by second and then by microsecond: second 1 and 999,999 microseconds is less
+    /// than second 2.
+    #[inline(always)]
+    pub fn cmp_instant(&self, other: &UnixTime) -> Ordering
+        ensures order { result ≡ instant_order (unix_instant self.now) (unix_instant other.now) }
+    {
+        self.cmp(other)
     }
 
     /// The same instant, if it lies in the years 0000 to 9999: second 0 for second 0. Fails with

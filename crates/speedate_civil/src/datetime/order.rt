@@ -43,7 +43,7 @@ impl DateTime {
             (record { date = date; time = minute_time 1 0 (Some (pos 0)) }) }
     {
         let is_utc = self.time.tz_offset.is_some() && other.time.tz_offset.is_some();
-        self.instant(is_utc).cmp(&other.instant(is_utc))
+        self.instant(is_utc).cmp_instant(&other.instant(is_utc))
     }
 
     /// The instant of the date-time, in UTC or as a clock shows it; an absent offset is 0.

@@ -38,7 +38,7 @@ impl Time {
             (minute_time 1 0 (Some (pos 0))) }
     {
         let is_utc = self.tz_offset.is_some() && other.tz_offset.is_some();
-        self.instant(is_utc).cmp(&other.instant(is_utc))
+        self.instant(is_utc).cmp_instant(&other.instant(is_utc))
     }
 
     /// The instant of the time on 1970-01-01, in UTC or as a clock shows it; an absent offset is 0.

@@ -1,12 +1,9 @@
-use Rattle.std.proofs.Common.{◌≡◌, ◌+◌, ◌-◌, ◌≤◌, length}
+use Rattle.std.proofs.Common.{◌≡◌, ◌+◌, ◌*◌}
 use Rattle.speedate_base.specs.Digits.{run_length}
 use Rattle.speedate_base.proofs.numbers.digits.long_run_end.Given as goal
 
-abbrev pub invariant-loop-end : goal.invariant-loop-end
-invariant-loop-end l = record {
-  within : l.end ≤ length l.bytes;
-  run : l.place + run_length l.bytes l.place ≡ l.end + run_length l.bytes l.end;
+abbrev pub invariant-loop-block : goal.invariant-loop-block
+invariant-loop-block l = record {
+  run : run_length l.bytes l.place
+      ≡ 16 * l.block + run_length l.bytes (l.place + 16 * l.block);
 }
-
-abbrev pub decreases-loop-end : goal.decreases-loop-end
-decreases-loop-end l = length l.bytes - l.end

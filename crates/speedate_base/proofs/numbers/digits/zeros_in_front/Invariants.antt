@@ -1,12 +1,8 @@
-use Rattle.std.proofs.Common.{◌≡◌, ◌+◌, ◌-◌, ◌≤◌, length, drop}
+use Rattle.std.proofs.Common.{◌≡◌, ◌+◌, ◌*◌, drop}
 use Rattle.speedate_base.specs.Digits.{zeros_length}
 use Rattle.speedate_base.proofs.numbers.digits.zeros_in_front.Given as goal
 
-abbrev pub invariant-loop-end : goal.invariant-loop-end
-invariant-loop-end l = record {
-  within : l.end ≤ length l.bytes;
-  zeros : zeros_length l.bytes ≡ l.end + zeros_length (drop l.end l.bytes);
+abbrev pub invariant-loop-block : goal.invariant-loop-block
+invariant-loop-block l = record {
+  zeros : zeros_length l.bytes ≡ 16 * l.block + zeros_length (drop (16 * l.block) l.bytes);
 }
-
-abbrev pub decreases-loop-end : goal.decreases-loop-end
-decreases-loop-end l = length l.bytes - l.end

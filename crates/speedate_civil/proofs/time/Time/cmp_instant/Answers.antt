@@ -10,7 +10,7 @@ pub returns-clause-text_order : goal.returns-clause-text_order
 returns-clause-text_order c =
     let first = c.args.self.now in
     let second = c.args.other.now in
-    let order : c.cmp.result ≡ time_instant_order (time_of_day first) (time_of_day second) =
+    let order : c.cmp_instant.result ≡ time_instant_order (time_of_day first) (time_of_day second) =
     search rules in
     λ none nothing. order ∙ time_text-order (time_of_day first) (time_of_day second)
     (is_time first) (is_time second) none nothing
@@ -19,7 +19,7 @@ pub returns-clause-transitive : goal.returns-clause-transitive
 returns-clause-transitive c =
     let first = time_of_day c.args.self.now in
     let second = time_of_day c.args.other.now in
-    let order : c.cmp.result ≡ time_instant_order first second = search rules in
+    let order : c.cmp_instant.result ≡ time_instant_order first second = search rules in
     λ third one two before. by_instant-transitive (λ value. value.offset) time_instant first second
     (time_of_day third) one two (subst IsNotAfter order before)
 
