@@ -1,5 +1,5 @@
 -- Columns: the lines of a text as numbers.
-use Rattle.std.specs.Prelude.{◌≡◌, ◌≢◌, ℕ, ◌-◌, ◌^◌, ◌<◌, ◌≤◌, ◌==◌, Bool, false, ◌||◌, List, [], ◌∷◌, length, slice_index, take, drop, nat_lt, Option, Some, None, is_some, Result, Ok, Err, IfOk, ℤ, pos, unsigned_abs, if◌then◌else◌}
+use Rattle.std.specs.Prelude.{◌≡◌, ◌≢◌, ℕ, ◌-◌, ◌^◌, ◌<◌, ◌≤◌, Bool, false, ◌||◌, List, [], ◌∷◌, length, slice_index, take, drop, nat_lt, Option, Some, None, is_some, Result, Ok, Err, ℤ, pos, unsigned_abs, if◌then◌else◌}
 use Rattle.speedate_civil.specs.Base.{Behavior, ParseError}
 use Rattle.speedate_base.specs.Ascii.{carriage_return}
 use Rattle.speedate_base.specs.Config.{time_choices}
@@ -15,7 +15,6 @@ use Rattle.speedate_civil.specs.Time.{TimeOfDay, microsecond_of_day, time_answer
 pub use Rattle.speedate.specs.declared.column.LineConfig.{LineConfig}
 pub use Rattle.speedate.specs.declared.column.LineError.{LineError}
 use Rattle.speedate.specs.declared.column.Line.{Line}
-pub use Rattle.speedate.specs.declared.column.LineFront.{LineFront}
 use Rattle.speedate.specs.declared.column.clock.DateTimeClockReader.{DateTimeClockReader}
 use Rattle.speedate.specs.declared.column.clock.DateTimeOffsetReader.{DateTimeOffsetReader}
 use Rattle.speedate.specs.declared.column.date.DateReader.{DateReader}
@@ -82,25 +81,13 @@ pub record HasNoEnd (text : List ℕ) (size : ℕ) : Type 0 where
   pub one_line : IsOneLine text 0 size
   pub no_return : slice_index text (size - 1) ≢ carriage_return
 
--- what some bytes at the front of a text tell of a line: their own answer, and the error of each
--- line that goes on after them; if they have a number, they do not hold the line's end
+-- a number, and so many bytes at the front of a text that have it as a line and do not hold the
+-- line's end
 pub record IsFront {N : Type 0} (answer : List ℕ → Result N LineError) (text : List ℕ)
-    (front : LineFront N) : Type 0 where
-  pub within : front.size ≤ length text
-  pub answered : answer (take front.size text) ≡ front.answer
-  pub goes_on : (size : ℕ) → front.size < size → size ≤ length text
-      → answer (take size text) ≡ Err front.longer
-  pub number : IfOk front.answer (λ number. HasNoEnd text front.size)
-
--- what a front tells of a line of so many bytes: its answer, unless the line is shorter
-abbrev pub front_answer : {N : Type 0} → LineFront N → ℕ → Option (Result N LineError)
-front_answer front size =
-    if nat_lt front.size size then Some (Err front.longer)
-    else (if front.size == size then Some front.answer else None)
-
--- what so many bytes tell if each line that begins with them has this error
-abbrev pub refused_front : {N : Type 0} → LineError → ℕ → LineFront N
-refused_front error size = record { answer = Err error; size = size; longer = error }
+    (front : N × ℕ) : Type 0 where
+  pub within : front.1 ≤ length text
+  pub answered : answer (take front.1 text) ≡ Ok front.0
+  pub no_end : HasNoEnd text front.1
 
 -- the first whole line of a text takes so many bytes with its end, and this is what is read of it
 pub record IsFirstLineOf (config : LineConfig) (text read : List ℕ) (size : ℕ) : Type 0 where

@@ -85,54 +85,15 @@ pub trait LineReader {
     fn number(&self, line: &[u8]) -> Result<Self::Number, LineError>
         ensures answer { result ≡ answer self.now line.now };
 
-    /// What the first bytes of a text tell of the line that begins with them, as far as the reader knows
-    /// it without the line's end: 1, 10 bytes, and `ExtraCharacters`, for `b"1970-01-02\n1970-01-03"`.
-    /// `None` tells nothing.
-    fn front(&self, text: &[u8]) -> Option<LineFront<Self::Number>>
-        ensures front { IfSome result (IsFront (answer self.now) text.now) };
-}
-
-/// What the first bytes of a text tell of the line that begins with them. If they have a number, no line
-/// feed is among them, and no carriage return is the last.
-#[derive(Clone, Copy, Debug)]
-pub struct LineFront<N> {
-    /// The number that these bytes have as a line, or its error.
-    pub answer: Result<N, LineError>,
-    /// How many bytes they are.
-    pub size: usize,
-    /// The error of a line that goes on after them.
-    pub longer: LineError,
-}
-
-impl<N: Copy> LineFront<N> {
-    ghost use Rattle.std.specs.Prelude.{◌≡◌};
-    ghost use Rattle.speedate.specs.Column.{front_answer, refused_front};
-
-    /// The answer to a line of so many bytes, unless it is shorter than the front.
+    /// The number of the line that begins a text, if its first bytes show it, and how many bytes these
+    /// are: 1 and 10 for `b"1970-01-02\n1970-01-03"`. They have this number as a line, and hold no line's
+    /// end. `None` says nothing of the line, which is then searched for its end, and read by
+    /// [`LineReader::number`], as is a line that does not end after these bytes.
     #[inline(always)]
-    fn answer_to(&self, size: usize) -> Option<Result<N, LineError>>
-        ensures answer { result ≡ front_answer self.now size }
+    fn front(&self, text: &[u8]) -> Option<(Self::Number, usize)>
+        ensures front { IfSome result (IsFront (answer self.now) text.now) }
     {
-        if self.size < size {
-            return Some(Err(self.longer));
-        }
-        if self.size == size {
-            return Some(self.answer);
-        }
         None
-    }
-
-    /// What the first `size` bytes of a text tell if each line that begins with them is refused with this
-    /// error.
-    #[inline(always)]
-    fn refused(error: LineError, size: usize) -> Self
-        ensures front { result ≡ refused_front error size }
-    {
-        LineFront {
-            answer: Err(error),
-            size,
-            longer: error,
-        }
     }
 }
 

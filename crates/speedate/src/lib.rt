@@ -60,8 +60,8 @@ mod lines;
 
 pub use column::{
     DateReader, DateTimeClockReader, DateTimeOffsetReader, DateTimeParser, DateTimeReader,
-    DurationReader, LineConfig, LineError, LineFront, LineReader, Progress, TimeOffsetReader,
-    TimeParser, TimeReader, read_column, read_column_with_errors, timestamp_microseconds,
+    DurationReader, LineConfig, LineError, LineReader, Progress, TimeOffsetReader, TimeParser,
+    TimeReader, read_column, read_column_with_errors, timestamp_microseconds,
 };
 pub use duration::{DAYS_MAX, Duration};
 pub use lines::line_end;

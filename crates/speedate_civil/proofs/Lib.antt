@@ -10,7 +10,6 @@ pub mod DateTimestampLemmas
 mod DayNumberLemmas
 mod ErrorPlaceLemmas
 mod FrontLemmas
-pub mod LongerTextLemmas
 pub mod InstantOrderLemmas
 mod NoControlLemmas
 mod MomentLemmas

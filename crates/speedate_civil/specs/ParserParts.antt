@@ -1,5 +1,5 @@
 -- What parsers decide by on their way to an answer.
-use Rattle.std.specs.Prelude.{◌≡◌, ℕ, ◌≤◌, List, Bool, true, false, Option, Some, None, codes, drop, length, if◌then◌else◌}
+use Rattle.std.specs.Prelude.{◌≡◌, ℕ, ◌≤◌, List, Bool, true, false, codes, drop, length, if◌then◌else◌}
 use Rattle.speedate_civil.specs.Base.{ParseError}
 use Rattle.speedate_base.specs.Digits.{eight_at, fit_length, two_digits_at, two_digit_value}
 use Rattle.speedate_civil.specs.declared.time.pure.AfterMinute.{AfterMinute}
@@ -38,23 +38,3 @@ may_be_number ParseError.TooShort = true
 may_be_number ParseError.InvalidCharYear = true
 may_be_number ParseError.InvalidCharDateSep = true
 may_be_number other = false
-
--- how many bytes at the front of a text show that it is refused as a date-time by this fault,
--- whatever follows them, if that is known: a date, a separator, and a clock up to its second, or
--- up to the seventh digit of its fraction; no fault that a number may have is among these
-abbrev pub refusal_size : ParseError → Option ℕ
-refusal_size ParseError.InvalidCharMonth = Some 19
-refusal_size ParseError.InvalidCharDay = Some 19
-refusal_size ParseError.OutOfRangeMonth = Some 19
-refusal_size ParseError.OutOfRangeDay = Some 19
-refusal_size ParseError.InvalidCharDateTimeSep = Some 19
-refusal_size ParseError.InvalidCharHour = Some 19
-refusal_size ParseError.InvalidCharTimeSep = Some 19
-refusal_size ParseError.InvalidCharMinute = Some 19
-refusal_size ParseError.OutOfRangeHour = Some 19
-refusal_size ParseError.OutOfRangeMinute = Some 19
-refusal_size ParseError.InvalidCharSecond = Some 19
-refusal_size ParseError.OutOfRangeSecond = Some 19
-refusal_size ParseError.SecondFractionMissing = Some 27
-refusal_size ParseError.SecondFractionTooLong = Some 27
-refusal_size other = None

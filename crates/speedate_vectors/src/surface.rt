@@ -4,9 +4,9 @@ use speedate::{
     CallKind, ConfigError, Date, DateConfig, DateConfigBuilder, DateReader, DateTime,
     DateTimeClockReader, DateTimeConfig, DateTimeConfigBuilder, DateTimeOffsetReader,
     DateTimeParser, DateTimeReader, Decimal, Duration, DurationReader, IntFloat, IsoOrder,
-    LineConfig, LineError, LineFront, LineReader, MicrosecondsPrecisionOverflowBehavior, Moment,
-    ParseError, Progress, Refused, Time, TimeConfig, TimeConfigBuilder, TimeOffsetReader,
-    TimeParser, TimeReader, TimestampUnit,
+    LineConfig, LineError, LineReader, MicrosecondsPrecisionOverflowBehavior, Moment, ParseError,
+    Progress, Refused, Time, TimeConfig, TimeConfigBuilder, TimeOffsetReader, TimeParser,
+    TimeReader, TimestampUnit,
 };
 use std::error::Error;
 use std::fmt::{Debug, Display};
@@ -31,16 +31,7 @@ fn is_error<T: Error + Copy + Eq>() {}
 #[test]
 fn each_type_has_its_traits() {
     is_copied::<(Decimal<'_>, IntFloat<'_>)>();
-    is_copied::<
-        (
-            LineConfig,
-            LineFront<i64>,
-            Progress,
-            DateTimeParser,
-            TimeParser,
-            CallKind,
-        ),
-    >();
+    is_copied::<(LineConfig, Progress, DateTimeParser, TimeParser, CallKind)>();
     is_reader::<DateReader>();
     is_reader::<DateTimeReader>();
     is_reader::<DateTimeClockReader>();

@@ -4,7 +4,7 @@ ghost use Rattle.std.specs.Prelude.{◌≡◌, Ok};
 ghost use Rattle.speedate_civil.specs.DateTime.{date_and_time, local_microsecond};
 ghost use Rattle.speedate.specs.Column.{offset_as_number};
 
-use super::{DateTimeParser, LineError, LineFront, LineReader};
+use super::{DateTimeParser, LineError, LineReader};
 use speedate_base::faults::ParseError;
 use speedate_civil::datetime::DateTime;
 
@@ -41,11 +41,6 @@ impl LineReader for DateTimeClockReader {
             Err(fault) => Err(LineError::Parse(fault)),
         }
     }
-
-    #[inline(always)]
-    fn front(&self, text: &[u8]) -> Option<LineFront<i64>> {
-        None
-    }
 }
 
 impl LineReader for DateTimeOffsetReader {
@@ -60,11 +55,6 @@ impl LineReader for DateTimeOffsetReader {
             Ok(value) => offset_number(value.time.tz_offset),
             Err(fault) => Err(LineError::Parse(fault)),
         }
-    }
-
-    #[inline(always)]
-    fn front(&self, text: &[u8]) -> Option<LineFront<i32>> {
-        None
     }
 }
 

@@ -1,8 +1,7 @@
 //! Columns of dates.
 
-use super::{LineError, LineFront, LineReader};
+use super::{LineError, LineReader};
 use speedate_base::config::DateConfig;
-use speedate_base::faults::ParseError;
 use speedate_civil::date::Date;
 
 /// Reads a line as a date, and counts its days from 1970-01-01: 1 for `1970-01-02`, and -1 for
@@ -42,13 +41,9 @@ impl LineReader for DateReader {
     }
 
     #[inline(always)]
-    fn front(&self, text: &[u8]) -> Option<LineFront<i32>> {
+    fn front(&self, text: &[u8]) -> Option<(i32, usize)> {
         match Date::parse_front(text) {
-            Ok((date, size)) => Some(LineFront {
-                answer: Ok(date.days_since(&EPOCH)),
-                size,
-                longer: LineError::Parse(ParseError::ExtraCharacters),
-            }),
+            Ok((date, size)) => Some((date.days_since(&EPOCH), size)),
             Err(_) => None,
         }
     }

@@ -5,16 +5,14 @@ ghost use Rattle.std.specs.Option.{ForSome};
 ghost use Rattle.speedate_base.specs.Offset.{IsOffset};
 ghost use Rattle.speedate_base.specs.Timestamp.{IsInYears, first_second, last_second, unix_instant};
 ghost use Rattle.speedate_civil.specs.DateTime.{date_time_at, utc_microsecond, utc_second};
-ghost use Rattle.speedate_civil.specs.ParserParts.{refusal_size};
 
-use super::{LineError, LineFront, LineReader};
+use super::{LineError, LineReader};
 use speedate_base::config::{DateTimeConfig, MicrosecondsPrecisionOverflowBehavior, TimeConfig};
 use speedate_base::faults::ParseError;
 use speedate_base::util::UnixTime;
 use speedate_civil::datetime::{
     DateTime, quick_front, require_standard_date_time, timestamp_instant,
 };
-use speedate_civil::time::end_fault;
 
 /// How a column parses its date-times: `DateTimeParser::Rfc3339(TimeConfig::default())` takes
 /// `1970-01-01T00:00Z`, and refuses `0`.
@@ -59,15 +57,13 @@ pub struct DateTimeReader {
 }
 
 impl DateTimeReader {
-    ghost use Rattle.std.specs.Prelude.{◌≡◌, Err, IfSome, Ok};
+    ghost use Rattle.std.specs.Prelude.{◌≡◌, Ok};
     ghost use Rattle.speedate_base.specs.Config.{choices, time_choices};
     ghost use Rattle.speedate_base.specs.Requirement.{first_fault_or, result_and_then, result_map};
     ghost use Rattle.speedate_base.specs.Timestamp.{IsInYears, unix_instant};
     ghost use Rattle.speedate_civil.specs.DateTime.{date_and_time, date_time_at};
-    ghost use Rattle.speedate_civil.specs.DateTime.{date_time_by_config, date_time_front};
-    ghost use Rattle.speedate_civil.specs.DateTime.{utc_microsecond};
-    ghost use Rattle.speedate.specs.Column.{IsFront, as_number, date_time_number, text_behavior};
-    ghost use Rattle.speedate.specs.Column.{text_table, with_offset};
+    ghost use Rattle.speedate_civil.specs.DateTime.{date_time_by_config, utc_microsecond};
+    ghost use Rattle.speedate.specs.Column.{as_number, text_behavior, text_table, with_offset};
 
     /// The number of a line by its date-time, or by the error of a line that is none.
     #[inline(always)]
@@ -108,19 +104,6 @@ impl DateTimeReader {
             }
         }
         self.microsecond(value)
-    }
-
-    /// What the first bytes of a text tell of a line, if they are refused as a date-time by this error.
-    #[inline(always)]
-    fn refused_front(&self, text: &[u8], fault: ParseError) -> Option<LineFront<i64>>
-        requires refused { date_time_front (text_behavior self.now.parser) text.now ≡ Err fault }
-        ensures front { IfSome result (IsFront (date_time_number self.now) text.now) }
-    {
-        let size = refusal_size(fault)?;
-        if text.len() < size {
-            return None;
-        }
-        Some(LineFront::refused(LineError::Parse(fault), size))
     }
 
     /// The number of a line that may be a timestamp, whose instant is counted without the calendar.
@@ -189,14 +172,13 @@ impl LineReader for DateTimeReader {
     }
 
     #[inline(always)]
-    fn front(&self, text: &[u8]) -> Option<LineFront<i64>> {
-        match quick_front(text, &self.text_config()) {
-            Ok((value, size)) => Some(LineFront {
-                answer: self.text_answer(&text[..size], &value),
-                size,
-                longer: LineError::Parse(end_fault(value.time.tz_offset)),
-            }),
-            Err(fault) => self.refused_front(text, fault),
+    fn front(&self, text: &[u8]) -> Option<(i64, usize)> {
+        let Ok((value, size)) = quick_front(text, &self.text_config()) else {
+            return None;
+        };
+        match self.text_answer(&text[..size], &value) {
+            Ok(number) => Some((number, size)),
+            Err(_) => None,
         }
     }
 }
@@ -221,28 +203,4 @@ fn timestamp_second(time: UnixTime, offset: Option<i32>) -> i64
     ensures largest { result ≤ℤ (last_second +ℤ pos 86399) }
 {
     time.second - i64::from(offset.unwrap_or(0))
-}
-
-/// How many bytes at the front of a text show that it is refused as a date-time by this error, whatever
-/// follows them, if that is known.
-#[inline(always)]
-fn refusal_size(fault: ParseError) -> Option<usize>
-    ensures size { result ≡ refusal_size fault }
-{
-    match fault {
-        ParseError::InvalidCharMonth
-        | ParseError::InvalidCharDay
-        | ParseError::OutOfRangeMonth
-        | ParseError::OutOfRangeDay
-        | ParseError::InvalidCharDateTimeSep
-        | ParseError::InvalidCharHour
-        | ParseError::InvalidCharTimeSep
-        | ParseError::InvalidCharMinute
-        | ParseError::OutOfRangeHour
-        | ParseError::OutOfRangeMinute
-        | ParseError::InvalidCharSecond
-        | ParseError::OutOfRangeSecond => Some(19),
-        ParseError::SecondFractionMissing | ParseError::SecondFractionTooLong => Some(27),
-        _ => None,
-    }
 }

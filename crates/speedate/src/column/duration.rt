@@ -1,6 +1,6 @@
 //! Columns of durations.
 
-use super::{LineError, LineFront, LineReader};
+use super::{LineError, LineReader};
 use crate::duration::Duration;
 use speedate_base::config::TimeConfig;
 
@@ -45,10 +45,5 @@ impl LineReader for DurationReader {
             Ok(duration) => Self::microseconds(&duration),
             Err(fault) => Err(LineError::Parse(fault)),
         }
-    }
-
-    #[inline(always)]
-    fn front(&self, text: &[u8]) -> Option<LineFront<i64>> {
-        None
     }
 }

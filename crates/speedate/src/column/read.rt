@@ -160,25 +160,19 @@ fn entry<N: Copy>(answer: Result<N, LineError>, refused: Option<N>) -> Result<(N
     }
 }
 
-/// The first whole line of a text, if it has one. A line that is read at the front of the text is not
-/// searched for its end, and one whose answer the front tells is parsed once.
+/// The first whole line of a text, if it has one. A line whose number its first bytes show is not searched
+/// for its end.
 #[inline(always)]
 fn first_line<R: LineReader>(text: &[u8], config: LineConfig, reader: &R) -> Option<Line<R::Number>>
     ensures line { MatchOption result (whole_lines config.at_end text.now ≡ [])
         (IsFirstLine (R.answer reader.now) config text.now) }
 {
-    if let Some(front) = reader.front(text) {
-        if let Ok(number) = front.answer {
-            if let Some(size) = size_with_end(text, front.size, config) {
-                return Some(Line {
-                    answer: Ok(number),
-                    size,
-                });
-            }
-        }
-        let (read, size) = first_size(text, config)?;
-        if let Some(answer) = front.answer_to(read) {
-            return Some(Line { answer, size });
+    if let Some((number, read)) = reader.front(text) {
+        if let Some(size) = size_with_end(text, read, config) {
+            return Some(Line {
+                answer: Ok(number),
+                size,
+            });
         }
     }
     searched_line(text, config, reader)

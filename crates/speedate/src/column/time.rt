@@ -4,7 +4,7 @@ ghost use Rattle.std.specs.Prelude.{◌≡◌, pos};
 ghost use Rattle.speedate_civil.specs.Time.{microsecond_of_day, time_of_day};
 
 use super::clock::offset_number;
-use super::{LineError, LineFront, LineReader};
+use super::{LineError, LineReader};
 use speedate_base::config::{MicrosecondsPrecisionOverflowBehavior, TimeConfig};
 use speedate_base::faults::ParseError;
 use speedate_civil::time::Time;
@@ -62,11 +62,6 @@ impl LineReader for TimeReader {
             Err(fault) => Err(LineError::Parse(fault)),
         }
     }
-
-    #[inline(always)]
-    fn front(&self, text: &[u8]) -> Option<LineFront<i64>> {
-        None
-    }
 }
 
 impl LineReader for TimeOffsetReader {
@@ -81,11 +76,6 @@ impl LineReader for TimeOffsetReader {
             Ok(time) => offset_number(time.tz_offset),
             Err(fault) => Err(LineError::Parse(fault)),
         }
-    }
-
-    #[inline(always)]
-    fn front(&self, text: &[u8]) -> Option<LineFront<i32>> {
-        None
     }
 }
 

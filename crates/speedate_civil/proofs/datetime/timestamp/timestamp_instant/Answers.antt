@@ -1,10 +1,9 @@
 use Rattle.std.proofs.Common.{◌∙◌, Result, ap, ap₂, refl, rules, sym}
-use Rattle.speedate_civil.specs.Base.{ParseError}
 use Rattle.speedate_base.specs.Numbers.{Number, number_answer}
 use Rattle.speedate_base.specs.Requirement.{or_number, result_map}
 use Rattle.std.specs.Option.{option_map}
 use Rattle.speedate_civil.specs.DateTime.{DateAndTime, date_time_answer, date_time_at}
-use Rattle.speedate_civil.specs.DateTime.{date_time_answer_or, number_instant_or}
+use Rattle.speedate_civil.specs.DateTime.{number_instant_or}
 use Rattle.speedate_civil.specs.ParserParts.{may_be_number}
 use Rattle.speedate_base.proofs.RefusalLemmas.{or_number-map}
 use Rattle.speedate_civil.proofs.ErrorPlaceLemmas.{date_time_answer-fault}

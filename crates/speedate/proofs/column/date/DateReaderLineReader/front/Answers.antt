@@ -1,9 +1,7 @@
 use Rattle.std.proofs.Common.{rules, ◌∙◌, ap, sym, refl, Ok}
-use Rattle.speedate_civil.specs.Base.{ParseError}
 use Rattle.speedate_civil.specs.Date.{date_answer, ymd}
-use Rattle.speedate.specs.Column.{IsFront, LineError, date_number}
-use Rattle.speedate.proofs.FrontNumberLemmas.{HasNoEnd-read, date_number-longer}
-use Rattle.speedate.proofs.FrontNumberLemmas.{date_number-of_date}
+use Rattle.speedate.specs.Column.{IsFront, date_number}
+use Rattle.speedate.proofs.FrontNumberLemmas.{HasNoEnd-read, date_number-of_date}
 use Rattle.speedate.proofs.column.date.DateReaderLineReader.front.Goals as goal
 
 pub returns-in-Ok : goal.returns-in-Ok
@@ -13,16 +11,11 @@ returns-in-Ok c =
     let date = ymd c.in-Ok.date in
     let size = c.in-Ok.size in
     let front = c.in-Ok.ensures in
-    let is : IsFront (date_number reader) text (record {
-      answer = Ok c.days_since.result;
-      size = size;
-      longer = LineError.Parse ParseError.ExtraCharacters;
-    }) =
+    let is : IsFront (date_number reader) text (c.days_since.result, size) =
     record {
       within = front.within;
       answered = date_number-of_date reader _ date front.alone
           ∙ ap Ok (sym c.days_since.ensures.days);
-      goes_on = λ count. date_number-longer reader text count (date, size) (sym front.answer);
-      number = HasNoEnd-read date_answer text date size refl front.alone front.no_control;
+      no_end = HasNoEnd-read date_answer text date size refl front.alone front.no_control;
     } in
     search rules
