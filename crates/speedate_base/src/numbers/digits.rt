@@ -115,6 +115,9 @@ pub(crate) fn long_run_end(bytes: &[u8], place: usize) -> usize
     ensures end { result ≡ place + run_length bytes.now place }
     ensures within { result ≤ length bytes.now }
 {
+    if bytes.len() - place < MANY_LANES {
+        return run_end(bytes, place);
+    }
     let blocks = (bytes.len() - place) / MANY_LANES;
     for block in 0..blocks {
         let start = place + MANY_LANES * block;
@@ -194,7 +197,8 @@ pub(crate) fn are_zeros(digits: &[u8]) -> bool
     requires { IsTrue (list_all is_ascii_digit digits.now) }
     ensures { result ≡ (digits_value digits.now == 0) }
 {
-    zeros_in_front(digits) == digits.len()
+    // Often there are none.
+    digits.is_empty() || zeros_in_front(digits) == digits.len()
 }
 
 /// How many zeros stand at the front of bytes: 3 for `b"00012"`.
@@ -203,6 +207,9 @@ fn zeros_in_front(bytes: &[u8]) -> usize
     ensures count { result ≡ zeros_length bytes.now }
     ensures within { result ≤ length bytes.now }
 {
+    if bytes.len() < MANY_LANES {
+        return zeros_byte_by_byte(bytes);
+    }
     let blocks = bytes.len() / MANY_LANES;
     for block in 0..blocks {
         let start = MANY_LANES * block;
