@@ -1,6 +1,6 @@
 //! Offsets from UTC, after a time.
 
-ghost use Rattle.std.specs.Prelude.{◌≡◌, ◌≤◌, ◌+◌, ◌<◌, ◌∷◌, ◌*◌, ◌++◌, ◌==◌, ◌||◌, ℕ, IfErr, IfOk, Ok, IsTrue, length, drop, codes, if◌then◌else◌, unsigned_abs};
+ghost use Rattle.std.specs.Prelude.{◌≡◌, ◌≤◌, ◌+◌, ◌<◌, ◌∷◌, ◌*◌, ◌++◌, ◌==◌, ◌||◌, ℕ, IfErr, IfOk, IfSome, Ok, Some, IsTrue, length, drop, codes, if◌then◌else◌, unsigned_abs};
 ghost use Rattle.std.specs.Int.{is_negative};
 ghost use Rattle.std.specs.Option.{ForSome};
 ghost use Rattle.arrayvec.specs.ArrayString.{array_string_len};
@@ -11,14 +11,16 @@ ghost use Rattle.speedate_base.specs.Offset.{IsOffset, IsWholeMinutes};
 ghost use Rattle.speedate_base.specs.Timestamp.{seconds_per_day};
 ghost use Rattle.speedate_base.specs.Requirement.{first_refusal_or, shifted};
 ghost use Rattle.speedate_civil.specs.Time.{end_fault, has_minus_sign, is_plus_or_minus, is_utc};
-ghost use Rattle.speedate_civil.specs.Time.{offset_digits, offset_front_or, signed_front_or};
+ghost use Rattle.speedate_civil.specs.ParserParts.{IsOffsetOrUtc};
+ghost use Rattle.speedate_civil.specs.Time.{offset_digits, offset_front_or, signed_front};
+ghost use Rattle.speedate_civil.specs.Time.{signed_front_or};
 ghost use Rattle.speedate_civil.specs.Time.{offset_minute, offset_digits_size, offset_size_text};
 ghost use Rattle.speedate_civil.specs.Time.{offset_text};
 
 use crate::text::two_digit_text;
 use arrayvec::ArrayString;
 use speedate_base::faults::ParseError;
-use speedate_base::numbers::{byte_at, digit_pairs, eight_bytes, fit_length};
+use speedate_base::numbers::{byte_at, digit_pairs, eight_bytes, first_eight, fit_length};
 use speedate_base::refusal::Refusal;
 use speedate_base::util::SECONDS_PER_DAY;
 use std::simd::prelude::*;
@@ -57,6 +59,49 @@ pub(crate) fn parse_offset<E: Refusal>(
     Ok((None, 0))
 }
 
+/// The offset in seconds that begins at `place`, and how many bytes it takes, if it is `Z`, `z`, or a sign
+/// with `HH:MM`; UTC, in no byte, if none begins there and `assumes_utc` is true. Nine bytes stand at
+/// `place`. `None` for any other offset, and if there is none but is to be one.
+#[inline(always)]
+pub(crate) fn offset_or_utc(bytes: &[u8], place: usize, assumes_utc: bool) -> Option<(i32, usize)>
+    requires place { place + 9 ≤ length bytes.now }
+    ensures offset { IfSome result (IsOffsetOrUtc assumes_utc (drop place bytes.now)) }
+    ensures short { IfSome result (λ front. front.1 ≤ 6) }
+{
+    let first = bytes[place];
+    if is_utc(first) {
+        return Some((0, 1));
+    }
+    if is_plus_or_minus(first) {
+        return colon_offset(first == b'-', first_eight(&bytes[place + 1..]));
+    }
+    if assumes_utc && first != 0xe2 {
+        Some((0, 0))
+    } else {
+        None
+    }
+}
+
+/// The offset whose eight bytes after the sign are given, if it is `HH:MM`, and how many bytes it takes
+/// with its sign.
+#[inline(always)]
+fn colon_offset(west: bool, front: u8x8) -> Option<(i32, usize)>
+    ensures offset { IfSome result (λ read. (read.1 ≡ 6)
+        × (signed_front west 1 front ≡ Ok (Some read.0, 6))) }
+    ensures range { IfSome result (λ read. IsOffset read.0) }
+{
+    let pattern = u8x8::from_array(*b"00:00:00");
+    if fit_length(front, pattern) < 5 {
+        return None;
+    }
+    let [hour, _, _, minute, _, _, _, _] = digit_pairs(front, pattern, 5);
+    if hour > 23 || minute > 59 {
+        return None;
+    }
+    let seconds = 3600 * u32::from(hour) + 60 * u32::from(minute);
+    Some((with_sign(west, seconds), 6))
+}
+
 /// The error of a text that goes on after a time with this offset, or after one without:
 /// `InvalidCharTzSign` for `None`.
 #[inline(always)]
@@ -70,12 +115,12 @@ pub fn end_fault(offset: Option<i32>) -> ParseError
     }
 }
 
-/// Whether a byte is `+` or `-`, the neighbours of `,`: one test, and so one branch, tells both.
+/// Whether a byte is `+` or `-`.
 #[inline(always)]
 pub(super) fn is_plus_or_minus(byte: u8) -> bool
     ensures value { result ≡ is_plus_or_minus byte }
 {
-    byte.abs_diff(b',') == 1
+    byte == b'+' || byte == b'-'
 }
 
 /// Whether the three bytes of U+2212, the minus sign, begin at `place`.
