@@ -56,7 +56,7 @@ date_number-of_date (DateReader.OrTimestamp config) line date read =
 date_time_of_line-read : (parser : DateTimeParser) (line : List ℕ) (value : DateAndTime)
     → ((behavior : Behavior) → date_time_answer behavior line ≡ Ok value)
     → taken_answer parser line ≡ Ok tt → date_time_of_line parser line ≡ Ok value
-date_time_of_line-read (DateTimeParser.Rfc3339 config) line value read taken = read _
+date_time_of_line-read (DateTimeParser.Text config) line value read taken = read _
 date_time_of_line-read (DateTimeParser.OrTimestamp config) line value read taken =
     let time = config.time_config in
     let behavior = time.microseconds_precision_overflow_behavior in

@@ -132,13 +132,13 @@ date_number reader line = as_number (days_between epoch) (date_of_line reader li
 
 -- whether a line that is a date-time is one for a parser, or the fault
 abbrev pub taken_answer : DateTimeParser → List ℕ → Result (Unit {0}) ParseError
-taken_answer (DateTimeParser.Rfc3339 config) line = Ok tt
+taken_answer (DateTimeParser.Text config) line = Ok tt
 taken_answer (DateTimeParser.OrTimestamp config) line = Ok tt
 taken_answer (DateTimeParser.Strict behavior) line = first_fault_or (strict_date_time line) (Ok tt)
 
 -- the date-time of a line, or the error
 abbrev pub date_time_of_line : DateTimeParser → List ℕ → Result DateAndTime ParseError
-date_time_of_line (DateTimeParser.Rfc3339 config) line =
+date_time_of_line (DateTimeParser.Text config) line =
     date_time_answer (time_choices config).behavior line
 date_time_of_line (DateTimeParser.OrTimestamp config) line = date_time_by_config config line
 date_time_of_line (DateTimeParser.Strict behavior) line = strict_date_time_answer behavior line
@@ -180,7 +180,7 @@ date_time_offset_number reader line =
 
 -- the time of a line, or the error
 abbrev pub time_of_line : TimeParser → List ℕ → Result TimeOfDay ParseError
-time_of_line (TimeParser.Rfc3339 config) line = time_answer (time_choices config).behavior line
+time_of_line (TimeParser.Text config) line = time_answer (time_choices config).behavior line
 time_of_line (TimeParser.Strict behavior) line = strict_time_answer behavior line
 
 -- the number of a line in a column of times: the microseconds after midnight that its clock shows,

@@ -14,12 +14,12 @@ use speedate_civil::datetime::{
     DateTime, require_standard_date_time, timestamp_instant, utc_front,
 };
 
-/// How a column parses its date-times: `DateTimeParser::Rfc3339(TimeConfig::default())` takes
+/// How a column parses its date-times: `DateTimeParser::Text(TimeConfig::default())` takes
 /// `1970-01-01T00:00Z`, and refuses `0`.
 #[derive(Clone, Copy, Debug)]
 pub enum DateTimeParser {
     /// No timestamps, as [`DateTime::parse_bytes_rfc3339_with_config`].
-    Rfc3339(TimeConfig),
+    Text(TimeConfig),
     /// Timestamps too, as [`DateTime::parse_bytes_with_config`].
     OrTimestamp(DateTimeConfig),
     /// Texts of RFC 3339 alone, as [`DateTime::parse_bytes_strict`].
@@ -36,7 +36,7 @@ impl DateTimeParser {
         ensures answer { result gives date_time_of_line self.now line.now }
     {
         match self {
-            DateTimeParser::Rfc3339(config) => {
+            DateTimeParser::Text(config) => {
                 DateTime::parse_bytes_rfc3339_with_config(line, config)
             }
             DateTimeParser::OrTimestamp(config) => DateTime::parse_bytes_with_config(line, config),
@@ -144,7 +144,7 @@ impl LineReader for DateTimeReader {
 
     fn number(&self, line: &[u8]) -> Result<i64, LineError> {
         match &self.parser {
-            DateTimeParser::Rfc3339(config) => {
+            DateTimeParser::Text(config) => {
                 self.number_of(DateTime::parse_bytes_rfc3339_with_config(line, config))
             }
             DateTimeParser::OrTimestamp(config) => self.number_or_timestamp(line, config),
