@@ -17,8 +17,9 @@ const FULL_LENGTH: usize = 35;
 
 /// The microseconds from 1970-01-01T00:00:00 in UTC to the date-time at the front of a text, and how many
 /// bytes it takes, if the text has 35 bytes or more and the date-time the form that most have: seconds,
-/// at most six digits after them, and `Z`, `z`, `+HH:MM` or `-HH:MM`, or nothing if `assumes_utc` is true.
-/// It is 1,000,000, and 20, from `b"1970-01-01T00:00:01Z\n1970-01-01T00:00Z"`.
+/// at most six digits after them, and then `Z`, `z`, or `+` or `-` with `HH:MM` or `HHMM`. If
+/// `assumes_utc` is true, the offset may be missing. It is 1,000,000, and 20, from
+/// `b"1970-01-01T00:00:01Z\n1970-01-01T00:00Z"`.
 ///
 /// `None` says nothing of the text: it may begin with a date-time all the same.
 #[inline(always)]

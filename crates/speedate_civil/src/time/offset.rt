@@ -59,9 +59,9 @@ pub(crate) fn parse_offset<E: Refusal>(
     Ok((None, 0))
 }
 
-/// The offset in seconds that begins at `place`, and how many bytes it takes, if it is `Z`, `z`, or a sign
-/// with `HH:MM`; UTC, in no byte, if none begins there and `assumes_utc` is true. Nine bytes stand at
-/// `place`. `None` for any other offset, and if there is none but is to be one.
+/// The offset in seconds that begins at `place`, and how many bytes it takes, if it is `Z`, `z`, or `+` or
+/// `-` with `HH:MM` or `HHMM`; UTC, in no byte, if none begins there and `assumes_utc` is true. The text
+/// has nine bytes from `place` on. `None` for any other offset, and for a missing one that is needed.
 #[inline(always)]
 pub(crate) fn offset_or_utc(bytes: &[u8], place: usize, assumes_utc: bool) -> Option<(i32, usize)>
     requires place { place + 9 ≤ length bytes.now }
@@ -69,11 +69,11 @@ pub(crate) fn offset_or_utc(bytes: &[u8], place: usize, assumes_utc: bool) -> Op
     ensures short { IfSome result (λ front. front.1 ≤ 6) }
 {
     let first = bytes[place];
+    if is_plus_or_minus(first) {
+        return short_offset(first == b'-', first_eight(&bytes[place + 1..]));
+    }
     if is_utc(first) {
         return Some((0, 1));
-    }
-    if is_plus_or_minus(first) {
-        return colon_offset(first == b'-', first_eight(&bytes[place + 1..]));
     }
     if assumes_utc && first != 0xe2 {
         Some((0, 0))
@@ -82,13 +82,28 @@ pub(crate) fn offset_or_utc(bytes: &[u8], place: usize, assumes_utc: bool) -> Op
     }
 }
 
-/// The offset whose eight bytes after the sign are given, if it is `HH:MM`, and how many bytes it takes
-/// with its sign.
+/// The offset whose eight bytes after the sign are given, if it is `HH:MM` or `HHMM`, and how many bytes it
+/// takes with its sign.
 #[inline(always)]
-fn colon_offset(west: bool, front: u8x8) -> Option<(i32, usize)>
-    ensures offset { IfSome result (λ read. (read.1 ≡ 6)
-        × (signed_front west 1 front ≡ Ok (Some read.0, 6))) }
+fn short_offset(west: bool, front: u8x8) -> Option<(i32, usize)>
+    ensures offset { IfSome result (λ read. signed_front west 1 front ≡ Ok (Some read.0, read.1)) }
     ensures range { IfSome result (λ read. IsOffset read.0) }
+    ensures short { IfSome result (λ read. read.1 ≤ 6) }
+{
+    match colon_offset(west, front) {
+        Some(offset) => Some((offset, 6)),
+        None => match plain_offset(west, front) {
+            Some(offset) => Some((offset, 5)),
+            None => None,
+        },
+    }
+}
+
+/// The offset whose bytes after the sign are given, if it is `HH:MM`.
+#[inline(always)]
+fn colon_offset(west: bool, front: u8x8) -> Option<i32>
+    ensures offset { IfSome result (λ offset. signed_front west 1 front ≡ Ok (Some offset, 6)) }
+    ensures range { IfSome result IsOffset }
 {
     let pattern = u8x8::from_array(*b"00:00:00");
     if fit_length(front, pattern) < 5 {
@@ -99,7 +114,25 @@ fn colon_offset(west: bool, front: u8x8) -> Option<(i32, usize)>
         return None;
     }
     let seconds = 3600 * u32::from(hour) + 60 * u32::from(minute);
-    Some((with_sign(west, seconds), 6))
+    Some(with_sign(west, seconds))
+}
+
+/// The offset whose bytes after the sign are given, if it is `HHMM`.
+#[inline(always)]
+fn plain_offset(west: bool, front: u8x8) -> Option<i32>
+    ensures offset { IfSome result (λ offset. signed_front west 1 front ≡ Ok (Some offset, 5)) }
+    ensures range { IfSome result IsOffset }
+{
+    let pattern = u8x8::splat(b'0');
+    if fit_length(front, pattern) < 4 {
+        return None;
+    }
+    let [hour, _, minute, _, _, _, _, _] = digit_pairs(front, pattern, 4);
+    if hour > 23 || minute > 59 {
+        return None;
+    }
+    let seconds = 3600 * u32::from(hour) + 60 * u32::from(minute);
+    Some(with_sign(west, seconds))
 }
 
 /// The error of a text that goes on after a time with this offset, or after one without:
@@ -115,12 +148,12 @@ pub fn end_fault(offset: Option<i32>) -> ParseError
     }
 }
 
-/// Whether a byte is `+` or `-`.
+/// Whether a byte is `+` or `-`, the neighbours of `,`: one test, and so one branch, tells both.
 #[inline(always)]
 pub(super) fn is_plus_or_minus(byte: u8) -> bool
     ensures value { result ≡ is_plus_or_minus byte }
 {
-    byte == b'+' || byte == b'-'
+    byte.abs_diff(b',') == 1
 }
 
 /// Whether the three bytes of U+2212, the minus sign, begin at `place`.

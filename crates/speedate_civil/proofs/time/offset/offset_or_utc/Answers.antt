@@ -31,13 +31,13 @@ there assumes_utc = search rules
 -- after a sign
 signed-is : (assumes_utc : Bool) (rest numbers : List ℕ) (byte : ℕ) (read : Option (ℤ × ℕ))
     → slice_index rest 0 ≡ byte → drop 1 rest ≡ numbers → is_plus_or_minus byte ≡ true
-    → IfSome read (λ front. (front.1 ≡ 6)
-    × (signed_front (byte == hyphen) 1 (eight_at numbers 0) ≡ Ok (Some front.0, 6)))
+    → IfSome read (λ front. signed_front (byte == hyphen) 1 (eight_at numbers 0)
+    ≡ Ok (Some front.0, front.1))
     → IfSome read (λ front. IsOffset front.0)
     → IfSome read (IsOffsetOrUtc assumes_utc rest)
 signed-is assumes_utc rest numbers byte (Some front) at after sign is small = record {
   offset = Some front.0;
-  read = rw (at, sign, after, is.0) (sym (signed-eight (byte == hyphen) numbers) ∙ is.1);
+  read = rw (at, sign, after) (sym (signed-eight (byte == hyphen) numbers) ∙ is);
   second = refl;
   there = there assumes_utc;
   range = small;
@@ -57,23 +57,16 @@ returns-then-is_plus_or_minus-clause-offset c =
     let sign = sym c.if-is_plus_or_minus.ensures.value in
     let at = first bytes place _ refl in
     let front = rw (c.first_eight.ensures.bytes, take_rest bytes (place + 1)) at
-    c.colon_offset.ensures.offset in
-    signed-is c.args.assumes_utc rest _ _ c.colon_offset.result at (drop-drop 1 place bytes) sign
-    front c.colon_offset.ensures.range
-
--- UTC itself
-utc-is : (rest : List ℕ) (byte : ℕ) → slice_index rest 0 ≡ byte → is_utc byte ≡ true
-    → offset_front rest ≡ Ok (Some (pos 0), 1)
-utc-is rest byte at utc =
-    let sign : is_plus_or_minus byte ≡ false = grind (arith, nat_tests) in
-    rw (at, sign, utc) refl
+    c.short_offset.ensures.offset in
+    signed-is c.args.assumes_utc rest _ _ c.short_offset.result at (drop-drop 1 place bytes) sign
+    front c.short_offset.ensures.range
 
 pub returns-then-is_utc-clause-offset : goal.returns-then-is_utc-clause-offset
 returns-then-is_utc-clause-offset c =
     let at = first c.args.bytes.now c.args.place _ refl in
     record {
       offset = Some (pos 0);
-      read = utc-is (drop c.args.place c.args.bytes.now) _ at (sym c.if-is_utc.ensures.value);
+      read = rw (at, sym c.if-is_plus_or_minus.ensures.value, sym c.if-is_utc.ensures.value) refl;
       second = refl;
       there = there c.args.assumes_utc;
       range = search rules;
