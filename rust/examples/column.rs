@@ -11,7 +11,7 @@ use std::io::{stdin, Read};
 use speedate::{read_column, DateTimeParser, DateTimeReader, LineConfig, TimeConfig};
 
 fn main() -> Result<(), Box<dyn Error>> {
-    let reader = DateTimeReader { parser: DateTimeParser::Rfc3339(TimeConfig::default()), assumes_utc: false };
+    let reader = DateTimeReader { parser: DateTimeParser::Text(TimeConfig::default()), assumes_utc: false };
     let (mut block, mut microseconds) = (vec![0; 65_536], [0; 1_000]);
     let (mut kept, mut lines, mut latest) = (0, 0, None);
     loop {

@@ -250,7 +250,7 @@ impl From<&DateReader> for ColumnConfig {
 pub enum DateTimeParser {
     /// No timestamps, as
     /// [`DateTime::parse_bytes_rfc3339_with_config`](crate::DateTime::parse_bytes_rfc3339_with_config).
-    Rfc3339(TimeConfig),
+    Text(TimeConfig),
     /// Timestamps too, as [`DateTime::parse_bytes_with_config`](crate::DateTime::parse_bytes_with_config).
     OrTimestamp(DateTimeConfig),
     /// Texts of RFC 3339 alone, as [`DateTime::parse_bytes_strict`](crate::DateTime::parse_bytes_strict).
@@ -263,7 +263,7 @@ pub enum DateTimeParser {
 /// ```
 /// use speedate::{read_column, DateTimeParser, DateTimeReader, LineConfig, TimeConfig};
 ///
-/// let reader = DateTimeReader { parser: DateTimeParser::Rfc3339(TimeConfig::default()), assumes_utc: true };
+/// let reader = DateTimeReader { parser: DateTimeParser::Text(TimeConfig::default()), assumes_utc: true };
 /// let (config, mut out) = (LineConfig { at_end: true, drops_returns: false }, [0; 2]);
 /// read_column(b"1970-01-01T00:00:01\n1970-01-01T01:00+01:00\n", config, &reader, &mut out).unwrap();
 /// assert_eq!(out, [1_000_000, 0]);
@@ -294,7 +294,7 @@ impl From<&DateTimeReader> for ColumnConfig {
 impl From<&DateTimeParser> for Config {
     fn from(parser: &DateTimeParser) -> Self {
         match parser {
-            DateTimeParser::Rfc3339(config) => config.into(),
+            DateTimeParser::Text(config) => config.into(),
             DateTimeParser::OrTimestamp(config) => config.into(),
             DateTimeParser::Strict(behavior) => Self::default().behavior(*behavior),
         }
@@ -304,7 +304,7 @@ impl From<&DateTimeParser> for Config {
 impl From<&DateTimeParser> for ColumnConfig {
     fn from(parser: &DateTimeParser) -> Self {
         match parser {
-            DateTimeParser::Rfc3339(_) => Self::default(),
+            DateTimeParser::Text(_) => Self::default(),
             DateTimeParser::OrTimestamp(_) => Self::default().timestamps(),
             DateTimeParser::Strict(_) => Self::default().strict(),
         }
@@ -336,7 +336,7 @@ macro_rules! configured {
 /// ```
 /// use speedate::{read_column, DateTimeClockReader, DateTimeParser, LineConfig, TimeConfig};
 ///
-/// let reader = DateTimeClockReader { parser: DateTimeParser::Rfc3339(TimeConfig::default()) };
+/// let reader = DateTimeClockReader { parser: DateTimeParser::Text(TimeConfig::default()) };
 /// let (config, mut out) = (LineConfig { at_end: true, drops_returns: false }, [0; 2]);
 /// read_column(b"1970-01-01T00:00:01\n1970-01-01T01:00+01:00\n", config, &reader, &mut out).unwrap();
 /// assert_eq!(out, [1_000_000, 3_600_000_000]);
@@ -357,7 +357,7 @@ reader!(DateTimeClockReader by speedate_datetime_clock_column, speedate_datetime
 /// ```
 /// use speedate::{read_column, DateTimeOffsetReader, DateTimeParser, LineConfig, TimeConfig};
 ///
-/// let reader = DateTimeOffsetReader { parser: DateTimeParser::Rfc3339(TimeConfig::default()) };
+/// let reader = DateTimeOffsetReader { parser: DateTimeParser::Text(TimeConfig::default()) };
 /// let (config, mut out) = (LineConfig { at_end: true, drops_returns: false }, [7; 2]);
 /// read_column(b"1970-01-01T00:00:01Z\n1970-01-01T01:00+01:00\n", config, &reader, &mut out).unwrap();
 /// assert_eq!(out, [0, 3_600]);
@@ -374,7 +374,7 @@ reader!(DateTimeOffsetReader by speedate_datetime_offset_column, speedate_dateti
 #[derive(Debug, Clone, PartialEq)]
 pub enum TimeParser {
     /// Texts of RFC 3339, relaxed, as [`Time::parse_bytes_with_config`](crate::Time::parse_bytes_with_config).
-    Rfc3339(TimeConfig),
+    Text(TimeConfig),
     /// Texts of RFC 3339 alone, as [`Time::parse_bytes_strict`](crate::Time::parse_bytes_strict).
     Strict(MicrosecondsPrecisionOverflowBehavior),
 }
@@ -382,7 +382,7 @@ pub enum TimeParser {
 impl From<&TimeParser> for Config {
     fn from(parser: &TimeParser) -> Self {
         match parser {
-            TimeParser::Rfc3339(config) => config.into(),
+            TimeParser::Text(config) => config.into(),
             TimeParser::Strict(behavior) => Self::default().behavior(*behavior),
         }
     }
@@ -391,7 +391,7 @@ impl From<&TimeParser> for Config {
 impl From<&TimeParser> for ColumnConfig {
     fn from(parser: &TimeParser) -> Self {
         match parser {
-            TimeParser::Rfc3339(_) => Self::default(),
+            TimeParser::Text(_) => Self::default(),
             TimeParser::Strict(_) => Self::default().strict(),
         }
     }
@@ -402,7 +402,7 @@ impl From<&TimeParser> for ColumnConfig {
 /// ```
 /// use speedate::{read_column, LineConfig, TimeConfig, TimeParser, TimeReader};
 ///
-/// let reader = TimeReader { parser: TimeParser::Rfc3339(TimeConfig::default()) };
+/// let reader = TimeReader { parser: TimeParser::Text(TimeConfig::default()) };
 /// let (config, mut out) = (LineConfig { at_end: true, drops_returns: false }, [7; 2]);
 /// read_column(b"12:13:14.5\n00:00+01:00\n", config, &reader, &mut out).unwrap();
 /// assert_eq!(out, [43_994_500_000, 0]);
@@ -422,7 +422,7 @@ reader!(TimeReader by speedate_time_column, speedate_time_column_with_errors -> 
 /// ```
 /// use speedate::{read_column, LineConfig, TimeConfig, TimeOffsetReader, TimeParser};
 ///
-/// let reader = TimeOffsetReader { parser: TimeParser::Rfc3339(TimeConfig::default()) };
+/// let reader = TimeOffsetReader { parser: TimeParser::Text(TimeConfig::default()) };
 /// let (config, mut out) = (LineConfig { at_end: true, drops_returns: false }, [7; 2]);
 /// read_column(b"12:13Z\n12:13+01:00\n", config, &reader, &mut out).unwrap();
 /// assert_eq!(out, [0, 3_600]);

@@ -45,7 +45,7 @@ const DATE_TIMES: [&str; 8] = [
 /// The date-time of a line.
 fn date_time(line: &[u8], parser: &DateTimeParser) -> Result<DateTime, LineError> {
     let value = match parser {
-        DateTimeParser::Rfc3339(config) => DateTime::parse_bytes_rfc3339_with_config(line, config),
+        DateTimeParser::Text(config) => DateTime::parse_bytes_rfc3339_with_config(line, config),
         DateTimeParser::OrTimestamp(config) => DateTime::parse_bytes_with_config(line, config),
         DateTimeParser::Strict(behavior) => DateTime::parse_bytes_strict(line, *behavior),
     };
@@ -97,7 +97,7 @@ const TIMES: [&str; 7] =
 /// The time of a line.
 fn time(line: &[u8], parser: &TimeParser) -> Result<Time, LineError> {
     let value = match parser {
-        TimeParser::Rfc3339(config) => Time::parse_bytes_with_config(line, config),
+        TimeParser::Text(config) => Time::parse_bytes_with_config(line, config),
         TimeParser::Strict(behavior) => Time::parse_bytes_strict(line, *behavior),
     };
     value.map_err(LineError::Parse)
@@ -190,7 +190,7 @@ impl Draws {
 
     fn parser(&mut self) -> DateTimeParser {
         match self.below(3) {
-            0 => DateTimeParser::Rfc3339(self.time_config()),
+            0 => DateTimeParser::Text(self.time_config()),
             1 => DateTimeParser::Strict(self.behavior()),
             _ => {
                 let (timestamp_unit, time_config) = (self.unit(), self.time_config());
@@ -201,7 +201,7 @@ impl Draws {
 
     fn time_parser(&mut self) -> TimeParser {
         match self.flag() {
-            true => TimeParser::Rfc3339(self.time_config()),
+            true => TimeParser::Text(self.time_config()),
             false => TimeParser::Strict(self.behavior()),
         }
     }

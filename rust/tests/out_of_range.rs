@@ -165,7 +165,7 @@ fn configured_offsets() {
         assert_eq!(read_column(b"1970-01-01T00:00Z", lines, &reader, &mut out), Err(ParseError::OutOfRangeTz));
         let with_errors = read_column_with_errors(b"1", lines, &reader, &mut out, &mut errors);
         assert_eq!((with_errors, out, errors), (Err(ParseError::OutOfRangeTz), [7; 2], [7; 2]));
-        let reader = DateTimeReader { parser: DateTimeParser::Rfc3339(time_config.clone()), ..reader };
+        let reader = DateTimeReader { parser: DateTimeParser::Text(time_config.clone()), ..reader };
         assert!(read_column(b"1970-01-01T00:00Z", lines, &reader, &mut out).is_ok_and(|it| it.lines == 1));
         assert!(read_column(b"00:00:01", lines, &DurationReader { config: time_config }, &mut out)
             .is_ok_and(|it| it.lines == 1));

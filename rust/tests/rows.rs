@@ -150,7 +150,7 @@ impl Row<'_> {
     fn get_parser(&self) -> Option<DateTimeParser> {
         let config: DateTimeConfig = self.get(1)?;
         Some(match self.get::<Column>(2)?.form {
-            0 => DateTimeParser::Rfc3339(config.time_config),
+            0 => DateTimeParser::Text(config.time_config),
             1 => DateTimeParser::OrTimestamp(config),
             _ => DateTimeParser::Strict(config.time_config.microseconds_precision_overflow_behavior),
         })
@@ -160,7 +160,7 @@ impl Row<'_> {
     fn get_time_parser(&self) -> Option<TimeParser> {
         let config = self.get::<DateTimeConfig>(1)?.time_config;
         match self.get::<Column>(2)?.form {
-            0 => Some(TimeParser::Rfc3339(config)),
+            0 => Some(TimeParser::Text(config)),
             2 => Some(TimeParser::Strict(config.microseconds_precision_overflow_behavior)),
             _ => None,
         }

@@ -1,21 +1,21 @@
 -- What the front of a text tells of the number of a line.
-use Rattle.std.proofs.Common.{◌≡◌, ◌∙◌, ap, sym, option_map, ℤ, ℕ, zero, suc, ◌<◌, List, [], take, Result, Ok, Err, arith}
-use Rattle.speedate_civil.specs.Base.{ParseError}
+use Rattle.std.proofs.Common.{◌≡◌, ◌∙◌, ap, refl, option_map, ℤ, ℕ, zero, suc, ◌<◌, List, [], take, Result, Ok, Err, arith}
+use Rattle.speedate_civil.specs.Base.{Behavior, ParseError}
 use Rattle.speedate_base.specs.Ascii.{HasNoControl}
 use Rattle.speedate_base.specs.Numbers.{number_answer, whole_number}
-use Rattle.speedate_base.specs.Requirement.{fault_alone, first_fault_or, or_number, result_and_then}
-use Rattle.speedate_base.specs.Requirement.{result_map}
+use Rattle.speedate_base.specs.Requirement.{fault_alone, first_fault_or, or_number}
+use Rattle.speedate_base.specs.Requirement.{result_and_then, result_map}
+use Rattle.speedate_base.proofs.RefusalLemmas.{refusal-all, refusal-ok}
 use Rattle.speedate_civil.specs.Calendar.{Ymd, days_between}
 use Rattle.speedate_civil.specs.Date.{date_answer, date_number_answer_or}
-use Rattle.speedate_civil.specs.DateTime.{DateAndTime, date_time_answer}
-use Rattle.speedate_civil.specs.DateTime.{date_time_at, number_instant_or, utc_microsecond}
+use Rattle.speedate_civil.specs.DateTime.{DateAndTime, IsUtcFront, date_time_answer}
+use Rattle.speedate_civil.specs.DateTime.{date_time_at, number_instant_or}
 use Rattle.speedate_civil.specs.Strict.{strict_date_time}
 use Rattle.speedate.specs.declared.column.date.DateReader.{DateReader}
 use Rattle.speedate.specs.declared.column.date_time.DateTimeParser.{DateTimeParser}
 use Rattle.speedate.specs.declared.column.date_time.DateTimeReader.{DateTimeReader}
-use Rattle.speedate.specs.Column.{HasNoEnd, LineError, as_number, date_number, date_time_number}
-use Rattle.speedate.specs.Column.{date_time_of_line, epoch, text_behavior, text_table}
-use Rattle.speedate.specs.Column.{with_offset}
+use Rattle.speedate.specs.Column.{HasNoEnd, IsFront, as_number, date_number, date_time_number}
+use Rattle.speedate.specs.Column.{date_time_of_line, epoch, taken_answer}
 use Rattle.speedate.proofs.LineLemmas.{IsOneLine-printed, no_return-printed}
 
 -- nothing is read of no bytes
@@ -51,34 +51,39 @@ date_number-of_date (DateReader.OrTimestamp config) line date read =
 
 -- Date-times.
 
--- the number of a line by the answer to it as a date-time
-abbrev number_of : DateTimeReader → Result DateAndTime ParseError → Result ℤ LineError
-number_of reader answer =
-    as_number utc_microsecond (result_and_then (with_offset reader.assumes_utc) answer)
-
--- a value whose text meets the rows of RFC 3339
-abbrev strict_value : List ℕ → DateAndTime → Result DateAndTime ParseError
-strict_value line found = first_fault_or (strict_date_time line) (Ok found)
-
+-- a date-time that is read is that of the line, if the parser takes it
 date_time_of_line-read : (parser : DateTimeParser) (line : List ℕ) (value : DateAndTime)
-    → date_time_answer (text_behavior parser) line ≡ Ok value
-    → date_time_of_line parser line ≡ first_fault_or (text_table parser line) (Ok value)
-date_time_of_line-read (DateTimeParser.Rfc3339 config) line value read = read
-date_time_of_line-read (DateTimeParser.OrTimestamp config) line value read =
+    → ((behavior : Behavior) → date_time_answer behavior line ≡ Ok value)
+    → taken_answer parser line ≡ Ok tt → date_time_of_line parser line ≡ Ok value
+date_time_of_line-read (DateTimeParser.Text config) line value read taken = read _
+date_time_of_line-read (DateTimeParser.OrTimestamp config) line value read taken =
     let time = config.time_config in
     let behavior = time.microseconds_precision_overflow_behavior in
     let offset = time.unix_timestamp_offset in
     let unit = config.timestamp_unit in
     let instant = number_instant_or fault_alone unit behavior line (number_answer line) in
-    ap (or_number (option_map (result_map (date_time_at offset)) instant)) read
-date_time_of_line-read (DateTimeParser.Strict behavior) line value read =
-    ap (result_and_then (strict_value line)) read
+    ap (or_number (option_map (result_map (date_time_at offset)) instant)) (read _)
+date_time_of_line-read (DateTimeParser.Strict behavior) line value read taken =
+    let table = strict_date_time line in
+    let rows = (refusal-ok fault_alone table (Ok tt) tt taken).0 in
+    ap (result_and_then (λ found. first_fault_or table (Ok found))) (read behavior)
+    ∙ refusal-all fault_alone table (Ok value) rows
 
--- a date-time that is read is counted, if the parser takes it, and it has an offset or needs none
-pub date_time_number-of_date_time : (reader : DateTimeReader) (line : List ℕ) (value : DateAndTime)
-    (answer : Result ℤ LineError)
-    → date_time_answer (text_behavior reader.parser) line ≡ Ok value
-    → answer ≡ number_of reader (first_fault_or (text_table reader.parser line) (Ok value))
-    → date_time_number reader line ≡ answer
-date_time_number-of_date_time reader line value answer read counted =
-    ap (number_of reader) (date_time_of_line-read reader.parser line value read) ∙ sym counted
+-- it is counted, if it has an offset or needs none
+pub IsFront-utc : (reader : DateTimeReader) (text : List ℕ) (front : ℤ × ℕ)
+    → IsUtcFront reader.assumes_utc text front
+    → taken_answer reader.parser (take front.1 text) ≡ Ok tt
+    → IsFront (date_time_number reader) text front
+IsFront-utc reader text front found taken =
+    let line : List ℕ = take front.1 text in
+    let value = found.value in
+    let behavior = Behavior.Error in
+    record {
+      within = found.within;
+      answered = rw (
+        date_time_of_line-read reader.parser line value found.read taken,
+        found.offset,
+      ) (ap Ok found.number);
+      no_end = HasNoEnd-read (date_time_answer behavior) text value front.1 refl
+          (found.read behavior) found.no_control;
+    }

@@ -4,7 +4,7 @@ use Rattle.speedate_civil.specs.Base.{Behavior, ParseError}
 use Rattle.speedate_base.specs.Ascii.{carriage_return}
 use Rattle.speedate_base.specs.Config.{time_choices}
 use Rattle.speedate_base.specs.Fault.{fault_number}
-use Rattle.speedate_base.specs.Requirement.{TextRow, ◌else_fault◌, first_fault_or, result_and_then}
+use Rattle.speedate_base.specs.Requirement.{◌else_fault◌, first_fault_or, result_and_then}
 use Rattle.speedate_civil.specs.Calendar.{Ymd, days_between}
 use Rattle.speedate_civil.specs.Date.{date_answer, date_or_timestamp}
 use Rattle.speedate_civil.specs.DateTime.{DateAndTime, date_time_answer, date_time_by_config}
@@ -130,21 +130,15 @@ date_of_line (DateReader.OrTimestamp config) line = date_or_timestamp config.tim
 abbrev pub date_number : DateReader → List ℕ → Result ℤ LineError
 date_number reader line = as_number (days_between epoch) (date_of_line reader line)
 
--- the behavior for digits past the microsecond of a text
-abbrev pub text_behavior : DateTimeParser → Behavior
-text_behavior (DateTimeParser.Rfc3339 config) = (time_choices config).behavior
-text_behavior (DateTimeParser.OrTimestamp config) = (time_choices config.time_config).behavior
-text_behavior (DateTimeParser.Strict behavior) = behavior
-
--- what a text of a date-time has to meet further to be taken
-abbrev pub text_table : DateTimeParser → List ℕ → List TextRow
-text_table (DateTimeParser.Rfc3339 config) text = []
-text_table (DateTimeParser.OrTimestamp config) text = []
-text_table (DateTimeParser.Strict behavior) text = strict_date_time text
+-- whether a line that is a date-time is one for a parser, or the fault
+abbrev pub taken_answer : DateTimeParser → List ℕ → Result (Unit {0}) ParseError
+taken_answer (DateTimeParser.Text config) line = Ok tt
+taken_answer (DateTimeParser.OrTimestamp config) line = Ok tt
+taken_answer (DateTimeParser.Strict behavior) line = first_fault_or (strict_date_time line) (Ok tt)
 
 -- the date-time of a line, or the error
 abbrev pub date_time_of_line : DateTimeParser → List ℕ → Result DateAndTime ParseError
-date_time_of_line (DateTimeParser.Rfc3339 config) line =
+date_time_of_line (DateTimeParser.Text config) line =
     date_time_answer (time_choices config).behavior line
 date_time_of_line (DateTimeParser.OrTimestamp config) line = date_time_by_config config line
 date_time_of_line (DateTimeParser.Strict behavior) line = strict_date_time_answer behavior line
@@ -186,7 +180,7 @@ date_time_offset_number reader line =
 
 -- the time of a line, or the error
 abbrev pub time_of_line : TimeParser → List ℕ → Result TimeOfDay ParseError
-time_of_line (TimeParser.Rfc3339 config) line = time_answer (time_choices config).behavior line
+time_of_line (TimeParser.Text config) line = time_answer (time_choices config).behavior line
 time_of_line (TimeParser.Strict behavior) line = strict_time_answer behavior line
 
 -- the number of a line in a column of times: the microseconds after midnight that its clock shows,

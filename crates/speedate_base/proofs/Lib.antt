@@ -7,6 +7,7 @@ pub mod RequirementLemmas
 pub mod TextLemmas
 pub mod TimestampLemmas
 mod BlockLemmas
+mod EightDigitsLemmas
 pub mod PatternLemmas
 mod RoundingLemmas
 mod DecimalLemmas

@@ -10,6 +10,7 @@ pub mod DateTimestampLemmas
 mod DayNumberLemmas
 mod ErrorPlaceLemmas
 mod FrontLemmas
+mod FullClockLemmas
 pub mod InstantOrderLemmas
 mod NoControlLemmas
 mod MomentLemmas
@@ -20,7 +21,6 @@ mod ReadLemmas
 mod Rfc3339Lemmas
 mod StrictPlaceLemmas
 mod TimeLemmas
-mod UsualLemmas
 pub mod ValueLemmas
 pub mod MonthLemmas
 mod YearLemmas

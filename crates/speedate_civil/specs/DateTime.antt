@@ -1,9 +1,9 @@
 -- Date-times: from texts, from timestamps, at other offsets, and the order by instant.
-use Rattle.std.specs.Prelude.{◌/◌, ℤ, pos, ◌+ℤ◌, ◌-ℤ◌, ◌*ℤ◌, ℕ, ◌+◌, ◌-◌, Bool, ◌||◌, ◌==◌, List, [], ◌∷◌, ◌++◌, drop, length, slice_index, Result, Ok, ◌≡◌, Option, Some, None, option_map, int_le, Err, if◌then◌else◌}
+use Rattle.std.specs.Prelude.{◌/◌, ℤ, pos, ◌+ℤ◌, ◌-ℤ◌, ◌*ℤ◌, ℕ, ◌+◌, ◌-◌, Bool, ◌||◌, ◌==◌, List, [], ◌∷◌, ◌++◌, drop, length, slice_index, Result, Ok, ◌≡◌, Option, Some, None, option_map, int_le, Err, if◌then◌else◌, ◌≤◌, true, take, is_some}
 use Rattle.speedate_civil.specs.Base.{DateTimeConfig, Behavior, ParseError, TimestampUnit}
 use Rattle.std.specs.Option.{unwrap_or}
 use Rattle.std.specs.declared.cmp.Ordering.{Ordering}
-use Rattle.speedate_base.specs.Ascii.{space, capital_t, low_line, small_t}
+use Rattle.speedate_base.specs.Ascii.{HasNoControl, space, capital_t, low_line, small_t}
 use Rattle.speedate_base.specs.Numbers.{DecimalParts, Number, Whole, Fractional, NoNumber}
 use Rattle.speedate_base.specs.Numbers.{number_answer}
 use Rattle.speedate_base.specs.Offset.{offset_table}
@@ -115,6 +115,16 @@ date_time_front behavior text = date_time_front_or fault_alone behavior text
 
 abbrev pub date_time_answer : Behavior → List ℕ → Result DateAndTime ParseError
 date_time_answer behavior text = date_time_answer_or fault_alone behavior text
+
+-- so many bytes at the front of a text, none of them a control character, are a date-time for each
+-- behavior, which has this microsecond in UTC, and an offset, unless one is assumed
+pub record IsUtcFront (assumes_utc : Bool) (text : List ℕ) (front : ℤ × ℕ) : Type 0 where
+  pub value : DateAndTime
+  pub within : front.1 ≤ length text
+  pub read : (behavior : Behavior) → date_time_answer behavior (take front.1 text) ≡ Ok value
+  pub number : utc_microsecond value ≡ front.0
+  pub offset : (assumes_utc || is_some value.time.offset) ≡ true
+  pub no_control : HasNoControl front.1 text
 
 -- the one text by which a date-time is printed
 abbrev pub date_time_text : DateAndTime → List ℕ

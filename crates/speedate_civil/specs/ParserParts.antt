@@ -1,10 +1,12 @@
 -- What parsers decide by on their way to an answer.
-use Rattle.std.specs.Prelude.{◌≡◌, ℕ, ◌≤◌, List, Bool, true, false, codes, drop, length, if◌then◌else◌}
+use Rattle.std.specs.Prelude.{◌≡◌, ℕ, ◌≤◌, List, Bool, true, false, ◌||◌, codes, drop, length, Option, is_some, Ok, ℤ, pos, if◌then◌else◌}
+use Rattle.std.specs.Option.{unwrap_or}
 use Rattle.speedate_civil.specs.Base.{ParseError}
 use Rattle.speedate_base.specs.Digits.{eight_at, fit_length, two_digits_at, two_digit_value}
+use Rattle.speedate_base.specs.Offset.{IsOffset}
 use Rattle.speedate_civil.specs.declared.time.pure.AfterMinute.{AfterMinute}
 use Rattle.speedate_civil.specs.declared.time.pure.SecondField.{SecondField}
-use Rattle.speedate_civil.specs.Time.{Clock, has_second}
+use Rattle.speedate_civil.specs.Time.{Clock, has_second, offset_front}
 
 -- the second of a clock that is given from its minute on
 abbrev pub second_of : List ℕ → SecondField
@@ -24,12 +26,24 @@ clock_after minute after = record {
   size = after.size;
 }
 
--- a text of 19 bytes or more begins as a date looks, up to its month, and goes on from byte 11 as a
--- clock with its second looks
-pub record LooksUsual (text : List ℕ) : Type 0 where
-  pub long : 19 ≤ length text
+-- a text of 35 bytes or more begins as a date looks, and goes on from byte 11 as a clock with its
+-- second looks, whose minute and second are in their ranges
+pub record HasFullClock (text : List ℕ) : Type 0 where
+  pub long : 35 ≤ length text
   pub date : fit_length (codes "0000-00-") (eight_at text 0) ≡ 8
+  pub day : two_digits_at text 8 ≡ true
   pub clock : fit_length (codes "00:00:00") (eight_at (drop 11 text) 0) ≡ 8
+  pub minute : two_digit_value (drop 11 text) 3 ≤ 59
+  pub second : two_digit_value (drop 11 text) 6 ≤ 59
+
+-- an offset of these seconds begins a text, in so many bytes, or none does, where that stands for
+-- UTC
+pub record IsOffsetOrUtc (assumes_utc : Bool) (rest : List ℕ) (front : ℤ × ℕ) : Type 0 where
+  pub offset : Option ℤ
+  pub read : offset_front rest ≡ Ok (offset, front.1)
+  pub second : unwrap_or offset (pos 0) ≡ front.0
+  pub there : (assumes_utc || is_some offset) ≡ true
+  pub range : IsOffset front.0
 
 -- a date's table may refuse a number by this fault: it is short, or has a sign, a digit or a
 -- decimal mark where none may stand

@@ -1,20 +1,20 @@
 //! Date-times: a date and a time of day, with or without an offset from UTC.
 
 mod error_place;
+mod full_clock;
 mod now;
 mod order;
 mod parse;
 mod text;
 mod timestamp;
 mod timezone;
-mod usual;
 
 use crate::date::Date;
 use crate::time::Time;
+pub use full_clock::utc_front;
 pub use now::Moment;
 pub use parse::require_standard_date_time;
 pub use timestamp::timestamp_instant;
-pub use usual::quick_front;
 
 /// A date and a time of day, with an offset from UTC or without one.
 ///

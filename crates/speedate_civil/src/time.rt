@@ -13,7 +13,7 @@ mod text;
 mod timestamp;
 mod timezone;
 
-pub use offset::end_fault;
+pub(crate) use offset::{end_fault, offset_or_utc};
 pub use pure::PureTime;
 use speedate_base::faults::ParseError;
 pub(crate) use timezone::clock_shift;

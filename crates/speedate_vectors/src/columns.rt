@@ -310,7 +310,7 @@ fn dates_are_days(rt: HostRuntime) {
 #[test]
 fn date_times_are_microseconds(rt: HostRuntime) {
     let reader = DateTimeReader {
-        parser: DateTimeParser::Rfc3339(time_config(&rt, "truncate")),
+        parser: DateTimeParser::Text(time_config(&rt, "truncate")),
         assumes_utc: false,
     };
     for row in DATE_TIMES.lines() {
@@ -358,7 +358,7 @@ fn expect_offsets<R: AllocGlobal + Abort>(rt: &R, parser: DateTimeParser, rows: 
 
 #[test]
 fn clocks_and_offsets(rt: HostRuntime) {
-    let parser = DateTimeParser::Rfc3339(time_config(&rt, "truncate"));
+    let parser = DateTimeParser::Text(time_config(&rt, "truncate"));
     expect_clocks(&rt, parser, CLOCKS);
     expect_offsets(&rt, parser, OFFSETS);
 }
@@ -395,7 +395,7 @@ fn expect_time_offsets<R: AllocGlobal + Abort>(rt: &R, parser: TimeParser, rows:
 
 #[test]
 fn times_and_offsets(rt: HostRuntime) {
-    let parser = TimeParser::Rfc3339(time_config(&rt, "truncate"));
+    let parser = TimeParser::Text(time_config(&rt, "truncate"));
     expect_times(&rt, parser, TIMES);
     expect_time_offsets(&rt, parser, TIME_OFFSETS);
 }

@@ -219,7 +219,7 @@ fn push_wrong(bits: u64, pieces: &Pieces, text: &mut Text) {
 /// The reader of columns that have no timestamps.
 fn rfc3339() -> DateTimeReader {
     DateTimeReader {
-        parser: DateTimeParser::Rfc3339(TimeConfig::default()),
+        parser: DateTimeParser::Text(TimeConfig::default()),
         assumes_utc: false,
     }
 }

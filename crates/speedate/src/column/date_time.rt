@@ -11,15 +11,15 @@ use speedate_base::config::{DateTimeConfig, MicrosecondsPrecisionOverflowBehavio
 use speedate_base::faults::ParseError;
 use speedate_base::util::UnixTime;
 use speedate_civil::datetime::{
-    DateTime, quick_front, require_standard_date_time, timestamp_instant,
+    DateTime, require_standard_date_time, timestamp_instant, utc_front,
 };
 
-/// How a column parses its date-times: `DateTimeParser::Rfc3339(TimeConfig::default())` takes
+/// How a column parses its date-times: `DateTimeParser::Text(TimeConfig::default())` takes
 /// `1970-01-01T00:00Z`, and refuses `0`.
 #[derive(Clone, Copy, Debug)]
 pub enum DateTimeParser {
     /// No timestamps, as [`DateTime::parse_bytes_rfc3339_with_config`].
-    Rfc3339(TimeConfig),
+    Text(TimeConfig),
     /// Timestamps too, as [`DateTime::parse_bytes_with_config`].
     OrTimestamp(DateTimeConfig),
     /// Texts of RFC 3339 alone, as [`DateTime::parse_bytes_strict`].
@@ -27,19 +27,31 @@ pub enum DateTimeParser {
 }
 
 impl DateTimeParser {
+    ghost use Rattle.std.specs.Prelude.{◌≡◌, IsTrue, Ok};
     ghost use Rattle.speedate_civil.specs.DateTime.{◌gives◌};
-    ghost use Rattle.speedate.specs.Column.{date_time_of_line};
+    ghost use Rattle.speedate.specs.Column.{date_time_of_line, taken_answer};
 
     /// Parses a line as a date-time.
     pub(super) fn parse(&self, line: &[u8]) -> Result<DateTime, ParseError>
         ensures answer { result gives date_time_of_line self.now line.now }
     {
         match self {
-            DateTimeParser::Rfc3339(config) => {
+            DateTimeParser::Text(config) => {
                 DateTime::parse_bytes_rfc3339_with_config(line, config)
             }
             DateTimeParser::OrTimestamp(config) => DateTime::parse_bytes_with_config(line, config),
             DateTimeParser::Strict(behavior) => DateTime::parse_bytes_strict(line, *behavior),
+        }
+    }
+
+    /// Whether a line that is a date-time is one for this parser: for `Strict` only if it is of RFC 3339.
+    #[inline(always)]
+    fn takes(&self, line: &[u8]) -> bool
+        ensures takes { IsTrue result → taken_answer self.now line.now ≡ Ok tt }
+    {
+        match self {
+            DateTimeParser::Strict(_) => require_standard_date_time(line).is_ok(),
+            _ => true,
         }
     }
 }
@@ -57,13 +69,13 @@ pub struct DateTimeReader {
 }
 
 impl DateTimeReader {
-    ghost use Rattle.std.specs.Prelude.{◌≡◌, Ok};
-    ghost use Rattle.speedate_base.specs.Config.{choices, time_choices};
-    ghost use Rattle.speedate_base.specs.Requirement.{first_fault_or, result_and_then, result_map};
+    ghost use Rattle.std.specs.Prelude.{◌≡◌};
+    ghost use Rattle.speedate_base.specs.Config.{choices};
+    ghost use Rattle.speedate_base.specs.Requirement.{result_and_then, result_map};
     ghost use Rattle.speedate_base.specs.Timestamp.{IsInYears, unix_instant};
     ghost use Rattle.speedate_civil.specs.DateTime.{date_and_time, date_time_at};
     ghost use Rattle.speedate_civil.specs.DateTime.{date_time_by_config, utc_microsecond};
-    ghost use Rattle.speedate.specs.Column.{as_number, text_behavior, text_table, with_offset};
+    ghost use Rattle.speedate.specs.Column.{as_number, with_offset};
 
     /// The number of a line by its date-time, or by the error of a line that is none.
     #[inline(always)]
@@ -75,35 +87,6 @@ impl DateTimeReader {
             Ok(value) => self.microsecond(&value),
             Err(fault) => Err(LineError::Parse(fault)),
         }
-    }
-
-    /// A configuration by which texts of date-times are parsed.
-    #[inline(always)]
-    fn text_config(&self) -> TimeConfig
-        ensures behavior { (time_choices result).behavior ≡ text_behavior self.now.parser }
-    {
-        match &self.parser {
-            DateTimeParser::Rfc3339(config) => *config,
-            DateTimeParser::OrTimestamp(config) => config.time_config,
-            DateTimeParser::Strict(behavior) => TimeConfig::builder()
-                .microseconds_precision_overflow_behavior(*behavior)
-                .build(),
-        }
-    }
-
-    /// The answer to a line that is the text of this date-time.
-    #[inline(always)]
-    fn text_answer(&self, line: &[u8], value: &DateTime) -> Result<i64, LineError>
-        ensures answer { result ≡ as_number utc_microsecond (result_and_then
-            (with_offset self.now.assumes_utc)
-            (first_fault_or (text_table self.now.parser line.now) (Ok (date_and_time value.now)))) }
-    {
-        if let DateTimeParser::Strict(_) = self.parser {
-            if let Err(fault) = require_standard_date_time(line) {
-                return Err(LineError::Parse(fault));
-            }
-        }
-        self.microsecond(value)
     }
 
     /// The number of a line that may be a timestamp, whose instant is counted without the calendar.
@@ -161,7 +144,7 @@ impl LineReader for DateTimeReader {
 
     fn number(&self, line: &[u8]) -> Result<i64, LineError> {
         match &self.parser {
-            DateTimeParser::Rfc3339(config) => {
+            DateTimeParser::Text(config) => {
                 self.number_of(DateTime::parse_bytes_rfc3339_with_config(line, config))
             }
             DateTimeParser::OrTimestamp(config) => self.number_or_timestamp(line, config),
@@ -173,13 +156,11 @@ impl LineReader for DateTimeReader {
 
     #[inline(always)]
     fn front(&self, text: &[u8]) -> Option<(i64, usize)> {
-        let Ok((value, size)) = quick_front(text, &self.text_config()) else {
+        let (number, size) = utc_front(text, self.assumes_utc)?;
+        if !self.parser.takes(&text[..size]) {
             return None;
-        };
-        match self.text_answer(&text[..size], &value) {
-            Ok(number) => Some((number, size)),
-            Err(_) => None,
         }
+        Some((number, size))
     }
 }
 

@@ -9,11 +9,11 @@ use speedate_base::config::{MicrosecondsPrecisionOverflowBehavior, TimeConfig};
 use speedate_base::faults::ParseError;
 use speedate_civil::time::Time;
 
-/// How a column parses its times: `TimeParser::Rfc3339(TimeConfig::default())` takes `12:13`.
+/// How a column parses its times: `TimeParser::Text(TimeConfig::default())` takes `12:13`.
 #[derive(Clone, Copy, Debug)]
 pub enum TimeParser {
     /// Texts of RFC 3339, relaxed, as [`Time::parse_bytes_with_config`].
-    Rfc3339(TimeConfig),
+    Text(TimeConfig),
     /// Texts of RFC 3339 alone, as [`Time::parse_bytes_strict`].
     Strict(MicrosecondsPrecisionOverflowBehavior),
 }
@@ -27,7 +27,7 @@ impl TimeParser {
         ensures answer { result gives time_of_line self.now line.now }
     {
         match self {
-            TimeParser::Rfc3339(config) => Time::parse_bytes_with_config(line, config),
+            TimeParser::Text(config) => Time::parse_bytes_with_config(line, config),
             TimeParser::Strict(behavior) => Time::parse_bytes_strict(line, *behavior),
         }
     }

@@ -1,6 +1,6 @@
 //! Fractions of a second, by their digits.
 
-ghost use Rattle.std.specs.Prelude.{◌≡◌, ◌+◌, ◌<◌, ◌≤◌, length, nat_le, replicate, take};
+ghost use Rattle.std.specs.Prelude.{◌≡◌, ◌+◌, ◌<◌, ◌≤◌, IfSome, length, nat_le, replicate, take};
 ghost use Rattle.speedate_base.specs.Ascii.{digit_zero};
 ghost use Rattle.speedate_base.specs.Config.{refuses_digits};
 ghost use Rattle.speedate_base.specs.Digits.{run_length, run_digits, fraction_value, fit_length};
@@ -47,6 +47,30 @@ impl Fraction {
             length,
             microsecond,
         }
+    }
+
+    /// The fraction whose digits begin at `place`, if it has one to six of them, and eight bytes follow:
+    /// three that mean 120,000 microseconds for `b".120+01:00"` at place 1. `None` for no digit, and for
+    /// more than six.
+    #[inline(always)]
+    pub fn read_short(bytes: &[u8], place: usize) -> Option<Self>
+        requires { place + 8 ≤ length bytes.now }
+        ensures length { IfSome result (λ fraction. fraction.length ≡ run_length bytes.now place) }
+        ensures microsecond { IfSome result (λ fraction. fraction.microsecond
+            ≡ fraction_value 6 (run_digits bytes.now place)) }
+        ensures some { IfSome result (λ fraction. 1 ≤ fraction.length) }
+        ensures few { IfSome result (λ fraction. fraction.length ≤ 6) }
+        ensures small { IfSome result (λ fraction. fraction.microsecond ≤ 999999) }
+    {
+        let front = eight_bytes(bytes, place);
+        let length = digits_in_front(front);
+        if length < 1 || length > 6 {
+            return None;
+        }
+        Some(Fraction {
+            length,
+            microsecond: six_places(front, length),
+        })
     }
 }
 

@@ -1,9 +1,9 @@
 //! Parsers of dates: of texts of RFC 3339, at the front of a text, and of timestamps.
 
-ghost use Rattle.std.specs.Prelude.{◌≡◌, ◌≤◌, ◌↔◌, Err, IfErr, IfOk, Ok, OnOk, codes, length, take};
+ghost use Rattle.std.specs.Prelude.{◌≡◌, ◌≤◌, ◌↔◌, true, Err, IfErr, IfOk, IfSome, Ok, OnOk, codes, length, take};
 ghost use Rattle.speedate_civil.specs.Base.{TimestampUnit};
 ghost use Rattle.speedate_base.specs.Ascii.{HasNoControl};
-ghost use Rattle.speedate_base.specs.Digits.{eight_at, fit_length};
+ghost use Rattle.speedate_base.specs.Digits.{eight_at, fit_length, two_digits_at, two_digit_value};
 ghost use Rattle.speedate_base.specs.Numbers.{NoNumber, number_answer};
 ghost use Rattle.speedate_civil.specs.Calendar.{Ymd};
 ghost use Rattle.speedate_civil.specs.Date.{ymd, date_front, date_front_or, date_answer};
@@ -202,6 +202,28 @@ impl Date {
         Ok((Date { year, month, day }, TEXT_LENGTH))
     }
 
+    /// The date at the front of a text whose first ten bytes look like one, if it is in the calendar.
+    #[inline(always)]
+    pub(crate) fn of_digits(bytes: &[u8]) -> Option<Self>
+        requires long { 16 ≤ length bytes.now }
+        requires looks { 8 ≤ fit_length (codes "0000-00-") (eight_at bytes.now 0) }
+        requires day { two_digits_at bytes.now 8 ≡ true }
+        ensures date { IfSome result (λ date. date_front bytes.now ≡ Ok (ymd date, 10)) }
+    {
+        let form = u8x8::from_array(*b"0000-00-");
+        let [century, _, year, _, _, month, _, _] = digit_pairs(first_eight(bytes), form, LANES);
+        let year = 100 * u16::from(century) + u16::from(year);
+        let day = day_in_digits(bytes);
+        if month < 1 || month > 12 {
+            return None;
+        }
+        if is_day(year, month, day) {
+            Some(Date { year, month, day })
+        } else {
+            None
+        }
+    }
+
     /// Parses the date, or the timestamp, that takes all the bytes.
     #[inline(always)]
     pub(super) fn whole_or_timestamp<E: Refusal>(
@@ -254,6 +276,17 @@ impl FromStr for Date {
     fn from_str(text: &str) -> Result<Self, ParseError> {
         Self::parse_str(text)
     }
+}
+
+/// The day of the date at the front of a text, whose two bytes are digits.
+#[inline(always)]
+fn day_in_digits(bytes: &[u8]) -> u8
+    requires long { 16 ≤ length bytes.now }
+    requires digits { two_digits_at bytes.now 8 ≡ true }
+    ensures day { result ≡ two_digit_value bytes.now 8 }
+{
+    let [day, _, _, _, _, _, _, _] = digit_pairs(first_eight(&bytes[8..]), u8x8::splat(b'0'), 2);
+    day
 }
 
 /// Whether a text that is refused as a date by this error may be a whole number.

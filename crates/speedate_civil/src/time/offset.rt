@@ -1,6 +1,6 @@
 //! Offsets from UTC, after a time.
 
-ghost use Rattle.std.specs.Prelude.{◌≡◌, ◌≤◌, ◌+◌, ◌<◌, ◌∷◌, ◌*◌, ◌++◌, ◌==◌, ◌||◌, ℕ, IfErr, IfOk, Ok, IsTrue, length, drop, codes, if◌then◌else◌, unsigned_abs};
+ghost use Rattle.std.specs.Prelude.{◌≡◌, ◌≤◌, ◌+◌, ◌<◌, ◌∷◌, ◌*◌, ◌++◌, ◌==◌, ◌||◌, ℕ, IfErr, IfOk, IfSome, Ok, Some, IsTrue, length, drop, codes, if◌then◌else◌, unsigned_abs};
 ghost use Rattle.std.specs.Int.{is_negative};
 ghost use Rattle.std.specs.Option.{ForSome};
 ghost use Rattle.arrayvec.specs.ArrayString.{array_string_len};
@@ -11,14 +11,16 @@ ghost use Rattle.speedate_base.specs.Offset.{IsOffset, IsWholeMinutes};
 ghost use Rattle.speedate_base.specs.Timestamp.{seconds_per_day};
 ghost use Rattle.speedate_base.specs.Requirement.{first_refusal_or, shifted};
 ghost use Rattle.speedate_civil.specs.Time.{end_fault, has_minus_sign, is_plus_or_minus, is_utc};
-ghost use Rattle.speedate_civil.specs.Time.{offset_digits, offset_front_or, signed_front_or};
+ghost use Rattle.speedate_civil.specs.ParserParts.{IsOffsetOrUtc};
+ghost use Rattle.speedate_civil.specs.Time.{offset_digits, offset_front_or, signed_front};
+ghost use Rattle.speedate_civil.specs.Time.{signed_front_or};
 ghost use Rattle.speedate_civil.specs.Time.{offset_minute, offset_digits_size, offset_size_text};
 ghost use Rattle.speedate_civil.specs.Time.{offset_text};
 
 use crate::text::two_digit_text;
 use arrayvec::ArrayString;
 use speedate_base::faults::ParseError;
-use speedate_base::numbers::{byte_at, digit_pairs, eight_bytes, fit_length};
+use speedate_base::numbers::{byte_at, digit_pairs, eight_bytes, first_eight, fit_length};
 use speedate_base::refusal::Refusal;
 use speedate_base::util::SECONDS_PER_DAY;
 use std::simd::prelude::*;
@@ -55,6 +57,82 @@ pub(crate) fn parse_offset<E: Refusal>(
         return signed_offset(true, 3, bytes, place + 3, start + 3);
     }
     Ok((None, 0))
+}
+
+/// The offset in seconds that begins at `place`, and how many bytes it takes, if it is `Z`, `z`, or `+` or
+/// `-` with `HH:MM` or `HHMM`; UTC, in no byte, if none begins there and `assumes_utc` is true. The text
+/// has nine bytes from `place` on. `None` for any other offset, and for a missing one that is needed.
+#[inline(always)]
+pub(crate) fn offset_or_utc(bytes: &[u8], place: usize, assumes_utc: bool) -> Option<(i32, usize)>
+    requires place { place + 9 ≤ length bytes.now }
+    ensures offset { IfSome result (IsOffsetOrUtc assumes_utc (drop place bytes.now)) }
+    ensures short { IfSome result (λ front. front.1 ≤ 6) }
+{
+    let first = bytes[place];
+    if is_plus_or_minus(first) {
+        return short_offset(first == b'-', first_eight(&bytes[place + 1..]));
+    }
+    if is_utc(first) {
+        return Some((0, 1));
+    }
+    if assumes_utc && first != 0xe2 {
+        Some((0, 0))
+    } else {
+        None
+    }
+}
+
+/// The offset whose eight bytes after the sign are given, if it is `HH:MM` or `HHMM`, and how many bytes it
+/// takes with its sign.
+#[inline(always)]
+fn short_offset(west: bool, front: u8x8) -> Option<(i32, usize)>
+    ensures offset { IfSome result (λ read. signed_front west 1 front ≡ Ok (Some read.0, read.1)) }
+    ensures range { IfSome result (λ read. IsOffset read.0) }
+    ensures short { IfSome result (λ read. read.1 ≤ 6) }
+{
+    match colon_offset(west, front) {
+        Some(offset) => Some((offset, 6)),
+        None => match plain_offset(west, front) {
+            Some(offset) => Some((offset, 5)),
+            None => None,
+        },
+    }
+}
+
+/// The offset whose bytes after the sign are given, if it is `HH:MM`.
+#[inline(always)]
+fn colon_offset(west: bool, front: u8x8) -> Option<i32>
+    ensures offset { IfSome result (λ offset. signed_front west 1 front ≡ Ok (Some offset, 6)) }
+    ensures range { IfSome result IsOffset }
+{
+    let pattern = u8x8::from_array(*b"00:00:00");
+    if fit_length(front, pattern) < 5 {
+        return None;
+    }
+    let [hour, _, _, minute, _, _, _, _] = digit_pairs(front, pattern, 5);
+    if hour > 23 || minute > 59 {
+        return None;
+    }
+    let seconds = 3600 * u32::from(hour) + 60 * u32::from(minute);
+    Some(with_sign(west, seconds))
+}
+
+/// The offset whose bytes after the sign are given, if it is `HHMM`.
+#[inline(always)]
+fn plain_offset(west: bool, front: u8x8) -> Option<i32>
+    ensures offset { IfSome result (λ offset. signed_front west 1 front ≡ Ok (Some offset, 5)) }
+    ensures range { IfSome result IsOffset }
+{
+    let pattern = u8x8::splat(b'0');
+    if fit_length(front, pattern) < 4 {
+        return None;
+    }
+    let [hour, _, minute, _, _, _, _, _] = digit_pairs(front, pattern, 4);
+    if hour > 23 || minute > 59 {
+        return None;
+    }
+    let seconds = 3600 * u32::from(hour) + 60 * u32::from(minute);
+    Some(with_sign(west, seconds))
 }
 
 /// The error of a text that goes on after a time with this offset, or after one without:

@@ -1,9 +1,8 @@
 //! Parsers of times of day: of texts, of texts of RFC 3339 alone, and at the front of a text.
 
-ghost use Rattle.std.specs.Prelude.{◌≡◌, ◌≤◌, ◌+◌, ◌↔◌, ℕ, IfErr, IfOk, IfSome, IsOk, Ok, codes, drop, take, length};
+ghost use Rattle.std.specs.Prelude.{◌≡◌, ◌≤◌, ◌+◌, ◌↔◌, ℕ, IfErr, IfOk, IfSome, IsOk, Ok, drop, take, length};
 ghost use Rattle.speedate_base.specs.Ascii.{HasNoControl};
 ghost use Rattle.speedate_base.specs.Config.{time_choices};
-ghost use Rattle.speedate_base.specs.Digits.{eight_at, fit_length};
 ghost use Rattle.speedate_base.specs.Offset.{IsWholeMinutes};
 ghost use Rattle.speedate_base.specs.Requirement.{first_place, first_refusal_or, moved, shifted};
 ghost use Rattle.speedate_civil.specs.Base.{Behavior};
@@ -17,7 +16,7 @@ use super::offset::{end_fault, has_minus_sign, is_utc, parse_offset};
 use super::{PureTime, Time};
 use speedate_base::config::{MicrosecondsPrecisionOverflowBehavior, TimeConfig};
 use speedate_base::faults::ParseError;
-use speedate_base::numbers::{LANES, byte_at, first_eight, run_end};
+use speedate_base::numbers::{byte_at, run_end};
 use speedate_base::refusal::Refusal;
 use std::str::FromStr;
 
@@ -193,22 +192,6 @@ impl Time {
     {
         let clock = PureTime::front_at::<E>(text, start, behavior)?;
         Self::after_clock(clock, text, start)
-    }
-
-    /// What [`Time::front`] does, for a text that begins as a clock with its second looks.
-    #[inline(always)]
-    pub(crate) fn usual_front(
-        bytes: &[u8],
-        behavior: MicrosecondsPrecisionOverflowBehavior,
-    ) -> Result<(Self, usize), ParseError>
-        requires long { 8 ≤ length bytes.now }
-        requires looks { fit_length (codes "00:00:00") (eight_at bytes.now 0) ≡ 8 }
-        ensures answer { result gives_front time_front behavior bytes.now }
-        ensures within { IfOk result (λ front. front.1 ≤ length bytes.now) }
-        ensures minutes { IfOk result (λ front. IsWholeMinutes front.0.tz_offset) }
-    {
-        let clock = PureTime::with_minute(first_eight(bytes), LANES, bytes, 0, behavior)?;
-        Self::after_clock(clock, bytes, 0)
     }
 
     /// The time of the clock at the front of a text, which begins at `start` of the whole, and the offset that

@@ -1,6 +1,6 @@
 //! Times of day without their offsets, at the front of a text.
 
-ghost use Rattle.std.specs.Prelude.{◌≡◌, ◌+◌, ◌≤◌, ◌==◌, ◌||◌, ℕ, IfErr, IfOk, IsTrue, Ok, length, drop, codes};
+ghost use Rattle.std.specs.Prelude.{◌≡◌, ◌+◌, ◌≤◌, ◌==◌, ◌||◌, ℕ, IfErr, IfOk, IfSome, IsTrue, Ok, length, drop, codes};
 ghost use Rattle.speedate_base.specs.Digits.{run_length, run_digits, fraction_value};
 ghost use Rattle.speedate_base.specs.Digits.{two_digit_value, eight_at, fit_length};
 
@@ -8,7 +8,8 @@ use super::Time;
 use speedate_base::config::MicrosecondsPrecisionOverflowBehavior as Behavior;
 use speedate_base::faults::ParseError;
 use speedate_base::numbers::{
-    Fraction, byte_at, digit_pairs, eight_bytes, fit_length, is_decimal_mark, takes_digits,
+    Fraction, LANES, byte_at, digit_pairs, eight_bytes, first_eight, fit_length, is_decimal_mark,
+    takes_digits,
 };
 use speedate_base::refusal::Refusal;
 use std::simd::prelude::*;
@@ -148,6 +149,42 @@ impl PureTime {
         })
     }
 
+    /// The clock at the front of a text that looks like one with its second, if its hour is below 24 and
+    /// its fraction has at most six digits.
+    #[inline(always)]
+    pub(crate) fn of_digits(text: &[u8]) -> Option<Self>
+        requires long { 24 ≤ length text.now }
+        requires looks { fit_length (codes "00:00:00") (eight_at text.now 0) ≡ 8 }
+        requires minute { two_digit_value text.now 3 ≤ 59 }
+        requires second { two_digit_value text.now 6 ≤ 59 }
+        ensures clock { IfSome result (λ clock. (behavior : Behavior)
+            → clock_front behavior text.now ≡ Ok (clock_parts clock)) }
+        ensures short { IfSome result (λ clock. clock.size ≤ 15) }
+    {
+        let form = u8x8::from_array(*b"00:00:00");
+        let [hour, _, _, minute, _, _, second, _] = digit_pairs(first_eight(text), form, LANES);
+        if hour >= 24 {
+            return None;
+        }
+        if !is_decimal_mark(byte_at(text, 8)) {
+            return Some(PureTime {
+                hour,
+                minute,
+                second,
+                microsecond: 0,
+                size: 8,
+            });
+        }
+        let fraction = Fraction::read_short(text, 9)?;
+        Some(PureTime {
+            hour,
+            minute,
+            second,
+            microsecond: fraction.microsecond,
+            size: 9 + fraction.length,
+        })
+    }
+
     /// Parses a clock from its minute on, which begins at `place`, whatever follows it; its hour is 0.
     /// It is 13 minutes and 14 seconds, in five bytes, from `b"12:13:14"` at place 3.
     ///
@@ -208,7 +245,7 @@ impl PureTime {
 
     /// The time of day with this offset, if there is one.
     #[inline(always)]
-    pub(super) fn at_offset(self, tz_offset: Option<i32>) -> Time
+    pub(crate) fn at_offset(self, tz_offset: Option<i32>) -> Time
         requires { ForSome tz_offset IsOffset }
         ensures time { time_of_day result ≡ clock_with_offset (clock_parts self) tz_offset }
         ensures minutes { IsWholeMinutes tz_offset → IsWholeMinutes result.tz_offset }

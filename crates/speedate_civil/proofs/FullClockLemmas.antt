@@ -1,0 +1,177 @@
+-- A text whose bytes lie between those of two texts begins with a date, and a clock with a second.
+use Rattle.std.proofs.Common.{◌≡◌, ◌∙◌, ap, sym, refl, ℕ, zero, suc, ◌+◌, ◌-◌, ◌*◌, ◌<◌, ◌≤◌, ◌==◌, true, ◌&&◌, nat_le, List, [], ◌∷◌, length, get_or, take, drop, codes, slice_index, arith, lit<, lit≤, ℤ, pos, ◌+ℤ◌, ◌-ℤ◌, ◌*ℤ◌, Bool, Some, Ok, get_or-drop, get_or-take, length-drop, length-take-le, leb-true}
+use Rattle.std.proofs.lemmas.Bool.{and_parts}
+use Rattle.std.proofs.lemmas.Bool.Decides.{nat_tests}
+use Rattle.std.specs.Char.{is_ascii_digit}
+use Rattle.speedate_base.specs.Digits.{are_at_most, eight_at, fit_length, two_digits_at}
+use Rattle.speedate_base.specs.Ascii.{HasNoControl, colon, hyphen}
+use Rattle.speedate_civil.specs.Base.{Behavior}
+use Rattle.speedate_civil.specs.Calendar.{Ymd}
+use Rattle.speedate_civil.specs.Date.{date_front}
+use Rattle.speedate_civil.specs.DateTime.{DateAndTime, IsUtcFront, is_separator, local_second}
+use Rattle.speedate_civil.specs.DateTime.{utc_microsecond}
+use Rattle.speedate_civil.specs.ParserParts.{HasFullClock, IsOffsetOrUtc}
+use Rattle.speedate_civil.specs.Time.{Clock, clock_front, clock_with_offset}
+use Rattle.speedate_civil.proofs.FrontLemmas.{date_time_front-alone, date_time_front-is}
+use Rattle.speedate_civil.proofs.FrontLemmas.{time_front-is}
+use Rattle.speedate_civil.proofs.NoControlLemmas.{date_time_front-no_control}
+use Rattle.speedate_civil.proofs.ReadLemmas.{read-value}
+
+at_most-at : (bytes mosts : List ℕ) (k : ℕ) → are_at_most bytes mosts ≡ true → k < length bytes
+    → k < length mosts → get_or bytes k 0 ≤ get_or mosts k 0
+at_most-at [] mosts k all one two = absurd (omega (arith, one))
+at_most-at (byte ∷ bytes) [] k all one two = absurd (omega (arith, two))
+at_most-at (byte ∷ bytes) (most ∷ mosts) zero all one two =
+    leb-true byte most (and_parts (nat_le byte most) (are_at_most bytes mosts) all).0
+at_most-at (byte ∷ bytes) (most ∷ mosts) (suc k) all one two =
+    at_most-at bytes mosts k (and_parts (nat_le byte most) (are_at_most bytes mosts) all).1
+    (omega (arith, one)) (omega (arith, two))
+
+-- sixteen bytes of a text lie between those of two others
+abbrev pub AreBetween : List ℕ → List ℕ → List ℕ → Type 0
+AreBetween lowest bytes highest = (are_at_most lowest bytes && are_at_most bytes highest) ≡ true
+
+-- so one of them does
+byte-between : (lowest highest text : List ℕ) (place k : ℕ) → length lowest ≡ 16
+    → length highest ≡ 16 → place + 16 ≤ length text → k < 16
+    → AreBetween lowest (take 16 (drop place text)) highest
+    → (get_or lowest k 0 ≤ slice_index text (place + k))
+    × (slice_index text (place + k) ≤ get_or highest k 0)
+byte-between lowest highest text place k one two long small all =
+    let front : List ℕ = take 16 (drop place text) in
+    let both = and_parts (are_at_most lowest front) (are_at_most front highest) all in
+    let count : length front ≡ 16 =
+    length-take-le 16 (drop place text) (omega (arith, long, length-drop place text)) in
+    let same : get_or front k 0 ≡ slice_index text (place + k) =
+    get_or-take 16 (drop place text) k 0 small ∙ get_or-drop place text k 0 in (
+      rw (← same) (at_most-at lowest front k both.0 (omega (arith, one, small))
+          (omega (arith, count, small))),
+      rw (← same) (at_most-at front highest k both.1 (omega (arith, count, small))
+          (omega (arith, two, small))),
+    )
+
+abbrev lowest_date : List ℕ
+lowest_date = codes "0000-00-00 00:00"
+
+abbrev highest_date : List ℕ
+highest_date = codes "9999-19-39t29:59"
+
+abbrev lowest_clock : List ℕ
+lowest_clock = codes "0-00-00 00:00:00"
+
+abbrev highest_clock : List ℕ
+highest_clock = codes "9-19-39t29:59:59"
+
+date-byte : (text : List ℕ) (k : ℕ) → 19 ≤ length text → k < 16
+    → AreBetween lowest_date (take 16 text) highest_date
+    → (get_or lowest_date k 0 ≤ slice_index text (0 + k))
+    × (slice_index text (0 + k) ≤ get_or highest_date k 0)
+date-byte text k long small all =
+    byte-between lowest_date highest_date text 0 k refl refl (omega (arith, long)) small all
+
+clock-byte : (text : List ℕ) (k : ℕ) → 19 ≤ length text → k < 8
+    → AreBetween lowest_clock (take 16 (drop 3 text)) highest_clock
+    → (get_or lowest_clock (8 + k) 0 ≤ slice_index (drop 11 text) k)
+    × (slice_index (drop 11 text) k ≤ get_or highest_clock (8 + k) 0)
+clock-byte text k long small all =
+    let place : 3 + (8 + k) ≡ 11 + k = omega arith in
+    let same : slice_index text (3 + (8 + k)) ≡ slice_index (drop 11 text) k =
+    ap (slice_index text) place ∙ sym (get_or-drop 11 text k 0) in
+    rw same at
+    (byte-between lowest_clock highest_clock text 3 (8 + k) refl refl (omega (arith, long))
+    (omega (arith, small)) all)
+
+is_digit : (most byte : ℕ) → most ≤ 57 → (48 ≤ byte) × (byte ≤ most) → is_ascii_digit byte ≡ true
+is_digit most byte small lies = grind (arith, nat_tests)
+
+-- two bytes at 5 or less and at 9 are a number below 60
+below-60 : (tens ones : ℕ) → (48 ≤ tens) × (tens ≤ 53) → (48 ≤ ones) × (ones ≤ 57)
+    → 10 * (tens - 48) + (ones - 48) ≤ 59
+below-60 tens ones first second = omega (arith, first, second)
+
+is_mark : (mark byte : ℕ) → (mark ≤ byte) × (byte ≤ mark) → (byte == mark) ≡ true
+is_mark mark byte lies = grind (arith, nat_tests)
+
+looks-date : (text : List ℕ) → 19 ≤ length text
+    → AreBetween lowest_date (take 16 text) highest_date
+    → fit_length (codes "0000-00-") (eight_at text 0) ≡ 8
+looks-date text long all =
+    rw (
+      is_digit _ _ (lit≤ tt) (date-byte text 0 long (lit< tt) all),
+      is_digit _ _ (lit≤ tt) (date-byte text 1 long (lit< tt) all),
+      is_digit _ _ (lit≤ tt) (date-byte text 2 long (lit< tt) all),
+      is_digit _ _ (lit≤ tt) (date-byte text 3 long (lit< tt) all),
+      is_mark hyphen _ (date-byte text 4 long (lit< tt) all),
+      is_digit _ _ (lit≤ tt) (date-byte text 5 long (lit< tt) all),
+      is_digit _ _ (lit≤ tt) (date-byte text 6 long (lit< tt) all),
+      is_mark hyphen _ (date-byte text 7 long (lit< tt) all),
+    ) refl
+
+looks-clock : (text : List ℕ) → 19 ≤ length text
+    → AreBetween lowest_clock (take 16 (drop 3 text)) highest_clock
+    → fit_length (codes "00:00:00") (eight_at (drop 11 text) 0) ≡ 8
+looks-clock text long all =
+    rw (
+      is_digit _ _ (lit≤ tt) (clock-byte text 0 long (lit< tt) all),
+      is_digit _ _ (lit≤ tt) (clock-byte text 1 long (lit< tt) all),
+      is_mark colon _ (clock-byte text 2 long (lit< tt) all),
+      is_digit _ _ (lit≤ tt) (clock-byte text 3 long (lit< tt) all),
+      is_digit _ _ (lit≤ tt) (clock-byte text 4 long (lit< tt) all),
+      is_mark colon _ (clock-byte text 5 long (lit< tt) all),
+      is_digit _ _ (lit≤ tt) (clock-byte text 6 long (lit< tt) all),
+      is_digit _ _ (lit≤ tt) (clock-byte text 7 long (lit< tt) all),
+    ) refl
+
+looks-day : (text : List ℕ) → 19 ≤ length text
+    → AreBetween lowest_date (take 16 text) highest_date → two_digits_at text 8 ≡ true
+looks-day text long all =
+    rw (
+      is_digit _ _ (lit≤ tt) (date-byte text 8 long (lit< tt) all),
+      is_digit _ _ (lit≤ tt) (date-byte text 9 long (lit< tt) all),
+    ) refl
+
+pub full-clock : (text : List ℕ) → 35 ≤ length text
+    → AreBetween lowest_date (take 16 text) highest_date
+    → AreBetween lowest_clock (take 16 (drop 3 text)) highest_clock → HasFullClock text
+full-clock text enough date clock =
+    let long : 19 ≤ length text = omega (arith, enough) in
+    let byte = λ (k : ℕ) (small : k < 8). clock-byte text k long small clock in
+    record {
+      long = enough;
+      date = looks-date text long date;
+      day = looks-day text long date;
+      clock = looks-clock text long clock;
+      minute = below-60 _ _ (byte 3 (lit< tt)) (byte 4 (lit< tt));
+      second = below-60 _ _ (byte 6 (lit< tt)) (byte 7 (lit< tt));
+    }
+
+-- a date, a separator, a clock and an offset, or none, are a date-time at the front of a text
+pub utc-front : (assumes_utc : Bool) (text : List ℕ) (date : Ymd) (clock : Clock) (offset : ℤ × ℕ)
+    (number : ℤ)
+    → 35 ≤ length text → date_front text ≡ Ok (date, 10)
+    → is_separator (slice_index text 10) ≡ true
+    → ((behavior : Behavior) → clock_front behavior (drop 11 text) ≡ Ok clock) → clock.size ≤ 15
+    → IsOffsetOrUtc assumes_utc (drop clock.size (drop 11 text)) offset → offset.1 ≤ 6
+    → number ≡ utc_microsecond
+    (record { date = date; time = clock_with_offset clock (Some offset.0) })
+    → IsUtcFront assumes_utc text (number, 11 + (clock.size + offset.1))
+utc-front assumes_utc text date clock offset number long dated parted timed short found few is =
+    let rest : List ℕ = drop 11 text in
+    let size : ℕ = 11 + (clock.size + offset.1) in
+    let time = clock_with_offset clock found.offset in
+    let value : DateAndTime = record { date = date; time = time } in
+    let within : size ≤ length text = omega (arith, long, short, few) in
+    let front = λ (behavior : Behavior).
+    date_time_front-is behavior text (date, 10) (time, clock.size + offset.1) dated (parted, tt)
+    (time_front-is behavior rest clock (found.offset, offset.1) (timed behavior) found.read) in
+    let no_control = date_time_front-no_control Behavior.Error text in
+    record {
+      value = value;
+      within = within;
+      read = λ behavior. date_time_front-alone behavior text (value, size) (front behavior) within;
+      number = ap (λ (second : ℤ). pos 1000000 *ℤ (local_second value -ℤ second)
+          +ℤ pos clock.microsecond) found.second ∙ sym is;
+      offset = found.there;
+      no_control = read-value (λ (read : DateAndTime × ℕ). HasNoControl read.1 text) _
+          (value, size) (front Behavior.Error) no_control;
+    }

@@ -1,0 +1,62 @@
+//! The instants of date-times at the front of texts that have a clock with its second, as most have.
+
+ghost use Rattle.std.specs.Prelude.{IfSome, IsTrue};
+ghost use Rattle.speedate_civil.specs.DateTime.{IsUtcFront};
+ghost use Rattle.speedate_civil.specs.ParserParts.{HasFullClock};
+
+use super::DateTime;
+use super::parse::{TIME_PLACE, has_separator};
+use crate::date::Date;
+use crate::time::{PureTime, offset_or_utc};
+use speedate_base::numbers::are_between;
+use std::simd::prelude::*;
+
+/// How many bytes are loaded at most: those of a date, a separator, a clock with six digits after its
+/// second, a sign, and eight more.
+const FULL_LENGTH: usize = 35;
+
+/// The microseconds from 1970-01-01T00:00:00 in UTC to the date-time at the front of a text, and how many
+/// bytes it takes, if the text has 35 bytes or more and the date-time the form that most have: seconds,
+/// at most six digits after them, and then `Z`, `z`, or `+` or `-` with `HH:MM` or `HHMM`. If
+/// `assumes_utc` is true, the offset may be missing. It is 1,000,000, and 20, from
+/// `b"1970-01-01T00:00:01Z\n1970-01-01T00:00Z"`.
+///
+/// `None` says nothing of the text: it may begin with a date-time all the same.
+#[inline(always)]
+pub fn utc_front(bytes: &[u8], assumes_utc: bool) -> Option<(i64, usize)>
+    ensures front { IfSome result (IsUtcFront assumes_utc bytes.now) }
+{
+    if !has_full_clock(bytes) || !has_separator(bytes) {
+        return None;
+    }
+    let date = Date::of_digits(bytes)?;
+    let rest = &bytes[TIME_PLACE..];
+    let clock = PureTime::of_digits(rest)?;
+    let (offset, size) = offset_or_utc(rest, clock.size, assumes_utc)?;
+    let time = clock.at_offset(Some(offset));
+    let number = DateTime { date, time }.timestamp_tz_us();
+    Some((number, TIME_PLACE + (clock.size + size)))
+}
+
+/// Whether a text begins as a date looks and, after a byte from a space to `t`, as a clock with its second
+/// does, whose minute and second are below 60: true for `b"2020-02-29T12:13:14Z"` and for
+/// `b"2020-19-39 29:59:59"`, with 15 and 16 bytes more.
+#[inline(always)]
+fn has_full_clock(bytes: &[u8]) -> bool
+    ensures looks { IsTrue result → HasFullClock bytes.now }
+{
+    if bytes.len() < FULL_LENGTH {
+        return false;
+    }
+    let front = are_between(
+        u8x16::from_slice(bytes),
+        u8x16::from_array(*b"0000-00-00 00:00"),
+        u8x16::from_array(*b"9999-19-39t29:59"),
+    );
+    let end = are_between(
+        u8x16::from_slice(&bytes[3..]),
+        u8x16::from_array(*b"0-00-00 00:00:00"),
+        u8x16::from_array(*b"9-19-39t29:59:59"),
+    );
+    front & end
+}
