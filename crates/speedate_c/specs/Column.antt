@@ -1,6 +1,6 @@
 -- Columns from outside: what their configuration says, which number a line has, and what a call
 -- leaves.
-use Rattle.std.specs.Prelude.{◌≡◌, ℕ, ◌≤◌, ◌++◌, ℤ, negsuc, pos, Bool, false, not, List, [], ◌∷◌, length, min, drop, slice_get, Option, Some, None, Result, if◌then◌else◌}
+use Rattle.std.specs.Prelude.{◌≡◌, ◌≢◌, ℕ, ◌≤◌, ◌++◌, ℤ, negsuc, pos, Bool, false, not, List, [], ◌∷◌, length, min, drop, slice_get, Option, Some, None, Result, if◌then◌else◌}
 use Rattle.std.specs.Option.{option_and_then, option_map}
 use Rattle.speedate.specs.Base.{ParseError, TimestampUnit}
 use Rattle.speedate.specs.Calendar.{days_between}
@@ -184,9 +184,9 @@ pub record IsProgress {N : Type 0} (config : LineConfig) (text : List ℕ) (entr
   pub unfinished : config.at_end ≡ false
       → unfinished_line (drop progress.bytes text) ≡ unfinished_line text
 
--- what a call leaves: the numbers of the first lines, of as many as there is room for, before what
--- stood after them, and how far the column has come
-pub record IsColumn {N : Type 0} (answer : List ℕ → Result N LineError) (config : LineConfig)
+-- what a call without errors leaves: the numbers of the first lines, of as many as there is room
+-- for, before what stood after them, and how far the column has come
+pub record IsNumberColumn {N : Type 0} (answer : List ℕ → Result N LineError) (config : LineConfig)
     (refused : Option N) (text : List ℕ) (before after : List N) (progress : SpeedateProgress)
     : Type 0 where
   pub numbers : after
@@ -196,8 +196,8 @@ pub record IsColumn {N : Type 0} (answer : List ℕ → Result N LineError) (con
       (text_column answer config refused (length before) text).numbers
       (ended_code (text_column answer config refused (length before) text).fault) progress
 
--- what a call leaves that writes errors too, and ends at none: as many lines are read as there is
--- room for in both
+-- what a call with errors leaves, which no line ends: as many lines are read as there is room for in
+-- both
 pub record IsColumnWithErrors {N : Type 0} (answer : List ℕ → Result N LineError)
     (config : LineConfig) (least : N) (text : List ℕ) (before after : List N)
     (errors_before errors_after : List ℕ) (progress : SpeedateProgress) : Type 0 where
@@ -210,3 +210,12 @@ pub record IsColumnWithErrors {N : Type 0} (answer : List ℕ → Result N LineE
   pub reached : IsProgress config text
       (text_column answer config (Some least) (min (length before) (length errors_before))
       text).numbers success progress
+
+-- what a call leaves: it writes errors too where there is a place for one
+pub record IsColumn {N : Type 0} (answer : List ℕ → Result N LineError) (column : ColumnChoices)
+    (least : N) (text : List ℕ) (before after : List N) (errors_before errors_after : List ℕ)
+    (progress : SpeedateProgress) : Type 0 where
+  pub numbers : length errors_before ≡ 0 → IsNumberColumn answer column.lines
+      (on_refusal column.goes_on least) text before after progress
+  pub errors : length errors_before ≢ 0 → IsColumnWithErrors answer column.lines least text before
+      after errors_before errors_after progress

@@ -14,7 +14,7 @@ ghost use Rattle.speedate_c.specs.Code.{order_number, success, value_out_of_rang
 ghost use Rattle.speedate_c.specs.Config.{choices_of};
 ghost use Rattle.speedate_c.specs.Date.{date_of, shown_date};
 
-mod error_place;
+mod part;
 mod timestamp;
 
 use crate::code::{NO_SUCH_DATE, SUCCESS, order_number};

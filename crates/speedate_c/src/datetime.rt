@@ -13,7 +13,7 @@ ghost use Rattle.speedate_c.specs.Code.{order_number, success, value_out_of_rang
 ghost use Rattle.speedate_c.specs.Config.{choices_of};
 ghost use Rattle.speedate_c.specs.DateTime.{date_time_of, shown_date_time};
 
-mod error_place;
+mod part;
 mod timestamp;
 
 use crate::code::{SUCCESS, order_number};
