@@ -260,6 +260,9 @@ place(duration_column, ["P1D1Q"]), place(duration_column, b"P106751992D"), place
 refusal(date, "2020-02-30"), refusal(date, bytearray(b"2020-02-30")), refusal(date, memoryview(b"2020-02-30")) -> (('2020-02-30', 8), (b'2020-02-30', 8), (b'2020-02-30', 8))
 refusal(date, "0000-01-01"), refusal(date_time, b"0000-01-01T00:00"), refusal(date_front, memoryview(b"0000-01-01 x")) -> (('0000-01-01', 0), (b'0000-01-01T00:00', 0), (b'0000-01-01 x', 0))
 refusal(duration, "-P999999999DT1S"), refusal(date_from_timestamp, -62167219200), refusal(date_from_timestamp, 1) -> (('-P999999999DT1S', 0), (None, None), (None, None))
+whole(date, "0000-01-01"), whole(date_time, b"0000-01-01T00:00"), whole(date_front, "0000-01-01 \u00e9"), whole(duration, "-P999999999DT1S") -> (('0000-01-01', 'a year from 0001 to 9999'), (b'0000-01-01T00:00', 'a year from 0001 to 9999'), ('0000-01-01', 'a year from 0001 to 9999'), ('-P999999999DT1S', 'a duration of at least -999999999 days'))
+whole(date, "-62167219200", Config("s"), timestamps=True), whole(date_time_front, "0000-01-01T00:00\u221201:00 " + "\u00e9" * 300) -> (('-62167219200', 'a year from 0001 to 9999'), ('0000-01-01T00:00\u221201:00', 'a year from 0001 to 9999'))
+Unrepresentable("x").end, Unrepresentable("x").expected, Unrepresentable("x").code, Unrepresentable("x").documentation, Unrepresentable("x").hint -> (None, 'a value that Python has', 0, 'Python has no such value', None)
 refusal(date_column, ["1970-01-01", "x"]), refusal(date_column, b"1970-01-01\nx\r\n"), refusal(date_column, ["x\r\n"], lines=True) -> (('x', 1), (b'x', 1), ('x', 1))
 refusal(date_column, [bytearray(b"x")]), refusal(duration_column, ["PT1S", "P106751992D"]), refusal(date_column, bytearray(b"y")) -> ((b'x', 1), ('P106751992D', None), (b'y', 1))
 Unrepresentable.__mro__[1:3], Fault.__mro__[1:3] -> ((<class 'speedate.Refusal'>, <class 'ValueError'>), (<class 'speedate.Refusal'>, <class 'ValueError'>))
@@ -356,6 +359,17 @@ def refusal(call, *given, **named):
         for it in (copy.copy(error), pickle.loads(pickle.dumps(copy.copy(error)))):
             assert (it.text, it.place, it.index, it.name, str(it)) == (None, error.place, error.index, error.name, str(error))
         return error.text, error.place
+
+
+def whole(call, *given, **named):
+    """The part that is wrong of a value that Python has not, and what was expected. All attributes are those of a fault."""
+    try:
+        call(*given, **named)
+    except speedate.Unrepresentable as error:
+        again = pickle.loads(pickle.dumps(error))
+        names = [it for it in dir(speedate.Fault(1)) if not it.startswith("_") and it not in ("args", "with_traceback", "add_note")]
+        assert [getattr(error, it) for it in names if it != "text"] == [getattr(again, it) for it in names if it != "text"]
+        return error.text[error.place:error.end], error.expected
 
 
 def listed(texts, read=speedate.date_time_column):
