@@ -27,7 +27,7 @@ use Rattle.speedate_c.specs.declared.column.SpeedateProgress.{SpeedateProgress}
 
 -- the forms in the order of their numbers, the default first
 abbrev pub forms : List LineForm
-forms = LineForm.Text ∷ LineForm.Timestamp ∷ LineForm.Strict ∷ []
+forms = LineForm.Text ∷ LineForm.OrTimestamp ∷ LineForm.Strict ∷ []
 
 -- what a configuration of columns from outside chooses, where each of its numbers has a value
 abbrev pub column_choices_of : SpeedateColumnConfig → Option ColumnChoices
@@ -63,7 +63,7 @@ least_of_64_bits = negsuc 9223372036854775807
 -- the date-time of a line, or the error
 abbrev pub date_time_of_form : LineForm → Choices → List ℕ → Result DateAndTime ParseError
 date_time_of_form LineForm.Text chosen line = date_time_answer chosen.behavior line
-date_time_of_form LineForm.Timestamp chosen line =
+date_time_of_form LineForm.OrTimestamp chosen line =
     date_time_or_timestamp chosen.unit chosen.behavior chosen.offset line
 date_time_of_form LineForm.Strict chosen line = strict_date_time_answer chosen.behavior line
 
@@ -86,7 +86,7 @@ date_time_offset_number_by chosen form line =
 -- the time of a line, or the error, where the form is one of times
 abbrev pub time_of_form : LineForm → Choices → Option (List ℕ → Result TimeOfDay ParseError)
 time_of_form LineForm.Text chosen = Some (λ line. time_answer chosen.behavior line)
-time_of_form LineForm.Timestamp chosen = None
+time_of_form LineForm.OrTimestamp chosen = None
 time_of_form LineForm.Strict chosen = Some (λ line. strict_time_answer chosen.behavior line)
 
 -- the number of a line in a column of times, where the form is one of times: the microseconds after
@@ -109,7 +109,7 @@ time_offset_number_by chosen form =
 abbrev pub date_number_by : TimestampUnit → LineForm → Option (List ℕ → Result ℤ LineError)
 date_number_by unit LineForm.Text =
     Some (λ line. as_number (days_between epoch) (date_answer line))
-date_number_by unit LineForm.Timestamp =
+date_number_by unit LineForm.OrTimestamp =
     Some (λ line. as_number (days_between epoch) (date_or_timestamp unit line))
 date_number_by unit LineForm.Strict = None
 

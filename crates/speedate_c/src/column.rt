@@ -50,7 +50,7 @@ enum LineForm {
     /// No timestamps.
     Text,
     /// Timestamps too.
-    Timestamp,
+    OrTimestamp,
     /// Times and date-times of RFC 3339 alone.
     Strict,
 }
@@ -93,7 +93,7 @@ fn form(number: u8) -> Option<LineForm>
 {
     match number {
         0 => Some(LineForm::Text),
-        1 => Some(LineForm::Timestamp),
+        1 => Some(LineForm::OrTimestamp),
         2 => Some(LineForm::Strict),
         _ => None,
     }

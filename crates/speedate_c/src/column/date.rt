@@ -20,7 +20,7 @@ impl ColumnChoices {
     {
         match self.form {
             LineForm::Text => Some(DateReader::Rfc3339),
-            LineForm::Timestamp => Some(DateReader::OrTimestamp(config)),
+            LineForm::OrTimestamp => Some(DateReader::OrTimestamp(config)),
             LineForm::Strict => None,
         }
     }

@@ -31,7 +31,7 @@ impl ColumnChoices {
         let time_config = config.time_config;
         match self.form {
             LineForm::Text => DateTimeParser::Rfc3339(time_config),
-            LineForm::Timestamp => DateTimeParser::OrTimestamp(*config),
+            LineForm::OrTimestamp => DateTimeParser::OrTimestamp(*config),
             LineForm::Strict => {
                 DateTimeParser::Strict(time_config.microseconds_precision_overflow_behavior)
             }

@@ -23,7 +23,7 @@ impl ColumnChoices {
         let time_config = config.time_config;
         match self.form {
             LineForm::Text => Some(TimeParser::Rfc3339(time_config)),
-            LineForm::Timestamp => None,
+            LineForm::OrTimestamp => None,
             LineForm::Strict => {
                 let behavior = time_config.microseconds_precision_overflow_behavior;
                 Some(TimeParser::Strict(behavior))

@@ -47,10 +47,10 @@ pub extern "C" fn speedate_date_parse_or_part(
     SUCCESS
 }
 
-/// The same for [`speedate_date_parse_rfc3339`], as [`Date::parse_or_place_rfc3339`] does: 10 to 16 for
+/// The same for [`speedate_date_parse_text`], as [`Date::parse_or_place_rfc3339`] does: 10 to 16 for
 /// `2020-01-01T12:13`.
 #[unsafe(no_mangle)]
-pub extern "C" fn speedate_date_parse_or_part_rfc3339(
+pub extern "C" fn speedate_date_parse_or_part_text(
     text: &[u8],
     out: &mut SpeedateDate,
     part: &mut SpeedatePart,

@@ -48,10 +48,10 @@ pub extern "C" fn speedate_datetime_parse_or_part(
     SUCCESS
 }
 
-/// The same for [`speedate_datetime_parse_rfc3339`], as [`DateTime::parse_or_place_rfc3339`] does: 10 to
+/// The same for [`speedate_datetime_parse_text`], as [`DateTime::parse_or_place_rfc3339`] does: 10 to
 /// 11 for `2020-02-29x12:13`.
 #[unsafe(no_mangle)]
-pub extern "C" fn speedate_datetime_parse_or_part_rfc3339(
+pub extern "C" fn speedate_datetime_parse_or_part_text(
     text: &[u8],
     config: SpeedateConfig,
     out: &mut SpeedateDateTime,
