@@ -437,13 +437,13 @@ typedef int Parse(const Text *text, SpeedateConfig config, Value *out, size_t *t
         return call; \
     }
 #define BYTES text->bytes, text->size
-PARSE(parse_date, speedate_date_parse_rfc3339(BYTES, &out->date))
+PARSE(parse_date, speedate_date_parse_text(BYTES, &out->date))
 PARSE(parse_date_or_timestamp, speedate_date_parse(BYTES, config, &out->date))
 PARSE(parse_date_front, speedate_date_parse_front(BYTES, &out->date, taken))
 PARSE(parse_time, speedate_time_parse(BYTES, config, &out->time))
 PARSE(parse_time_strict, speedate_time_parse_strict(BYTES, config, &out->time))
 PARSE(parse_time_front, speedate_time_parse_front(BYTES, config, &out->time, taken))
-PARSE(parse_date_time, speedate_datetime_parse_rfc3339(BYTES, config, &out->date_time))
+PARSE(parse_date_time, speedate_datetime_parse_text(BYTES, config, &out->date_time))
 PARSE(parse_date_time_or_timestamp, speedate_datetime_parse(BYTES, config, &out->date_time))
 PARSE(parse_date_time_strict, speedate_datetime_parse_strict(BYTES, config, &out->date_time))
 PARSE(parse_date_time_front, speedate_datetime_parse_front(BYTES, config, &out->date_time, taken))
@@ -457,13 +457,13 @@ typedef int ParseOrPart(const Text *text, SpeedateConfig config, Value *out, siz
         (void)config, (void)taken; \
         return call; \
     }
-PARSE_OR_PART(parse_date, speedate_date_parse_or_part_rfc3339(BYTES, &out->date, part))
+PARSE_OR_PART(parse_date, speedate_date_parse_or_part_text(BYTES, &out->date, part))
 PARSE_OR_PART(parse_date_or_timestamp, speedate_date_parse_or_part(BYTES, config, &out->date, part))
 PARSE_OR_PART(parse_date_front, speedate_date_parse_or_part_front(BYTES, &out->date, taken, part))
 PARSE_OR_PART(parse_time, speedate_time_parse_or_part(BYTES, config, &out->time, part))
 PARSE_OR_PART(parse_time_strict, speedate_time_parse_or_part_strict(BYTES, config, &out->time, part))
 PARSE_OR_PART(parse_time_front, speedate_time_parse_or_part_front(BYTES, config, &out->time, taken, part))
-PARSE_OR_PART(parse_date_time, speedate_datetime_parse_or_part_rfc3339(BYTES, config, &out->date_time, part))
+PARSE_OR_PART(parse_date_time, speedate_datetime_parse_or_part_text(BYTES, config, &out->date_time, part))
 PARSE_OR_PART(parse_date_time_or_timestamp, speedate_datetime_parse_or_part(BYTES, config, &out->date_time, part))
 PARSE_OR_PART(parse_date_time_strict, speedate_datetime_parse_or_part_strict(BYTES, config, &out->date_time, part))
 PARSE_OR_PART(parse_date_time_front, speedate_datetime_parse_or_part_front(BYTES, config, &out->date_time, taken, part))
@@ -491,7 +491,7 @@ static const struct {
     int kind; /* of calls, on which it depends what is expected */
 } parsers[ALL_PARSERS] = {
 #define PARSER(name, kind) {name, name##_or_part, SPEEDATE_KIND_##kind}
-    [NO_PART] = {NULL, NULL, SPEEDATE_KIND_VALUES},
+    [NO_PART] = {NULL, NULL, SPEEDATE_KIND_NONE},
     [DATE] = PARSER(parse_date, DATE),
     [DATE_OR_TIMESTAMP] = PARSER(parse_date_or_timestamp, DATE_OR_TIMESTAMP),
     [DATE_FRONT] = PARSER(parse_date_front, DATE),
@@ -620,7 +620,7 @@ static int parse_long_front(int parser, PyObject *object, SpeedateConfig config,
         bool whole;
         if (take_front(object, size, text, &whole) < 0)
             return -1;
-        SpeedatePart part = {0, 0};
+        SpeedatePart part;
         *code = parsers[parser].parse_or_part(text, config, value, taken, &part);
         if (whole || (*code == SPEEDATE_OK ? *taken : part.end) + BEYOND <= text->size)
             return 0;
@@ -705,10 +705,10 @@ static Part part_in(PyObject *object, const Text *text, SpeedatePart part) {
 static int part_in_column(int call, SpeedateConfig config, PyObject *object, const Text *text, Part *part) {
     Value value;
     size_t taken;
-    SpeedatePart found = {text->size, text->size};
+    SpeedatePart found;
     int code = parsers[call].parse_or_part(text, config, &value, &taken, &found);
     if (code == SPEEDATE_OK)
-        found = (SpeedatePart){text->size, text->size};
+        found.place = found.end = text->size;
     *part = code == SPEEDATE_OK && call == DURATION ? (Part){-1, -1} : part_in(object, text, found);
     return code;
 }
@@ -720,7 +720,7 @@ static int find_part(int call, SpeedateConfig config, PyObject *object, Part *pa
         Text text;
         Value value;
         size_t taken;
-        SpeedatePart found = {0, 0};
+        SpeedatePart found;
         if ((front ? take_front(object, size, &text, &whole) : take_text(object, -1, &text)) < 0)
             return -1;
         int code = parsers[call].parse_or_part(&text, config, &value, &taken, &found);
@@ -746,7 +746,9 @@ static int find_part_in_column(int call, SpeedateConfig config, PyObject *object
 static PyObject *expected_of(const State *state, int code, int call) {
     char text[SPEEDATE_CODE_TEXT_SIZE];
     size_t length;
-    int failed = speedate_code_expected(code, parsers[call].kind, text, sizeof text, &length);
+    SpeedatePart part = SPEEDATE_PART_NONE;
+    part.kind = parsers[call].kind;
+    int failed = speedate_code_expected(code, &part, text, sizeof text, &length);
     return failed == SPEEDATE_OK ? PyUnicode_FromStringAndSize(text, (Py_ssize_t)length) : raise_fault(state, failed);
 }
 
@@ -848,7 +850,7 @@ typedef int ReadLines(const Text *text, SpeedateConfig config, SpeedateColumnCon
 #define READ_LINES(name, call, number) \
     static int name(const Text *text, SpeedateConfig config, SpeedateColumnConfig column, number *numbers, \
                     size_t room, SpeedateProgress *progress) { \
-        return call(BYTES, config, column, numbers, room, progress); \
+        return call(BYTES, config, column, numbers, room, NULL, 0, progress); \
     }
 READ_LINES(read_date_times, speedate_datetime_column, int64_t)
 READ_LINES(read_clocks, speedate_datetime_clock_column, int64_t)
@@ -897,13 +899,13 @@ static int number_of_date_time(const ColumnReader *reader, const Text *text, con
     (void)text;
     if (!value->date_time.time.has_offset && !reader->lines.assumes_utc)
         return SPEEDATE_TZ_REQUIRED;
-    return speedate_datetime_timestamp_tz_us(value->date_time, number);
+    return speedate_datetime_unix_microseconds(value->date_time, number);
 }
 
 static int number_of_date(const ColumnReader *reader, const Text *text, const Value *value, int64_t *number) {
     (void)reader, (void)text;
     int32_t days;
-    int code = speedate_date_days_since(value->date, (SpeedateDate){1970, 1, 1}, &days);
+    int code = speedate_date_days_between((SpeedateDate){1970, 1, 1}, value->date, &days);
     if (code == SPEEDATE_OK)
         *number = days;
     return code;
@@ -951,7 +953,7 @@ static inline int read_number(const ColumnReader *reader, const Text *text, int6
 /* The numbers of timestamps. */
 
 static int date_time_of_timestamp(const ColumnReader *reader, int64_t timestamp, int64_t *number) {
-    int code = speedate_timestamp_microseconds(timestamp, reader->config, number);
+    int code = speedate_datetime_timestamp_microseconds(timestamp, reader->config, number);
     bool lacks_offset = !reader->config.has_timestamp_offset && !reader->lines.assumes_utc;
     return code == SPEEDATE_OK && lacks_offset ? SPEEDATE_TZ_REQUIRED : code;
 }
@@ -960,7 +962,7 @@ static int date_time_of_timestamp(const ColumnReader *reader, int64_t timestamp,
 static int clock_of_timestamp(const ColumnReader *reader, int64_t timestamp, int64_t *number) {
     SpeedateConfig config = reader->config;
     config.timestamp_offset = config.has_timestamp_offset = 0;
-    return speedate_timestamp_microseconds(timestamp, config, number);
+    return speedate_datetime_timestamp_microseconds(timestamp, config, number);
 }
 
 static int date_time_offset_of_timestamp(const ColumnReader *reader, int64_t timestamp, int64_t *number) {
@@ -1580,7 +1582,7 @@ static PyObject *read_column(const ColumnCall *call, GIVEN) {
         PyErr_SetString(PyExc_ValueError, "strict and timestamps exclude each other");
         return NULL;
     }
-    reader->lines.form = strict ? SPEEDATE_FORM_STRICT : timestamps ? SPEEDATE_FORM_TIMESTAMP : SPEEDATE_FORM_TEXT;
+    reader->lines.form = strict ? SPEEDATE_FORM_STRICT : timestamps ? SPEEDATE_FORM_OR_TIMESTAMP : SPEEDATE_FORM_TEXT;
     reader->lines.assumes_utc = naive_is_utc;
     reader->lines.drops_returns = !return_is_text;
     reader->lines.goes_on = nat;

@@ -548,11 +548,11 @@ def config_of(field, *names):
 
 
 def call_of(name, fields, text_of=str.encode):
-    """The call here that is one of C, with its arguments, or nothing. For one that tells a place it is the parser."""
-    name = name.replace("_error_place", "_parse").replace("_parse_or_part", "_parse")
+    """The call here that is one of C, with its arguments, or nothing. For one that gives a part it is the parser."""
+    name = name.replace("_parse_or_part", "_parse")
     kind, _, form = name.replace("datetime", "date_time").rpartition("_parse")
-    if kind in ("date", "time", "date_time", "duration") and form in ("", "_rfc3339", "_front", "_strict"):
-        call = getattr(speedate, kind + form.replace("_rfc3339", ""))
+    if kind in ("date", "time", "date_time", "duration") and form in ("", "_text", "_front", "_strict"):
+        call = getattr(speedate, kind + form.replace("_text", ""))
         config = {"config": config_of(fields[0], *READ.get(name, ("overflow_behavior",)))} if fields[1:] else {}
         timestamps = {"timestamps": True} if name in ("date_parse", "datetime_parse") else {}
         return lambda: call(text_of(fields[-1]), **config, **timestamps)
@@ -612,13 +612,12 @@ class Speedate(unittest.TestCase):
                 continue
             with self.subTest(row):
                 self.check_row(name, call, wanted, *fields[place + 1:])
-                if "_error_place" in name:
-                    self.check_places(name, fields[:place], *fields[place + 1:])
                 if "_or_part" in name and wanted != "ok":
+                    self.check_places(name, fields[:place], *fields[place + 1:])
                     self.check_ends(name, fields[:place], *fields[place + 1:])
                 ran[name] += 1
         self.assertGreater(sum(ran.values()), 190, (ran, left))
-        self.assertEqual(sum("_error_place" in name for name in ran), 11, ran)
+        self.assertEqual(sum("_or_part" in name for name in ran), 11, ran)
 
     def check_row(self, name, call, wanted, written=None, size=None):
         try:
@@ -633,7 +632,7 @@ class Speedate(unittest.TestCase):
         self.assertEqual(wanted, "ok")
         if name.startswith("code_") or name.endswith("_to_text"):
             self.assertEqual(told, written)
-        elif "_error_place" not in name:
+        else:
             self.assertEqual(repr(told), repr((value_of(written), int(size)) if size else value_of(written)))
 
     def check_ends(self, name, fields, written="None None"):
@@ -643,11 +642,12 @@ class Speedate(unittest.TestCase):
             found = part(call_of(name, fields, text_of))[1]
             self.assertEqual(str(len(fields[-1][:found].encode()) if text_of is str and found is not None else found), end)
 
-    def check_places(self, name, fields, written=None):
+    def check_places(self, name, fields, written="None None"):
         """The place that C writes, in texts of each type: in a str it is how many characters end there or before."""
         ends = [len(fields[-1][:it].encode()) for it in range(1, len(fields[-1]) + 1)]
         for text_of in (str.encode, str, lambda it: bytearray(it.encode()), lambda it: memoryview(it.encode()), lambda it: memoryview(bytearray(it.encode()))):
-            wanted = None if written is None else sum(it <= int(written) for it in ends) if text_of is str else int(written)
+            at = written.split()[0]
+            wanted = None if at == "None" else sum(it <= int(at) for it in ends) if text_of is str else int(at)
             self.assertEqual(place(call_of(name, fields, text_of)), wanted)
 
     def test_docstrings(self):
