@@ -168,6 +168,16 @@ class Sources(unittest.TestCase):
             with self.assertRaisesRegex(TypeError, f"^text 0 has to be .*, not {kind}$"):
                 column(wrong)
 
+    @unittest.skipUnless(pandas, "pandas is not installed")
+    def test_durations_of_pandas(self):
+        """Its texts have no years. Below zero they have a sign within, and are refused."""
+        for it in (0, 1, 86_399, 400 * 86_400, 10**9):
+            self.assertEqual(speedate.duration(pandas.Timedelta(it, "s").isoformat()), datetime.timedelta(seconds=it))
+        for it in (-1, -86_401, -(10**9)):
+            with self.assertRaisesRegex(speedate.Fault, "^duration_invalid_number$"):
+                speedate.duration(pandas.Timedelta(it, "s").isoformat())
+        self.assertEqual(pandas.Timedelta(-1, "s").isoformat(), "P-1DT23H59M59S")
+
     @unittest.skipUnless(numpy, "NumPy is not installed")
     def test_timestamps_of_numpy(self):
         days, unix = numpy.arange(-40_000, 40_000), speedate.Config("s", 0)
