@@ -199,8 +199,8 @@ export function compare(first: SpeedateDateTime, second: SpeedateDateTime): -1 |
 export function compare(first: SpeedateDuration, second: SpeedateDuration): -1 | 0 | 1;
 /** The date so many days later. `no_such_date` outside the years 0 to 9999. */
 export function addDays(date: SpeedateDate, days: number): SpeedateDate;
-/** The days from `earlier` to `date`, negative where `earlier` is the later one. */
-export function daysSince(date: SpeedateDate, earlier: SpeedateDate): number;
+/** The days from one date to the other, negative if `earlier` is the later one. */
+export function daysBetween(earlier: SpeedateDate, later: SpeedateDate): number;
 /** The day of the year, 1 to 366. */
 export function dayOfYear(date: SpeedateDate): number;
 /** The value `duration` after `start`, at the same offset. `date_not_exact` where a date would move by a part of a day;

@@ -7,7 +7,7 @@ import { setFlagsFromString } from "node:v8";
 import { runInNewContext } from "node:vm";
 import {
   dateColumn, dateColumnReader, dateTimeClockColumn, dateTimeClockColumnReader, dateTimeColumn, dateTimeColumnReader, dateTimeFromTimestamp, dateTimeOffsetColumn,
-  dateTimeOffsetColumnReader, daysSince, epochMilliseconds, inTimezone, parseDate, parseDateTime, safeParseDate, safeParseDateTime, safeParseTime, SpeedateError, timeColumn,
+  dateTimeOffsetColumnReader, daysBetween, epochMilliseconds, inTimezone, parseDate, parseDateTime, safeParseDate, safeParseDateTime, safeParseTime, SpeedateError, timeColumn,
   timeColumnReader, timeOffsetColumn, timeOffsetColumnReader, toDate,
 } from "speedate";
 
@@ -31,7 +31,7 @@ function linesOf(text) {
 /** What a line has in a column of dates. */
 function day(line, { timestamps }) {
   const { ok, value, ...refusal } = safeParseDate(Buffer.from(line), { timestamps });
-  return ok ? { number: daysSince(value, EPOCH) } : { number: SMALLEST, refusal };
+  return ok ? { number: daysBetween(EPOCH, value) } : { number: SMALLEST, refusal };
 }
 
 /** Of a decimal text JavaScript makes the nearest double. */

@@ -101,7 +101,7 @@ const uses: Record<keyof typeof speedate, unknown> = {
     speedate.compare(moment, moment), speedate.compare(second, second), [date, date].sort(speedate.compare), [moment, moment].sort(speedate.compare),
   ],
   addDays: same<SpeedateDate, ReturnType<typeof speedate.addDays>>(true, speedate.addDays(date, 1)),
-  daysSince: same<number, ReturnType<typeof speedate.daysSince>>(true, speedate.daysSince(date, date)),
+  daysBetween: same<number, ReturnType<typeof speedate.daysBetween>>(true, speedate.daysBetween(date, date)),
   dayOfYear: same<number, ReturnType<typeof speedate.dayOfYear>>(true, speedate.dayOfYear(date)),
   after: [((it: SpeedateDate) => it.day)(speedate.after(date, speedate.parseDuration("P1D"))), same<SpeedateDateTime, ReturnType<typeof speedate.after>>(true, speedate.after(moment, second))],
   before: [((it: SpeedateDate) => it.day)(speedate.before(date, speedate.parseDuration("P1D"))), same<SpeedateDateTime, ReturnType<typeof speedate.before>>(true, speedate.before(moment, second))],
@@ -156,7 +156,7 @@ const refused = [
   // @ts-expect-error
   () => speedate.addDays(moment, 1),
   // @ts-expect-error
-  () => speedate.daysSince(date, moment),
+  () => speedate.daysBetween(date, moment),
   // @ts-expect-error
   () => speedate.dayOfYear(moment),
   // @ts-expect-error
