@@ -196,8 +196,8 @@ pub record IsNumberColumn {N : Type 0} (answer : List ℕ → Result N LineError
       (text_column answer config refused (length before) text).numbers
       (ended_code (text_column answer config refused (length before) text).fault) progress
 
--- what a call with errors leaves, which no line ends: as many lines are read as there is room for in
--- both
+-- what a call with errors leaves, which no line ends: as many lines are read as there is room
+-- for in both
 pub record IsColumnWithErrors {N : Type 0} (answer : List ℕ → Result N LineError)
     (config : LineConfig) (least : N) (text : List ℕ) (before after : List N)
     (errors_before errors_after : List ℕ) (progress : SpeedateProgress) : Type 0 where
