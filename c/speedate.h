@@ -36,8 +36,8 @@ extern "C" {
 #endif
 
 /* Stands before each call that returns a code, so that a compiler warns if the code is not used: after a call that
- * fails, the variable that it should have written may have no value. Define it as nothing before the #include to have no
- * such warnings. */
+ * fails, the variable that it should have written may have no value. Define it as nothing before the #include to have
+ * no such warnings. */
 #ifndef SPEEDATE_NODISCARD
 #if (defined(__cplusplus) && __cplusplus >= 201703L) || (defined(__STDC_VERSION__) && __STDC_VERSION__ >= 202311L)
 #define SPEEDATE_NODISCARD [[nodiscard]]
@@ -146,7 +146,8 @@ enum SpeedateCode {
     /* A number or a sum of a duration is over 4,294,967,295; from a _check call, the flag, the second or the
      * microsecond is out of range. */
     SPEEDATE_DURATION_VALUE_TOO_LARGE = 35,
-    /* The hours of a duration are over 2,400,000,000, have more than ten digits, or, after days, are over 23. */
+    /* The hours of a clock in a duration are over 2,400,000,000, more than ten bytes come before its first `:`, or,
+     * after days, the hours are over 23. */
     SPEEDATE_DURATION_HOUR_VALUE_TOO_LARGE = 36,
     /* A duration has more than 999,999,999 days. */
     SPEEDATE_DURATION_DAYS_TOO_LARGE = 37,
@@ -190,8 +191,8 @@ typedef enum SpeedateCode SpeedateCode;
 /* The number of the last error of the library. A later minor version may add errors, with the numbers after it. */
 #define SPEEDATE_LAST_FAULT 42
 
-/* Whether a code is a fault of a text or of a number: true for SPEEDATE_TOO_SHORT, false for SPEEDATE_OK and for mistakes
- * of the caller. */
+/* Whether a code is a fault of a text or of a number: true for SPEEDATE_TOO_SHORT, false for SPEEDATE_OK and for
+ * mistakes of the caller. */
 #define SPEEDATE_IS_FAULT(code) ((code) >= 1 && (code) <= 99)
 
 /* The name of a code as a constant string: "too_short" for 1, "ok" for 0, and "unknown code", never NULL, for a number
@@ -241,8 +242,8 @@ typedef struct SpeedatePart {
 /* No part, which a call writes that refuses no text: SpeedatePart part = SPEEDATE_PART_NONE; */
 #define SPEEDATE_PART_NONE {0, 0, SPEEDATE_KIND_NONE}
 
-/* The kinds of calls, on which it depends what a call expects. A call with _parse_or_part writes its own. A column is of
- * the kind of the call that parses its lines, and a call that takes no text is of none. */
+/* The kinds of calls, on which it depends what a call expects. A call with _parse_or_part writes its own. A column is
+ * of the kind of the call that parses its lines, and a call that takes no text is of none. */
 #define SPEEDATE_KIND_NONE 0
 #define SPEEDATE_KIND_DATE 1
 #define SPEEDATE_KIND_DATE_OR_TIMESTAMP 2
@@ -260,18 +261,18 @@ SPEEDATE_NODISCARD int speedate_code_expected(int code, const SpeedatePart *part
                                               size_t *length);
 
 /* Where the part of a text ends that a fault is about, which begins at its place: 7 for 21, "2020-13-01" and 5. A call
- * with _parse_or_part has written it as part.end; this one serves those who keep the code and the place alone. *end is at
- * least `place`, and at most `size` if `place` is. It is `place` if the part is missing, and lies within no character of
- * UTF-8. GRAMMAR.md has the part of each fault. It fails with SPEEDATE_VALUE_OUT_OF_RANGE for a number that is no error
- * of the library: 0, and those over SPEEDATE_LAST_FAULT. */
+ * with _parse_or_part has written it as part.end; this one is for those who keep just the code and the place. *end is
+ * at least `place`, and at most `size` if `place` is. It is `place` if the part is missing, and lies within no
+ * character of UTF-8. GRAMMAR.md has the part of each fault. It fails with SPEEDATE_VALUE_OUT_OF_RANGE for a number
+ * that is no error of the library: 0, and those over SPEEDATE_LAST_FAULT. */
 SPEEDATE_NODISCARD int speedate_code_part_end(int code, const char *text, size_t size, size_t place, size_t *end);
 
 /* ---- Configurations ---- */
 
 /* How texts and timestamps are parsed. In each field 0 is the default. A field that a call does not use has to be in
- * range too. The struct fits a register and gets no further field: what a later minor version adds is a further value
- * of a field, or a bit of one. A library fails with SPEEDATE_CONFIG_OUT_OF_RANGE if it does not know a value, and takes
- * all other values as earlier versions do. */
+ * range too, except timestamp_offset if has_timestamp_offset is 0. The struct fits a register and gets no further
+ * field: what a later minor version adds is a further value of a field, or a bit of one. A library fails with
+ * SPEEDATE_CONFIG_OUT_OF_RANGE if it does not know a value, and takes all other values as earlier versions do. */
 typedef struct SpeedateConfig {
     /* The offset from UTC, in seconds, that the value of a timestamp gets: less than 24 hours in either direction. For
      * Unix time set has_timestamp_offset to 1 and this to 0. Any other offset is attached and shifts nothing, so the
@@ -356,10 +357,10 @@ typedef struct SpeedateDuration {
 /* Every call below that takes a value fails with SPEEDATE_VALUE_OUT_OF_RANGE if the value is out of range. The
  * exceptions are the _check calls, which say what is out of range, and speedate_duration_normalize. */
 
-/* Each parser of a date, a time, a date-time or a duration comes in two forms, which accept the same texts and return the
- * same codes. The one with _parse_or_part in its name also writes *part: if the code is a fault of the text, the part for
- * which the text is refused, which a form underlines; otherwise SPEEDATE_PART_NONE. GRAMMAR.md has the place of each
- * fault, and the part that begins there. */
+/* Each parser of a date, a time, a date-time or a duration comes in two forms, which accept the same texts and return
+ * the same codes. The one with _parse_or_part in its name also writes *part: if the code is a fault of the text, the
+ * part for which the text is refused, which a form underlines; otherwise SPEEDATE_PART_NONE. GRAMMAR.md has the place
+ * of each fault, and the part that begins there. */
 
 /* ---- Dates ---- */
 
@@ -404,7 +405,7 @@ SPEEDATE_NODISCARD int speedate_date_timestamp(SpeedateDate date, int64_t *out);
 SPEEDATE_NODISCARD int speedate_date_timestamp_ms(SpeedateDate date, int64_t *out);
 
 /* The number of days from 0000-01-01 to a date, 737,790 for 2020-01-01, and the date of such a number. A number over
- * 3,652,424 fails with SPEEDATE_NO_SUCH_DATE. */
+ * 3,652,424 fails with SPEEDATE_NO_SUCH_DATE. Timestamps and columns count from 1970-01-01, whose number is 719,528. */
 SPEEDATE_NODISCARD int speedate_date_day_number(SpeedateDate date, uint32_t *out);
 SPEEDATE_NODISCARD int speedate_date_from_day_number(uint32_t number, SpeedateDate *out);
 
@@ -415,8 +416,8 @@ SPEEDATE_NODISCARD int speedate_date_ordinal_day(SpeedateDate date, uint16_t *ou
  * before 0000-01-01 or after 9999-12-31. */
 SPEEDATE_NODISCARD int speedate_date_add_days(SpeedateDate date, int32_t days, SpeedateDate *out);
 
-/* The number of days from one date to another: 2 from 2020-02-28 to 2020-03-01. It is negative if `later` is the earlier
- * one. */
+/* The number of days from one date to another: 2 from 2020-02-28 to 2020-03-01. It is negative if `later` is the
+ * earlier one. */
 SPEEDATE_NODISCARD int speedate_date_days_between(SpeedateDate earlier, SpeedateDate later, int32_t *out);
 
 /* ---- Times ---- */
@@ -519,15 +520,16 @@ SPEEDATE_NODISCARD int speedate_datetime_to_text(SpeedateDateTime value, char *b
 SPEEDATE_NODISCARD int speedate_datetime_compare(SpeedateDateTime first, SpeedateDateTime second, int32_t *out);
 
 /* The date-time `microsecond` microseconds after a timestamp in the unit of the configuration, with the offset of the
- * configuration: 1970-01-01T00:00:01.000002 for 1 second and 2 microseconds. It fails with SPEEDATE_TIME_TOO_LARGE if a
- * sum that leads to it is too large, SPEEDATE_DATE_TOO_SMALL before the year 0000, and SPEEDATE_DATE_TOO_LARGE after
- * the year 9999. */
+ * configuration: 1970-01-01T00:00:01.000002 for 1 second and 2 microseconds. It fails with SPEEDATE_TIME_TOO_LARGE if
+ * `microsecond` and the microseconds of the timestamp beyond its seconds are together over 4,294,967,295, or the second
+ * does not fit 64 bits, SPEEDATE_DATE_TOO_SMALL before the year 0000, and SPEEDATE_DATE_TOO_LARGE after the year
+ * 9999. */
 SPEEDATE_NODISCARD int speedate_datetime_from_timestamp(int64_t timestamp, uint32_t microsecond, SpeedateConfig config,
                                                         SpeedateDateTime *out);
 
-/* The microseconds of a timestamp, as a column of date-times has them: what speedate_datetime_unix_microseconds gives for
- * speedate_datetime_from_timestamp without further microseconds. Without an offset it is taken to be in UTC, where a
- * column refuses it unless assumes_utc is 1. It fails with SPEEDATE_DATE_TOO_SMALL before the year 0000, and
+/* The microseconds of a timestamp, as a column of date-times has them: what speedate_datetime_unix_microseconds gives
+ * for speedate_datetime_from_timestamp without further microseconds. Without an offset it is taken to be in UTC, where
+ * a column refuses it unless assumes_utc is 1. It fails with SPEEDATE_DATE_TOO_SMALL before the year 0000, and
  * SPEEDATE_DATE_TOO_LARGE after the year 9999. */
 SPEEDATE_NODISCARD int speedate_datetime_timestamp_microseconds(int64_t timestamp, SpeedateConfig config, int64_t *out);
 
@@ -620,8 +622,8 @@ typedef struct SpeedateColumnConfig {
     /* 0 if the end of the text ends its last line. 1 if more text may follow: what stands after the last line feed is
      * then left for a further call. */
     uint8_t more_follows;
-    /* 1 if a carriage return at the end of a line is dropped, as files of Windows have one; 0 if it is part of the line,
-     * which is then refused. */
+    /* 1 if a carriage return at the end of a line is dropped, as files of Windows have one; 0 if it is part of the
+     * line, which is then refused. */
     uint8_t drops_returns;
     /* What a line of dates, times or date-times may be: SPEEDATE_FORM_TEXT, _OR_TIMESTAMP or _STRICT. */
     uint8_t form;
@@ -629,8 +631,8 @@ typedef struct SpeedateColumnConfig {
      * speedate_datetime_column uses it. */
     uint8_t assumes_utc;
     /* 0 if a line that is refused ends the column; 1 if it gets the smallest number, INT64_MIN or INT32_MIN, and the
-     * column goes on. That is the number of no other line, and INT64_MIN is NaT in NumPy. With `errors` the column goes on
-     * in any case. */
+     * column goes on. That is the number of no other line, and INT64_MIN is NaT in NumPy. With `errors` the column goes
+     * on in any case. */
     uint8_t goes_on;
 } SpeedateColumnConfig;
 
@@ -657,9 +659,9 @@ typedef struct SpeedateProgress {
  * that is refused does not make a call fail. What follows progress->bytes is left for a further call. If
  * progress->error is SPEEDATE_OK and there is room left, it has no whole line.
  *
- * `errors` is NULL, with an error_room of 0, if only numbers are wanted. Otherwise the code of each line goes to the same
- * place in `errors`, 0 if it is not refused, and no line ends the column: one that is refused gets the smallest number.
- * As many lines are read as there is room for in both. */
+ * `errors` is NULL, with an error_room of 0, if only numbers are wanted. Otherwise the code of each line goes to the
+ * same place in `errors`, 0 if it is not refused, and no line ends the column: one that is refused gets the smallest
+ * number. As many lines are read as there is room for in both. */
 
 /* The microseconds of date-times since 1970-01-01T00:00:00 in UTC, as speedate_datetime_unix_microseconds gives them:
  * 1000000 and 0 from "1970-01-01T00:00:01Z\n1970-01-01T01:00+01:00\n". */
@@ -692,8 +694,8 @@ SPEEDATE_NODISCARD int speedate_time_column(const char *text, size_t size, Speed
                                             SpeedateColumnConfig column, int64_t *out, size_t room,
                                             uint8_t *errors, size_t error_room, SpeedateProgress *progress);
 
-/* The offsets of times in seconds, positive east of UTC: 0 and 3600 from "12:13:14.5Z\n00:00+01:00\n". A time without an
- * offset is refused with SPEEDATE_TZ_REQUIRED. Here too SPEEDATE_FORM_OR_TIMESTAMP is out of range. */
+/* The offsets of times in seconds, positive east of UTC: 0 and 3600 from "12:13:14.5Z\n00:00+01:00\n". A time without
+ * an offset is refused with SPEEDATE_TZ_REQUIRED. Here too SPEEDATE_FORM_OR_TIMESTAMP is out of range. */
 SPEEDATE_NODISCARD int speedate_time_offset_column(const char *text, size_t size, SpeedateConfig config,
                                                    SpeedateColumnConfig column, int32_t *out, size_t room,
                                                    uint8_t *errors, size_t error_room, SpeedateProgress *progress);
