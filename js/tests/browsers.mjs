@@ -17,7 +17,7 @@ const source = (name) => readFileSync(`${root}/${name}`, "utf8");
 /** What the page to try shows by its address and after each step of a visitor; what is wrong with how it looks and is reached,
  * which should be nothing; the calls that it shows; and the least milliseconds in which it shows what a typed text is: the
  * machine may be busy. */
-async function visit({ SAID, MARKED, OFFERED }) {
+async function visit({ SAID, MARKED, OFFERED, GUESSED }) {
   const form = document.forms[0];
   const [nav, options, main, status] = ["nav", "details", "main", "[role=status]"].map((it) => document.querySelector(it));
   const sleep = (milliseconds) => new Promise((resolve) => setTimeout(resolve, milliseconds));
@@ -74,8 +74,17 @@ async function visit({ SAID, MARKED, OFFERED }) {
   form.reset();
   for (const it of ["P1Y", "PT1M", "1 day", "PT1H"]) {
     type(it);
-    steps.push(all("section > p:not(.said)", (it) => it.textContent).join(" or "));
+    steps.push(all(".note", (it) => it.textContent).join());
   }
+  const guesses = GUESSED.map(([text, fields]) => {
+    form.reset();
+    for (const [name, value] of Object.entries(fields)) form[name].value = value;
+    type(text);
+    const told = [text, fields, all("h2", (it) => it.textContent).join(), all(".guess button", (it) => it.textContent).join(" or "), all(".note", (it) => it.textContent).join()];
+    main.querySelector(".guess button")?.click();
+    return [...told, shown().replace(/, .*/, "")];
+  });
+  form.reset();
   const least = Math.min(...Array.from(typed, (_, i) => type(typed.slice(0, i + 1))));
   steps.push(changes, main.querySelector(".said").textContent, all(".said span, dd span", (it) => `${it.className} ${it.textContent}`).join("|"));
   await sleep(900);
@@ -172,7 +181,7 @@ async function visit({ SAID, MARKED, OFFERED }) {
   }
   type("12:1x");
   has(nav.querySelector("[aria-current]") === null, "no example is marked if none is chosen");
-  report({ width: innerWidth, steps, marks, offers, wrong, calls, least });
+  report({ width: innerWidth, steps, marks, offers, guesses, wrong, calls, least });
 }
 /** Texts, and what the page says of each. */
 const SAID = {
@@ -185,7 +194,7 @@ const SAID = {
 };
 /** Texts, and by kind how the page marks where each is wrong, and says it. */
 const MARKED = {
-  "20200229": ["Not a date-time 20200229[] at the end: ", "Duration 20200229[] at the end: ", "Date 20200229[] at the end: ", "Time 20[2]00229 at character 3: "],
+  "20200229": ["Not a date-time 20200229[] at the end: ", "Date 20200229[] at the end: ", "Duration 20200229[] at the end: ", "Time 20[2]00229 at character 3: "],
   "2021-02-29": [
     "Not a date 2021-02-[29] from character 9 on: ", "Date-time 2021-02-[29] from character 9 on: ",
     "Duration 2021[-]02-29 at character 5: ", "Time 20[2]1-02-29 at character 3: ",
@@ -243,16 +252,31 @@ const OFFERED = [
   ["\n 12:13:14Z\n", { strict: true }, ["Not a time: spaces and line ends around it are not read: drop them"], "Options, strict: true", "Time: 12:13:14Z"],
   ["2021-02-29 ", {}, [], "Options", "Not a date: out_of_range_day"],
 ];
+/** Texts in other forms: the titles, what may be meant, what else is said, and what is shown first after a click. */
+const GUESSED = [
+  ["29.02.2020", {}, "Not one of the four kinds", "2020-02-29", "", "Date: 2020-02-29"],
+  ["22 Nov 2026", {}, "Not one of the four kinds", "2026-11-22", "", "Date: 2026-11-22"],
+  ["11/22/2026 10:00", {}, "Not one of the four kinds", "2026-11-22T10:00", "", "Date-time: 2026-11-22T10:00:00"],
+  ["20200229T121314Z", {}, "Not one of the four kinds", "2020-02-29T12:13:14Z", "", "Date-time: 2020-02-29T12:13:14Z"],
+  ["20200229", { timestamps: "infer" }, "Date-time", "2020-02-29", "The number is read as seconds since 1970.", "Date: 2020-02-29"],
+  ["2020-02-30T12:13", {}, "Not a date-time", "", "", "Not a date-time: out_of_range_day"],
+  ["November 22nd, 2026", {}, "Not one of the four kinds", "2026-11-22", "", "Date: 2026-11-22"],
+  ["01/02/2020", {}, "Not one of the four kinds", "2020-02-01 or 2020-01-02", "", "Date: 2020-02-01"],
+  ["2020-2-9 9:05", {}, "Not one of the four kinds", "2020-02-09T09:05", "", "Date-time: 2020-02-09T09:05:00"],
+  ["2026-11-22T10:00:00 UTC", {}, "Not one of the four kinds", "2026-11-22T10:00:00Z", "", "Date-time: 2026-11-22T10:00:00Z"],
+  ["30.02.2020", {}, "Not one of the four kinds", "", "", "Not one of the four kinds: invalid_char_year"],
+  ["never", {}, "Not a date", "", "", "Not a date: too_short"],
+];
 const STEPS = [
   "Not a date: out_of_range_day, Date-time: out_of_range_day, Duration: invalid_char_hour, Time: invalid_char_time_sep",
   "../docs/GRAMMAR.md#fault-out_of_range_day",
   true,
   "2021-02-29",
   "Duration: PT1H30M, Date: too_short, Time: invalid_char_hour, Date-time: too_short",
-  "Date-time: 1970-08-22T19:10:29, Duration: invalid_char_hour, Time: invalid_char_time_sep, Date: date_not_exact",
+  "Date-time: 1970-08-22T19:10:29, Date: date_not_exact, Duration: invalid_char_hour, Time: invalid_char_time_sep",
   "Options, timestamps: infer",
   false,
-  "Not a date-time: TypeError, Duration: invalid_char_hour, Time: invalid_char_time_sep, Date: date_not_exact",
+  "Not a date-time: TypeError, Date: date_not_exact, Duration: invalid_char_hour, Time: invalid_char_time_sep",
   "Date-time: none: its offset is not whole minutes, Date: date_not_exact, Time: too_short, Duration: duration_invalid_days",
   "Thursday, 1 January 1970, 00:00:01, 0:01:30 east of UTC: 23:58:31 UTC on the day before",
   ...Object.values(SAID),
@@ -335,7 +359,7 @@ files["served.html"] = `${source("out/try.html")}${reporting}<script type="modul
 files["all.html"] = `<!DOCTYPE html>${reporting}
   <script type="importmap">{ "imports": { "speedate": "./speedate.js", "node:assert/strict": "./shim.mjs", "node:fs": "./shim.mjs" } }</script>
   <script type="module">(${readAll})()</script>`;
-writeFileSync("try.html", `${source("out/try.html")}${reporting}<script type="module">(${visit})(${JSON.stringify({ SAID: Object.keys(SAID), MARKED: Object.keys(MARKED), OFFERED })})</script>`);
+writeFileSync("try.html", `${source("out/try.html")}${reporting}<script type="module">(${visit})(${JSON.stringify({ SAID: Object.keys(SAID), MARKED: Object.keys(MARKED), OFFERED, GUESSED })})</script>`);
 writeFileSync("frames.html", `<!DOCTYPE html><body><script>
   const frames = [[360, "try.html#text=2021-02-29"], [1280, "try.html#text=2021-02-29"], [100, "http://127.0.0.1:${port}/all.html"], [100, "http://127.0.0.1:${port}/served.html#text=secret"]];
   const add = ([width, src]) => document.body.append(Object.assign(document.createElement("iframe"), { width, src, height: 800 }));
@@ -361,7 +385,7 @@ assert.deepEqual(all.without, WITHOUT);
 assert.equal(all.handedOver, "PT1H30M");
 for (const [i, width] of [360, 1280].entries()) {
   const { calls, least, ...others } = visits[i];
-  assert.deepEqual(others, { width, steps: STEPS, marks: Object.values(MARKED), offers: OFFERED, wrong: [] });
+  assert.deepEqual(others, { width, steps: STEPS, marks: Object.values(MARKED), offers: OFFERED, guesses: GUESSED, wrong: [] });
   assert.ok(least < 16, `what is typed is shown after ${least} milliseconds`);
 }
 
