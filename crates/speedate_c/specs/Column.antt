@@ -3,17 +3,16 @@
 use Rattle.std.specs.Prelude.{◌≡◌, ◌≢◌, ℕ, ◌≤◌, ◌++◌, ℤ, negsuc, pos, Bool, false, not, List, [], ◌∷◌, length, min, drop, slice_get, Option, Some, None, Result, if◌then◌else◌}
 use Rattle.std.specs.Option.{option_and_then, option_map}
 use Rattle.speedate.specs.Base.{ParseError, TimestampUnit}
-use Rattle.speedate.specs.Calendar.{days_between}
 use Rattle.speedate.specs.Config.{Choices}
-use Rattle.speedate.specs.Date.{date_answer, date_or_timestamp}
 use Rattle.speedate.specs.DateTime.{DateAndTime, date_time_answer, date_time_or_timestamp}
 use Rattle.speedate.specs.DateTime.{local_microsecond, utc_microsecond}
 use Rattle.speedate.specs.Strict.{strict_date_time_answer, strict_time_answer}
 use Rattle.speedate.specs.Time.{TimeOfDay, microsecond_of_day, time_answer}
 use Rattle.speedate.specs.Requirement.{result_and_then}
 use Rattle.speedate.specs.Duration.{duration_answer}
-use Rattle.speedate.specs.Column.{as_number, epoch, number_of_duration, offset_as_number}
+use Rattle.speedate.specs.Column.{as_number, date_number, number_of_duration, offset_as_number}
 use Rattle.speedate.specs.Column.{text_column, with_offset}
+use Rattle.speedate.specs.declared.column.date.DateReader.{DateReader}
 use Rattle.speedate.specs.declared.LineConfig.{LineConfig}
 use Rattle.speedate.specs.declared.LineError.{LineError}
 use Rattle.speedate.specs.Lines.{unfinished_line, whole_lines}
@@ -104,14 +103,12 @@ time_offset_number_by chosen form =
     option_map (λ time_of_line line. offset_as_number (λ time. time.offset) (time_of_line line))
     (time_of_form form chosen)
 
--- the number of a line in a column of dates, where the form is one of dates: the days since
--- 1970-01-01
-abbrev pub date_number_by : TimestampUnit → LineForm → Option (List ℕ → Result ℤ LineError)
-date_number_by unit LineForm.Text =
-    Some (λ line. as_number (days_between epoch) (date_answer line))
-date_number_by unit LineForm.OrTimestamp =
-    Some (λ line. as_number (days_between epoch) (date_or_timestamp unit line))
-date_number_by unit LineForm.Strict = None
+-- the reader of a column of dates, where the form is one of dates
+abbrev pub date_reader : TimestampUnit → LineForm → Option DateReader
+date_reader unit LineForm.Text = Some DateReader.Rfc3339
+date_reader unit LineForm.OrTimestamp =
+    Some (DateReader.OrTimestamp (record { timestamp_unit = unit }))
+date_reader unit LineForm.Strict = None
 
 -- the number of a line in a column of durations: its microseconds, with the sign
 abbrev pub duration_number_by : Choices → List ℕ → Result ℤ LineError
@@ -149,7 +146,8 @@ chosen_for_date_time_offsets =
 -- for a column of dates
 abbrev pub chosen_for_dates : SpeedateConfig → SpeedateColumnConfig
     → Option (ColumnChoices × (List ℕ → Result ℤ LineError))
-chosen_for_dates = chosen_by (λ chosen column. date_number_by chosen.unit column.form)
+chosen_for_dates =
+    chosen_by (λ chosen column. option_map date_number (date_reader chosen.unit column.form))
 
 -- for a column of times
 abbrev pub chosen_for_times : SpeedateConfig → SpeedateColumnConfig

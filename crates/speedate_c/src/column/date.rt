@@ -1,11 +1,9 @@
 //! Columns of dates as C sees them.
 
-ghost use Rattle.std.specs.Option.{option_map};
 ghost use Rattle.std.specs.Prelude.{◌≡◌, MatchOption};
-ghost use Rattle.speedate.specs.Column.{date_number};
 ghost use Rattle.speedate_c.specs.Code.{config_out_of_range, success};
 ghost use Rattle.speedate_c.specs.Column.{IsColumn, chosen_for_dates};
-ghost use Rattle.speedate_c.specs.Column.{date_number_by, least_of_32_bits};
+ghost use Rattle.speedate_c.specs.Column.{date_reader, least_of_32_bits};
 
 use super::{ColumnChoices, LineForm, SpeedateColumnConfig, SpeedateProgress, write_column};
 use crate::config::SpeedateConfig;
@@ -15,8 +13,7 @@ impl ColumnChoices {
     /// The reader of dates, if the form is one of dates.
     #[inline(always)]
     fn date_reader(&self, config: DateConfig) -> Option<DateReader>
-        ensures reads { option_map date_number result
-            ≡ date_number_by config.timestamp_unit self.now.form }
+        ensures reader { result ≡ date_reader config.timestamp_unit self.now.form }
     {
         match self.form {
             LineForm::Text => Some(DateReader::Rfc3339),
