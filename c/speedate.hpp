@@ -17,6 +17,10 @@
 #ifndef SPEEDATE_HPP
 #define SPEEDATE_HPP
 
+#if __cplusplus < 201703L && !(defined(_MSVC_LANG) && _MSVC_LANG >= 201703L)
+#error "speedate.hpp needs C++17 or later; speedate.h needs C++98"
+#endif
+
 #include "speedate.h"
 
 #include <chrono>
