@@ -3,7 +3,7 @@
 
 /** The functions of speedate.h, a WebAssembly module, which other entries of the package take from elsewhere. */
 const ownModule = () => compiledOf(decoded("@MODULE@"));
-const NEEDED = "speedate needs WebAssembly with BigInt and bulk memory (Node 20, Chrome 115, Firefox 90, Safari 15) that a policy allows";
+const NEEDED = "speedate needs WebAssembly with BigInt and bulk memory (Node 20, Chrome 115, Firefox 90, Safari 15) that a policy allows: a content security policy has to have 'wasm-unsafe-eval'";
 
 /** Where what goes in and comes out stands in the memory, from the end of the module's own part. */
 const PLACE = { out: 0, taken: 16, config: 24, defaultConfig: 32, first: 40, second: 56, buffer: 72, part: 136, text: 160 };
@@ -46,6 +46,12 @@ export class SpeedateError extends RangeError {
     this.text = text;
     this.place = part.place;
     this.end = part.end;
+  }
+
+  toJSON() {
+    const { name, message, fault, code, expected, place, end, index } = this;
+    const all = Object.entries({ name, message, fault, code, expected, place, end, index });
+    return Object.fromEntries(all.filter(([, it]) => it !== undefined));
   }
 }
 
@@ -242,7 +248,7 @@ const CHOICES = {
 /** No options as numbers. All names are its own: a prototype may have them too. */
 const noNumbers = () => ({
   timestamps: undefined, timestampOffset: undefined, overflow: undefined, isoOrder: undefined, strict: undefined, exact: undefined,
-  missingOffset: undefined, unit: undefined, refusals: undefined,
+  missingOffset: undefined, unit: undefined, refusals: undefined, maxLineBytes: undefined,
 });
 const NO_OPTIONS = noNumbers();
 
@@ -255,6 +261,11 @@ function choiceOf(value, choices, name) {
 function offsetOption(value) {
   if (Number.isInteger(value) && Math.abs(value) < SECONDS_IN_DAY) return value;
   throw new TypeError("timestampOffset has to be an integer, less than 86400 either way");
+}
+
+function sizeOption(value) {
+  if (Number.isInteger(value) && value >= 0) return value;
+  throw new TypeError("maxLineBytes has to be an integer, and not negative");
 }
 
 function listOption(value) {
@@ -270,6 +281,7 @@ function isPlain(it) {
 function optionOf(value, name) {
   if (name === "timestampOffset") return offsetOption(value);
   if (name === "refusals") return listOption(value);
+  if (name === "maxLineBytes") return sizeOption(value);
   return choiceOf(value, CHOICES[name], name);
 }
 
@@ -492,11 +504,11 @@ function check(it, place) {
 
 const OPTIONS_OF = {
   date: ["timestamps"], time: ["strict", "overflow"], dateTime: ["strict", "timestamps", "timestampOffset", "overflow", "missingOffset"],
-  duration: ["overflow", "isoOrder"], dateFront: [], front: ["overflow"], dateColumn: ["timestamps", "refusals"],
-  dateTimeColumn: ["strict", "timestamps", "timestampOffset", "overflow", "missingOffset", "unit", "refusals"],
-  dateTimeClockColumn: ["strict", "timestamps", "timestampOffset", "overflow", "unit", "refusals"],
-  dateTimeOffsetColumn: ["strict", "timestamps", "timestampOffset", "overflow", "refusals"],
-  timeColumn: ["strict", "overflow", "unit", "refusals"], timeOffsetColumn: ["strict", "overflow", "refusals"],
+  duration: ["overflow", "isoOrder"], dateFront: [], front: ["overflow"], dateColumn: ["timestamps", "refusals", "maxLineBytes"],
+  dateTimeColumn: ["strict", "timestamps", "timestampOffset", "overflow", "missingOffset", "unit", "refusals", "maxLineBytes"],
+  dateTimeClockColumn: ["strict", "timestamps", "timestampOffset", "overflow", "unit", "refusals", "maxLineBytes"],
+  dateTimeOffsetColumn: ["strict", "timestamps", "timestampOffset", "overflow", "refusals", "maxLineBytes"],
+  timeColumn: ["strict", "overflow", "unit", "refusals", "maxLineBytes"], timeOffsetColumn: ["strict", "overflow", "refusals", "maxLineBytes"],
 };
 
 // Each writes the value, or the part for which the text is refused. A line of a column is a text too, at another address.
@@ -721,10 +733,36 @@ const INTEGERS = { Numbers: Int32Array, numberAt: (view, at) => view.getInt32(at
 const MILLISECONDS = { Numbers: Float64Array, numberAt: millisecondsAt };
 const MICROSECONDS = { Numbers: BigInt64Array, numberAt: (view, at) => view.getBigInt64(at, true) };
 
-/** A column of which pieces come: how it is read, and a line of it alone, of which kind, how many lines it had, and what it has
- * of an unfinished one. */
+/** A column of which pieces come: how it is read, and a line of it alone, of which kind, how many lines it had, what it has of an
+ * unfinished one, as so many bytes of an array, and half a pair that ended a string. */
 const columnOf = (name, callLine, kinds, handedOut, numbers) =>
-  ({ name, callLine, kind: kindOf(kinds, numbers), ...handedOut, numbers, lines: 0, unfinished: [], hasEnded: false });
+  ({ name, callLine, kind: kindOf(kinds, numbers), ...handedOut, numbers, lines: 0, unfinished: new Uint8Array(0), size: 0, half: "", hasEnded: false });
+
+/** Adds bytes to what is unfinished. The array doubles, so that many small pieces take no more room than a large one. */
+function addUnfinished(column, bytes) {
+  const size = column.size + bytes.length;
+  if (size > column.unfinished.length) {
+    const larger = new Uint8Array(Math.max(size, 2 * column.unfinished.length));
+    larger.set(column.unfinished.subarray(0, column.size));
+    column.unfinished = larger;
+  }
+  column.unfinished.set(bytes, column.size);
+  column.size = size;
+}
+
+/** The bytes of a piece. Half a pair at the end of a string waits for the other half. */
+function bytesOfPiece(column, text, isEnd) {
+  if (typeof text !== "string") {
+    const it = bytesOf(text);
+    if (column.half !== "") addUnfinished(column, encoded(column.half));
+    column.half = "";
+    return new Uint8Array(bufferOf.call(it), byteOffset.call(it), byteCount.call(it));
+  }
+  const whole = column.half + text;
+  const size = isEnd || !/[\ud800-\udbff]$/.test(whole) ? whole.length : whole.length - 1;
+  column.half = whole.slice(size);
+  return encoded(whole.slice(0, size));
+}
 
 /** Writes how a column is read into the memory of a library, and gives its address: returns are dropped, and a refused line ends it. */
 function putColumnConfig({ start, view }, { timestamps, strict, missingOffset = MISSING.error }, isEnd) {
@@ -737,17 +775,12 @@ function putColumnConfig({ start, view }, { timestamps, strict, missingOffset = 
 }
 
 /** Puts what is unfinished into the memory of a library, and gives that library, and the place where the text ends. */
-function putUnfinished({ unfinished }) {
-  const size = unfinished.reduce((sum, it) => sum + it.length, 0);
+function putUnfinished({ unfinished, size }) {
   const needed = COLUMN.text - PLACE.text + size;
   const library = size > MOST_KEPT ? new Library(needed) : kept;
   library.reserve(needed);
-  let end = COLUMN.text;
-  for (const it of unfinished) {
-    library.bytes.set(it, end);
-    end += it.length;
-  }
-  return { library, end };
+  library.bytes.set(unfinished.subarray(0, size), COLUMN.text);
+  return { library, end: COLUMN.text + size };
 }
 
 /** Has the library read what is unfinished, and keeps of it what follows its lines. Adds to the parts arrays of numbers, and to
@@ -779,7 +812,8 @@ function readLines(column, isEnd, parts, refusals) {
     column.lines += lines;
     at = next;
   } while (lines === LINES_AT_ONCE);
-  column.unfinished = [bytes.slice(at, end)];
+  column.unfinished.set(bytes.subarray(at, end));
+  column.size = end - at;
 }
 
 function numbersIn(view, lines, { Numbers, numberAt }) {
@@ -808,21 +842,28 @@ function partOfLine(library, at, textEnd, { callLine, numbers }) {
 
 /** The numbers of the lines that a piece ends. A column whose piece was refused has ended. */
 function readPiece(column, text, isEnd) {
-  const it = bytesOf(text);
-  const bytes = new Uint8Array(bufferOf.call(it), byteOffset.call(it), byteCount.call(it));
+  if (typeof text !== "string") bytesOf(text);
   if (column.hasEnded) throw new TypeError("the column has ended");
   column.hasEnded = true;
+  const bytes = bytesOfPiece(column, text, isEnd);
   const [parts, refusals] = [[], []];
   for (let from = 0; from < bytes.length; from += BLOCK_SIZE) {
-    const block = bytes.slice(from, from + BLOCK_SIZE);
-    column.unfinished.push(block);
-    // A line may be as long as it likes: what cannot end one is not read, again and again, with all that came before.
-    if (block.includes(LINE_FEED)) readLines(column, false, parts, refusals);
+    const before = column.size;
+    addUnfinished(column, bytes.subarray(from, from + BLOCK_SIZE));
+    // What cannot end a line is not read, again and again, with all that came before.
+    if (column.unfinished.subarray(before, column.size).includes(LINE_FEED)) readLines(column, false, parts, refusals);
+    checkUnfinished(column);
   }
   if (isEnd) readLines(column, true, parts, refusals);
   for (const it of refusals) column.numbers.refusals.push(it);
   column.hasEnded = isEnd;
   return concatenated(parts, column.Numbers);
+}
+
+/** Throws if more is kept of an unfinished line than may be. */
+function checkUnfinished({ size, lines, numbers: { maxLineBytes = Infinity } }) {
+  if (size <= maxLineBytes) return;
+  throw Object.assign(new RangeError(`line ${lines} has more than ${maxLineBytes} bytes`), { name: "LineTooLong", index: lines });
 }
 
 function concatenated(parts, Numbers) {

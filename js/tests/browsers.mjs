@@ -334,7 +334,7 @@ async function askNothing() {
 }
 /** What the page says without WebAssembly, and without scripts. */
 const WITHOUT = [
-  "Nothing can be parsed here: speedate needs WebAssembly with BigInt and bulk memory (Node 20, Chrome 115, Firefox 90, Safari 15) that a policy allows.",
+  "Nothing can be parsed here: speedate needs WebAssembly with BigInt and bulk memory (Node 20, Chrome 115, Firefox 90, Safari 15) that a policy allows: a content security policy has to have 'wasm-unsafe-eval'.",
   "This page needs JavaScript, which is switched off here.",
 ];
 

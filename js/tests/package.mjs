@@ -116,12 +116,12 @@ for (const name of readers) {
 }
 assert.throws(() => parseDateTime("x", { strict: true, timestamps: "s" }), /strict and timestamps/);
 assert.throws(() => parseDateTime("x", { timestampOffset: 0 }), /timestampOffset/);
-const OF_COLUMNS = { missingOffset: OPTIONS.missingOffset[1], unit: ["", "s", "MS", 0, null], refusals: [true, null, 0, "", {}, { length: 0 }, new Set()] };
+const OF_COLUMNS = { maxLineBytes: ["1", -1, 0.5, NaN, Infinity, 1n, null], missingOffset: OPTIONS.missingOffset[1], unit: ["", "s", "MS", 0, null], refusals: [true, null, 0, "", {}, { length: 0 }, new Set()] };
 const columnOptions = {
-  dateColumn: ["timestamps", "refusals"], dateTimeColumn: ["timestamps", "overflow", "strict", "timestampOffset", ...Object.keys(OF_COLUMNS)],
-  dateTimeClockColumn: ["timestamps", "overflow", "strict", "timestampOffset", "unit", "refusals"],
-  dateTimeOffsetColumn: ["timestamps", "overflow", "strict", "timestampOffset", "refusals"],
-  timeColumn: ["overflow", "strict", "unit", "refusals"], timeOffsetColumn: ["overflow", "strict", "refusals"],
+  dateColumn: ["timestamps", "refusals", "maxLineBytes"], dateTimeColumn: ["timestamps", "overflow", "strict", "timestampOffset", ...Object.keys(OF_COLUMNS)],
+  dateTimeClockColumn: ["timestamps", "overflow", "strict", "timestampOffset", "unit", "refusals", "maxLineBytes"],
+  dateTimeOffsetColumn: ["timestamps", "overflow", "strict", "timestampOffset", "refusals", "maxLineBytes"],
+  timeColumn: ["overflow", "strict", "unit", "refusals", "maxLineBytes"], timeOffsetColumn: ["overflow", "strict", "refusals", "maxLineBytes"],
 };
 assert.deepEqual(Object.keys(columnOptions), columns);
 for (const [name, has] of Object.entries(columnOptions)) {
@@ -353,6 +353,16 @@ for (const [call, text, place] of [["Time", "12:13:60", 6], ["TimeFront", `12:13
 }
 for (const call of [() => addDays({ ...date, day: 32 }, 1), () => format({ ...date, day: 32 }), () => dateFromTimestamp(1, "s"), () => parseDate("x", { other: 1 })])
   for (const name of ["text", "place", "end"]) assert.ok(!(name in thrown(call)), "a place is that of a text");
+// What crosses to a worker: an error keeps nothing but its message, its plain form all but the text.
+for (const [call, wanted] of [
+  [() => parseDate("2020-13-01"), { fault: "out_of_range_month", code: 21, expected: "month, 01 to 12", place: 5, end: 7 }],
+  [() => speedate.dateColumn("2020-13-01"), { fault: "out_of_range_month", code: 21, expected: "month, 01 to 12", place: 5, end: 7, index: 0 }],
+  [() => format({ ...date, day: 32 }), { fault: "out_of_range_day", code: 22, expected: "a day that the month has" }],
+]) {
+  const error = thrown(call);
+  const all = { name: "SpeedateError", message: error.message, ...wanted };
+  for (const it of [error.toJSON(), structuredClone(error.toJSON()), JSON.parse(JSON.stringify(error))]) assert.deepEqual(it, all);
+}
 const ofLine = thrown(() => speedate.dateColumn("1970-01-01\n2021-02-2\u2212\r\n"));
 assert.deepEqual([ofLine.index, ofLine.fault, ofLine.place, ofLine.end], [1, "invalid_char_day", 8, 12], "a place in a line is counted in bytes");
 

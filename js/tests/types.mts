@@ -62,7 +62,7 @@ const uses: Record<keyof typeof speedate, unknown> = {
   dateTimeColumn: [
     ((it: Float64Array): number => it[0])(speedate.dateTimeColumn("1", { timestamps: "s", missingOffset: "utc", unit: "ms" })),
     ((it: Float64Array): number => it.length)(speedate.dateTimeColumn(new Uint8Array(0))),
-    same<BigInt64Array, ReturnType<typeof speedate.dateTimeColumn>>(true, speedate.dateTimeColumn("1970-01-01T00:00Z", { strict: true, unit: "us", refusals })),
+    ((it: BigInt64Array): bigint => it[0])(speedate.dateTimeColumn("1970-01-01T00:00Z", { strict: true, unit: "us", refusals })),
   ],
   dateColumnReader: ((it: Int32Array): number => it[0])(speedate.dateColumnReader({ refusals }).end("1970-01-02")),
   dateTimeColumnReader: [
@@ -71,12 +71,12 @@ const uses: Record<keyof typeof speedate, unknown> = {
   ],
   dateTimeClockColumn: [
     ((it: Float64Array): number => it[0])(speedate.dateTimeClockColumn("1", { timestamps: "s", timestampOffset: 3600, unit: "ms" })),
-    same<BigInt64Array, ReturnType<typeof speedate.dateTimeClockColumn>>(true, speedate.dateTimeClockColumn("1970-01-01T00:00:00Z", { strict: true, unit: "us", refusals })),
+    ((it: BigInt64Array): bigint => it[0])(speedate.dateTimeClockColumn("1970-01-01T00:00:00Z", { strict: true, unit: "us", refusals })),
   ],
   dateTimeOffsetColumn: same<Int32Array, ReturnType<typeof speedate.dateTimeOffsetColumn>>(true, speedate.dateTimeOffsetColumn("1", { timestamps: "s", timestampOffset: 0, refusals })),
   timeColumn: [
     ((it: Float64Array): number => it[0])(speedate.timeColumn("12:13", { overflow: "truncate", unit: "ms" })),
-    same<BigInt64Array, ReturnType<typeof speedate.timeColumn>>(true, speedate.timeColumn("12:13:14Z", { strict: true, unit: "us", refusals })),
+    ((it: BigInt64Array): bigint => it[0])(speedate.timeColumn("12:13:14Z", { strict: true, unit: "us", refusals })),
   ],
   timeOffsetColumn: same<Int32Array, ReturnType<typeof speedate.timeOffsetColumn>>(true, speedate.timeOffsetColumn("12:13Z", { overflow: "error", refusals })),
   dateTimeClockColumnReader: [
@@ -175,6 +175,14 @@ const refused = [
   () => speedate.after(time, second),
 ];
 for (const call of refused) assert.throws(call, TypeError, String(call));
+
+declare const unit: "ms" | "us" | undefined;
+export const unions = () => [
+  same<Float64Array | BigInt64Array, ReturnType<typeof ofUnion>>(true, ofUnion()),
+  speedate.dateTimeClockColumn("", { unit }), speedate.timeColumn("", { unit }), speedate.dateTimeClockColumnReader({ unit }).end(),
+  speedate.timeColumnReader({ unit }).end(), speedate.dateTimeColumnReader({ unit, maxLineBytes: 100 }).end(),
+];
+const ofUnion = () => speedate.dateTimeColumn("", { unit });
 
 export const sameTypes = same<typeof bare, typeof speedate>(true, bare);
 
