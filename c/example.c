@@ -9,17 +9,23 @@
 #include <stdio.h>
 #include <stdlib.h>
 
-static void report(int number, int code) {
-    char why[SPEEDATE_CODE_TEXT_SIZE];
+static void report(int number, int code, SpeedatePart part) {
+    char wanted[SPEEDATE_CODE_TEXT_SIZE];
     size_t length;
-    if (speedate_code_documentation(code, why, sizeof why, &length) == SPEEDATE_OK)
-        fprintf(stderr, "line %d: %s: %s\n", number, speedate_code_string(code), why);
+    if (speedate_code_expected(code, &part, wanted, sizeof wanted, &length) != SPEEDATE_OK)
+        return;
+    fprintf(stderr, "line %d: %s", number, speedate_code_string(code));
+    /* A date-time that parses, but has no clock in UTC, has no part that is wrong. */
+    if (part.kind != SPEEDATE_KIND_NONE)
+        fprintf(stderr, " at byte %zu", part.place);
+    fprintf(stderr, ": expected %s\n", wanted);
 }
 
 int main(void) {
     SpeedateConfig config = SPEEDATE_CONFIG_DEFAULT;
     SpeedateDateTime first, last, moment;
     SpeedateDuration span;
+    SpeedatePart part;
     char *line = NULL, text[SPEEDATE_DATETIME_TEXT_SIZE], span_text[SPEEDATE_DURATION_TEXT_SIZE];
     size_t room = 0, taken, length;
     ssize_t size;
@@ -28,13 +34,13 @@ int main(void) {
      * they are refused. */
     config.overflow_behavior = SPEEDATE_OVERFLOW_TRUNCATE;
     for (int number = 1; (size = getline(&line, &room, stdin)) > 0; number++) {
-        int code = speedate_datetime_parse_front(line, (size_t)size, config, &moment, &taken);
+        int code = speedate_datetime_parse_or_part_front(line, (size_t)size, config, &moment, &taken, &part);
         if (code == SPEEDATE_OK)
             code = speedate_datetime_in_timezone(moment, 0, &moment);
         if (code == SPEEDATE_OK)
             code = speedate_datetime_to_text(moment, text, sizeof text, &length);
         if (code != SPEEDATE_OK) {
-            report(number, code);
+            report(number, code, part);
             continue;
         }
         fputs(text, stdout);

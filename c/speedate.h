@@ -6,10 +6,8 @@
  * What holds for every call:
  *
  * - It returns a code: 0 (SPEEDATE_OK) on success, otherwise the SpeedateCode that says why it fails. A call that fails
- *   writes nothing. Only speedate_version, speedate_version_minor and speedate_code_string return something else.
- * - Two kinds of calls are exceptions. One with _error_place in its name returns the code of a parser, and writes only
- *   if that is a fault of the text. One with _parse_or_part writes the value on success, the part if the code is a fault
- *   of the text, and otherwise nothing.
+ *   writes nothing. Only speedate_version and speedate_code_string return something else.
+ * - One kind of calls is an exception: one with _parse_or_part in its name always writes *part.
  * - If several things are wrong, SPEEDATE_CONFIG_OUT_OF_RANGE comes first, then SPEEDATE_VALUE_OUT_OF_RANGE.
  * - A text is passed as an address and a size in bytes. It may hold any bytes, and needs no zero byte at its end. If
  *   the size is 0, the address may be NULL.
@@ -20,7 +18,7 @@
  *   text needs. Bytes after the zero byte keep their values. If the size is 0, the buffer may be NULL.
  * - Values and configurations are passed by value. So `out` may point to the variable that is passed:
  *   speedate_date_add_days(date, 1, &date).
- * - `out`, `taken`, `place`, `end`, `part`, `length` and `progress` point to variables of their types. They are not NULL,
+ * - `out`, `taken`, `end`, `part`, `length` and `progress` point to variables of their types. They are not NULL,
  *   and do not overlap a text, a buffer or one another.
  * - No call allocates memory or keeps anything for the next one. Any thread may make any call at any time.
  *
@@ -38,8 +36,8 @@ extern "C" {
 #endif
 
 /* Stands before each call that returns a code, so that a compiler warns if the code is not used: after a call that
- * fails, the variable that it should have written may have no value. Define it as nothing before the #include to have no
- * such warnings. */
+ * fails, the variable that it should have written may have no value. Define it as nothing before the #include to have
+ * no such warnings. */
 #ifndef SPEEDATE_NODISCARD
 #if (defined(__cplusplus) && __cplusplus >= 201703L) || (defined(__STDC_VERSION__) && __STDC_VERSION__ >= 202311L)
 #define SPEEDATE_NODISCARD [[nodiscard]]
@@ -50,16 +48,19 @@ extern "C" {
 #endif
 #endif
 
-/* The version of this interface. Within a version no name, struct, number of a code or accepted text changes or goes
- * away; a later minor version may add calls and codes. So a program runs with any library that has the version of its
- * header, and the same minor version or a later one. */
-#define SPEEDATE_VERSION 1
+/* The version of this header. Within a major version no name, struct, number of a code or accepted text changes or goes
+ * away; a later minor version may add calls and codes. So a program runs with any library that has the major version of
+ * its header, and the same minor version or a later one. */
+#define SPEEDATE_VERSION_MAJOR 1
 #define SPEEDATE_VERSION_MINOR 0
+#define SPEEDATE_VERSION_PATCH 0
 
-/* The version and the minor version of the library that is called. They return the number itself, not a code. A library
- * with another version than this header's, or with a lower minor version, does not fit the header. */
+/* The version as one number, which can be compared: 1002003 for 1.2.3. */
+#define SPEEDATE_VERSION_NUMBER                                                                                        \
+    (SPEEDATE_VERSION_MAJOR * 1000000 + SPEEDATE_VERSION_MINOR * 1000 + SPEEDATE_VERSION_PATCH)
+
+/* The SPEEDATE_VERSION_NUMBER of the library that is called. It returns the number itself, not a code. */
 int speedate_version(void);
-int speedate_version_minor(void);
 
 /* ---- Codes ---- */
 
@@ -145,7 +146,8 @@ enum SpeedateCode {
     /* A number or a sum of a duration is over 4,294,967,295; from a _check call, the flag, the second or the
      * microsecond is out of range. */
     SPEEDATE_DURATION_VALUE_TOO_LARGE = 35,
-    /* The hours of a duration are over 2,400,000,000, have more than ten digits, or, after days, are over 23. */
+    /* The hours of a clock in a duration are over 2,400,000,000, more than ten bytes come before its first `:`, or,
+     * after days, the hours are over 23. */
     SPEEDATE_DURATION_HOUR_VALUE_TOO_LARGE = 36,
     /* A duration has more than 999,999,999 days. */
     SPEEDATE_DURATION_DAYS_TOO_LARGE = 37,
@@ -174,8 +176,8 @@ enum SpeedateCode {
 
     /* From 101 on: mistakes of the caller. */
 
-    /* A value that was passed is out of range, such as month 13 or a flag of 2; or, from speedate_code_name and its
-     * like, the number is no code, or no kind. */
+    /* A value that was passed is out of range, such as month 13 or a flag of 2; or, from a call whose name begins with
+     * speedate_code, the number is no code, or no kind. */
     SPEEDATE_VALUE_OUT_OF_RANGE = 101,
     /* A field of the configuration is out of range. */
     SPEEDATE_CONFIG_OUT_OF_RANGE = 102,
@@ -189,8 +191,12 @@ typedef enum SpeedateCode SpeedateCode;
 /* The number of the last error of the library. A later minor version may add errors, with the numbers after it. */
 #define SPEEDATE_LAST_FAULT 42
 
+/* Whether a code is a fault of a text or of a number: true for SPEEDATE_TOO_SHORT, false for SPEEDATE_OK and for
+ * mistakes of the caller. */
+#define SPEEDATE_IS_FAULT(code) ((code) >= 1 && (code) <= 99)
+
 /* The name of a code as a constant string: "too_short" for 1, "ok" for 0, and "unknown code", never NULL, for a number
- * that is not a code of this header. */
+ * that is not a code of this header. It is part of the header, so other languages call speedate_code_name. */
 static inline const char *speedate_code_string(int code) {
     static const char *const faults[SPEEDATE_LAST_FAULT + 1] = {
         "ok", "too_short", "extra_characters", "invalid_char_date_time_sep", "invalid_char_date_sep", "date_not_exact",
@@ -217,17 +223,28 @@ static inline const char *speedate_code_string(int code) {
 /* Room for a text of a code, with its zero byte. */
 #define SPEEDATE_CODE_TEXT_SIZE 64
 
-/* Prints the name of a code of the library: "too_short" for 1. It fails with SPEEDATE_VALUE_OUT_OF_RANGE for 0 and for
- * a number that is not a code. */
+/* Prints the name of a code: "too_short" for 1, "ok" for 0. It fails with SPEEDATE_VALUE_OUT_OF_RANGE for a number that
+ * is not a code. */
 SPEEDATE_NODISCARD int speedate_code_name(int code, char *buffer, size_t size, size_t *length);
 
 /* Prints the documentation text of a code: "input is too short" for 1. It fails when speedate_code_name does. The texts
- * of 1 to 40 were written for the Rust crate and can mention the wrong cause, so log the name too. */
+ * of 1 to 40 were written for the Rust crate and can mention the wrong cause: for people speedate_code_expected has
+ * better ones. */
 SPEEDATE_NODISCARD int speedate_code_documentation(int code, char *buffer, size_t size, size_t *length);
 
-/* The kinds of calls, on which it depends what a call expects. A call on a column is of the kind of its lines, and one on
- * the front of a text of that of the same value. A call that takes values or numbers, and no text, is of the first. */
-#define SPEEDATE_KIND_VALUES 0
+/* The part of a text for which it is refused: the bytes from `place` on that come before `end`. */
+typedef struct SpeedatePart {
+    size_t place; /* where the part begins, or would begin if it is missing: at most the size of the text */
+    size_t end;   /* where it ends: `place` if it is missing */
+    int32_t kind; /* the kind of the call that refused the text: one of SPEEDATE_KIND_DATE to SPEEDATE_KIND_DURATION */
+} SpeedatePart;
+
+/* No part, which a call writes that refuses no text: SpeedatePart part = SPEEDATE_PART_NONE; */
+#define SPEEDATE_PART_NONE {0, 0, SPEEDATE_KIND_NONE}
+
+/* The kinds of calls, on which it depends what a call expects. A call with _parse_or_part writes its own. A column is
+ * of the kind of the call that parses its lines, and a call that takes no text is of none. */
+#define SPEEDATE_KIND_NONE 0
 #define SPEEDATE_KIND_DATE 1
 #define SPEEDATE_KIND_DATE_OR_TIMESTAMP 2
 #define SPEEDATE_KIND_TIME 3
@@ -237,24 +254,25 @@ SPEEDATE_NODISCARD int speedate_code_documentation(int code, char *buffer, size_
 #define SPEEDATE_KIND_DATETIME_STRICT 7
 #define SPEEDATE_KIND_DURATION 8
 
-/* Prints what a call of a kind expected where it failed with a code, a phrase for people: "month, 01 to 12" for 21. In a
- * text that is the place that an _error_place call gives. It fails when speedate_code_name does, and for a number that is
- * not a kind. */
-SPEEDATE_NODISCARD int speedate_code_expected(int code, int kind, char *buffer, size_t size, size_t *length);
+/* Prints what a call expected that returned a code and wrote *part, a phrase for people: "month, 01 to 12" for 21. Of
+ * *part only the kind matters: for the code of a call that writes no part, fill in its kind. It fails with
+ * SPEEDATE_VALUE_OUT_OF_RANGE for 0, a number that is not a code, and one that is not a kind. */
+SPEEDATE_NODISCARD int speedate_code_expected(int code, const SpeedatePart *part, char *buffer, size_t size,
+                                              size_t *length);
 
-/* Where the part of a text ends that a fault is about, which begins at its place: 7 for 21, "2020-13-01" and 5, so that
- * a form underlines the bytes 5 and 6. The code is one with which a call refuses the text, and the place the one that
- * an _error_place call gives. *end is at least `place`, and at most `size` if `place` is. It is `place` if the part is
- * missing. GRAMMAR.md has the part of each fault, in bytes that are not UTF-8 too. It fails with
- * SPEEDATE_VALUE_OUT_OF_RANGE for a number that is no error of the library: 0, and those over SPEEDATE_LAST_FAULT. */
+/* Where the part of a text ends that a fault is about, which begins at its place: 7 for 21, "2020-13-01" and 5. A call
+ * with _parse_or_part has written it as part.end; this one is for those who keep just the code and the place. *end is
+ * at least `place`, and at most `size` if `place` is. It is `place` if the part is missing. GRAMMAR.md has the part of
+ * each fault, in bytes that are not UTF-8 too. It fails with SPEEDATE_VALUE_OUT_OF_RANGE for a number that is no error
+ * of the library: 0, and those over SPEEDATE_LAST_FAULT. */
 SPEEDATE_NODISCARD int speedate_code_part_end(int code, const char *text, size_t size, size_t place, size_t *end);
 
 /* ---- Configurations ---- */
 
 /* How texts and timestamps are parsed. In each field 0 is the default. A field that a call does not use has to be in
- * range too. The struct fits a register and gets no further field: what a later minor version adds is a further value
- * of a field, or a bit of one. A library fails with SPEEDATE_CONFIG_OUT_OF_RANGE if it does not know a value, and takes
- * all other values as earlier versions do. */
+ * range too, except timestamp_offset if has_timestamp_offset is 0. The struct fits a register and gets no further
+ * field: what a later minor version adds is a further value of a field, or a bit of one. A library fails with
+ * SPEEDATE_CONFIG_OUT_OF_RANGE if it does not know a value, and takes all other values as earlier versions do. */
 typedef struct SpeedateConfig {
     /* The offset from UTC, in seconds, that the value of a timestamp gets: less than 24 hours in either direction. For
      * Unix time set has_timestamp_offset to 1 and this to 0. Any other offset is attached and shifts nothing, so the
@@ -336,52 +354,31 @@ typedef struct SpeedateDuration {
 #define SPEEDATE_DATETIME_TEXT_SIZE 33
 #define SPEEDATE_DURATION_TEXT_SIZE 32
 
-/* The part of a text for which it is refused: the bytes from `place` on that come before `end`. */
-typedef struct SpeedatePart {
-    size_t place; /* where the part begins, or would begin, as an _error_place call gives it */
-    size_t end;   /* where it ends, as speedate_code_part_end gives it: `place` if it is missing */
-} SpeedatePart;
-
 /* Every call below that takes a value fails with SPEEDATE_VALUE_OUT_OF_RANGE if the value is out of range. The
  * exceptions are the _check calls, which say what is out of range, and speedate_duration_normalize. */
 
-/* Each parser of a date, a time, a date-time or a duration has a call that says where a text is wrong. Its name has
- * _error_place where the parser's has _parse. It takes the same text and configuration, and returns the parser's code.
- * If that is a fault of the text, it writes the place of the fault to *place: the byte, counted from 0, at which the
- * part of the text begins that the fault is about, or would begin if it is missing. That is at most `size`. If the code
- * is another one, nothing is written. GRAMMAR.md has the place of each fault.
- *
- * It also has one for forms, which mostly get texts that are refused. Its name has _parse_or_part where the parser's has
- * _parse. It takes, returns and writes what the parser does, and if the code is a fault of the text it writes the part for
- * which the text is refused to *part. If the code is another one, *part stays as it is. */
+/* Each parser of a date, a time, a date-time or a duration comes in two forms, which accept the same texts and return
+ * the same codes. The one with _parse_or_part in its name also writes *part: if the code is a fault of the text, the
+ * part for which the text is refused, which a form underlines; otherwise SPEEDATE_PART_NONE. GRAMMAR.md has the place
+ * of each fault, and the part that begins there. */
 
 /* ---- Dates ---- */
 
 /* Parses a date, "2020-02-29", or in its place a timestamp, "1582934400", in the unit of the configuration. Every whole
- * number is a timestamp, 20200229 too, and has to be a midnight. speedate_date_parse_rfc3339 refuses timestamps. */
+ * number is a timestamp, 20200229 too, and has to be a midnight. speedate_date_parse_text refuses timestamps. */
 SPEEDATE_NODISCARD int speedate_date_parse(const char *text, size_t size, SpeedateConfig config, SpeedateDate *out);
 
 /* Parses a date and no timestamp. */
-SPEEDATE_NODISCARD int speedate_date_parse_rfc3339(const char *text, size_t size, SpeedateDate *out);
+SPEEDATE_NODISCARD int speedate_date_parse_text(const char *text, size_t size, SpeedateDate *out);
 
 /* Parses the date at the front of a text, whatever follows it, and writes how many bytes it takes to *taken:
  * 2020-02-29, and 10, from "2020-02-29 opening balance". */
 SPEEDATE_NODISCARD int speedate_date_parse_front(const char *text, size_t size, SpeedateDate *out, size_t *taken);
 
-/* Where a text is wrong as a date or a timestamp: at 5, the month, in "2020-13-01". A number that is refused as a
- * timestamp is wrong at 0. */
-SPEEDATE_NODISCARD int speedate_date_error_place(const char *text, size_t size, SpeedateConfig config, size_t *place);
-
-/* Where a text is wrong as a date: at 10, the end of the date, in "2020-01-01T12:13". */
-SPEEDATE_NODISCARD int speedate_date_error_place_rfc3339(const char *text, size_t size, size_t *place);
-
-/* Where a text has no date at its front: at 9, its end, in "2026-11-2". */
-SPEEDATE_NODISCARD int speedate_date_error_place_front(const char *text, size_t size, size_t *place);
-
 /* The date, or the part for which a text is refused: 5 to 7, the month, in "2020-13-01". */
 SPEEDATE_NODISCARD int speedate_date_parse_or_part(const char *text, size_t size, SpeedateConfig config,
                                                    SpeedateDate *out, SpeedatePart *part);
-SPEEDATE_NODISCARD int speedate_date_parse_or_part_rfc3339(const char *text, size_t size, SpeedateDate *out,
+SPEEDATE_NODISCARD int speedate_date_parse_or_part_text(const char *text, size_t size, SpeedateDate *out,
                                                            SpeedatePart *part);
 SPEEDATE_NODISCARD int speedate_date_parse_or_part_front(const char *text, size_t size, SpeedateDate *out,
                                                          size_t *taken, SpeedatePart *part);
@@ -408,7 +405,7 @@ SPEEDATE_NODISCARD int speedate_date_timestamp(SpeedateDate date, int64_t *out);
 SPEEDATE_NODISCARD int speedate_date_timestamp_ms(SpeedateDate date, int64_t *out);
 
 /* The number of days from 0000-01-01 to a date, 737,790 for 2020-01-01, and the date of such a number. A number over
- * 3,652,424 fails with SPEEDATE_NO_SUCH_DATE. */
+ * 3,652,424 fails with SPEEDATE_NO_SUCH_DATE. Timestamps and columns count from 1970-01-01, whose number is 719,528. */
 SPEEDATE_NODISCARD int speedate_date_day_number(SpeedateDate date, uint32_t *out);
 SPEEDATE_NODISCARD int speedate_date_from_day_number(uint32_t number, SpeedateDate *out);
 
@@ -419,9 +416,9 @@ SPEEDATE_NODISCARD int speedate_date_ordinal_day(SpeedateDate date, uint16_t *ou
  * before 0000-01-01 or after 9999-12-31. */
 SPEEDATE_NODISCARD int speedate_date_add_days(SpeedateDate date, int32_t days, SpeedateDate *out);
 
-/* The number of days from `earlier` to `date`: 2 for 2020-03-01 and the earlier 2020-02-28. It is negative if `earlier`
- * is the later one. Note the order: speedate_duration_between_dates takes the earlier date first. */
-SPEEDATE_NODISCARD int speedate_date_days_since(SpeedateDate date, SpeedateDate earlier, int32_t *out);
+/* The number of days from one date to another: 2 from 2020-02-28 to 2020-03-01. It is negative if `later` is the
+ * earlier one. */
+SPEEDATE_NODISCARD int speedate_date_days_between(SpeedateDate earlier, SpeedateDate later, int32_t *out);
 
 /* ---- Times ---- */
 
@@ -438,17 +435,6 @@ SPEEDATE_NODISCARD int speedate_time_parse_strict(const char *text, size_t size,
  * "12:13:14Z GET /". */
 SPEEDATE_NODISCARD int speedate_time_parse_front(const char *text, size_t size, SpeedateConfig config,
                                                  SpeedateTime *out, size_t *taken);
-
-/* Where a text is wrong as a time: at 6, the second, in "12:13:60". */
-SPEEDATE_NODISCARD int speedate_time_error_place(const char *text, size_t size, SpeedateConfig config, size_t *place);
-
-/* Where a text is wrong as a time of RFC 3339: at 5, the missing second, in "12:13". */
-SPEEDATE_NODISCARD int speedate_time_error_place_strict(const char *text, size_t size, SpeedateConfig config,
-                                                        size_t *place);
-
-/* Where a text has no time at its front: at 9, after the sign, in "12:00:00-ERROR". */
-SPEEDATE_NODISCARD int speedate_time_error_place_front(const char *text, size_t size, SpeedateConfig config,
-                                                       size_t *place);
 
 /* The time, or the part for which a text is refused: 6 to 8, the second, in "12:13:60". */
 SPEEDATE_NODISCARD int speedate_time_parse_or_part(const char *text, size_t size, SpeedateConfig config,
@@ -490,13 +476,13 @@ SPEEDATE_NODISCARD int speedate_time_in_timezone(SpeedateTime time, int32_t offs
 
 /* Parses a date-time, "2020-02-29T12:13:14.5+01:00", or in its place a timestamp, "1582978394.5", in the unit and with
  * the offset of the configuration, and without one if that has none. Every number is a timestamp, 20200229 too:
- * speedate_datetime_parse_rfc3339 refuses them. */
+ * speedate_datetime_parse_text refuses them. */
 SPEEDATE_NODISCARD int speedate_datetime_parse(const char *text, size_t size, SpeedateConfig config,
                                                SpeedateDateTime *out);
 
-/* Parses the same texts as speedate_datetime_parse, without timestamps. Despite its name it is otherwise as relaxed:
- * RFC 3339 and nothing else is speedate_datetime_parse_strict. */
-SPEEDATE_NODISCARD int speedate_datetime_parse_rfc3339(const char *text, size_t size, SpeedateConfig config,
+/* Parses the same texts as speedate_datetime_parse, without timestamps. It is as relaxed: for RFC 3339 and nothing else
+ * call speedate_datetime_parse_strict. */
+SPEEDATE_NODISCARD int speedate_datetime_parse_text(const char *text, size_t size, SpeedateConfig config,
                                                        SpeedateDateTime *out);
 
 /* Parses the date-times of RFC 3339 and no others, as speedate_time_parse_strict parses times. */
@@ -510,27 +496,10 @@ SPEEDATE_NODISCARD int speedate_datetime_parse_strict(const char *text, size_t s
 SPEEDATE_NODISCARD int speedate_datetime_parse_front(const char *text, size_t size, SpeedateConfig config,
                                                      SpeedateDateTime *out, size_t *taken);
 
-/* Where a text is wrong as a date-time or a timestamp: at 17, the second, in "2020-02-29T12:13:60". A number that is
- * refused as a timestamp is wrong at 0, or at its first digit past the microsecond: at 8 in "1.0000000". */
-SPEEDATE_NODISCARD int speedate_datetime_error_place(const char *text, size_t size, SpeedateConfig config,
-                                                     size_t *place);
-
-/* Where a text is wrong as a date-time: at 10, the missing separator, in "2020-02-29". */
-SPEEDATE_NODISCARD int speedate_datetime_error_place_rfc3339(const char *text, size_t size, SpeedateConfig config,
-                                                             size_t *place);
-
-/* Where a text is wrong as a date-time of RFC 3339: at 19, the missing offset, in "2020-02-29T12:13:14". */
-SPEEDATE_NODISCARD int speedate_datetime_error_place_strict(const char *text, size_t size, SpeedateConfig config,
-                                                            size_t *place);
-
-/* Where a text has no date-time at its front: at 20, after the sign, in "2026-11-22T12:00:00-ERROR". */
-SPEEDATE_NODISCARD int speedate_datetime_error_place_front(const char *text, size_t size, SpeedateConfig config,
-                                                           size_t *place);
-
 /* The date-time, or the part for which a text is refused: 17 to 19, the second, in "2020-02-29T12:13:60". */
 SPEEDATE_NODISCARD int speedate_datetime_parse_or_part(const char *text, size_t size, SpeedateConfig config,
                                                        SpeedateDateTime *out, SpeedatePart *part);
-SPEEDATE_NODISCARD int speedate_datetime_parse_or_part_rfc3339(const char *text, size_t size, SpeedateConfig config,
+SPEEDATE_NODISCARD int speedate_datetime_parse_or_part_text(const char *text, size_t size, SpeedateConfig config,
                                                                SpeedateDateTime *out, SpeedatePart *part);
 SPEEDATE_NODISCARD int speedate_datetime_parse_or_part_strict(const char *text, size_t size, SpeedateConfig config,
                                                               SpeedateDateTime *out, SpeedatePart *part);
@@ -546,34 +515,35 @@ SPEEDATE_NODISCARD int speedate_datetime_check(SpeedateDateTime value);
 SPEEDATE_NODISCARD int speedate_datetime_to_text(SpeedateDateTime value, char *buffer, size_t size, size_t *length);
 
 /* Compares date-times as speedate_time_compare does times. What is said there of sorting holds here too. An offset that
- * is missing is not taken as UTC, as it is by speedate_duration_between and speedate_datetime_timestamp_tz: 12:00
+ * is missing is not taken as UTC, as it is by speedate_duration_between and speedate_datetime_unix_seconds: 12:00
  * without one comes before 12:30+01:00 of the same day, and the duration from it to that is minus 30 minutes. */
 SPEEDATE_NODISCARD int speedate_datetime_compare(SpeedateDateTime first, SpeedateDateTime second, int32_t *out);
 
 /* The date-time `microsecond` microseconds after a timestamp in the unit of the configuration, with the offset of the
- * configuration: 1970-01-01T00:00:01.000002 for 1 second and 2 microseconds. It fails with SPEEDATE_TIME_TOO_LARGE if a
- * sum that leads to it is too large, SPEEDATE_DATE_TOO_SMALL before the year 0000, and SPEEDATE_DATE_TOO_LARGE after
- * the year 9999. */
+ * configuration: 1970-01-01T00:00:01.000002 for 1 second and 2 microseconds. It fails with SPEEDATE_TIME_TOO_LARGE if
+ * `microsecond` and the microseconds of the timestamp beyond its seconds are together over 4,294,967,295, or the second
+ * does not fit 64 bits, SPEEDATE_DATE_TOO_SMALL before the year 0000, and SPEEDATE_DATE_TOO_LARGE after the year
+ * 9999. */
 SPEEDATE_NODISCARD int speedate_datetime_from_timestamp(int64_t timestamp, uint32_t microsecond, SpeedateConfig config,
                                                         SpeedateDateTime *out);
 
-/* The number that a timestamp has in a column of date-times: what speedate_datetime_timestamp_tz_us gives of
- * speedate_datetime_from_timestamp without further microseconds. Without an offset it is taken to be in UTC, where a
- * column refuses it unless assumes_utc is 1. It fails with SPEEDATE_DATE_TOO_SMALL before the year 0000, and
+/* The microseconds of a timestamp, as a column of date-times has them: what speedate_datetime_unix_microseconds gives
+ * for speedate_datetime_from_timestamp without further microseconds. Without an offset it is taken to be in UTC, where
+ * a column refuses it unless assumes_utc is 1. It fails with SPEEDATE_DATE_TOO_SMALL before the year 0000, and
  * SPEEDATE_DATE_TOO_LARGE after the year 9999. */
-SPEEDATE_NODISCARD int speedate_timestamp_microseconds(int64_t timestamp, SpeedateConfig config, int64_t *out);
-
-/* The seconds since 1970-01-01T00:00:00, and the milliseconds, rounded down, as if date and time were in UTC: the
- * offset is ignored. For Unix time call speedate_datetime_timestamp_tz. */
-SPEEDATE_NODISCARD int speedate_datetime_timestamp(SpeedateDateTime value, int64_t *out);
-SPEEDATE_NODISCARD int speedate_datetime_timestamp_ms(SpeedateDateTime value, int64_t *out);
+SPEEDATE_NODISCARD int speedate_datetime_timestamp_microseconds(int64_t timestamp, SpeedateConfig config, int64_t *out);
 
 /* Unix time: the seconds since 1970-01-01T00:00:00 in UTC, the milliseconds, rounded down, and the microseconds. A
  * date-time without an offset is taken to be in UTC. time.microsecond is the rest of the second: tv_nsec is 1000 times
  * that. speedate_datetime_from_timestamp with SPEEDATE_UNIT_MICROSECOND makes a date-time of the microseconds. */
-SPEEDATE_NODISCARD int speedate_datetime_timestamp_tz(SpeedateDateTime value, int64_t *out);
-SPEEDATE_NODISCARD int speedate_datetime_timestamp_tz_ms(SpeedateDateTime value, int64_t *out);
-SPEEDATE_NODISCARD int speedate_datetime_timestamp_tz_us(SpeedateDateTime value, int64_t *out);
+SPEEDATE_NODISCARD int speedate_datetime_unix_seconds(SpeedateDateTime value, int64_t *out);
+SPEEDATE_NODISCARD int speedate_datetime_unix_milliseconds(SpeedateDateTime value, int64_t *out);
+SPEEDATE_NODISCARD int speedate_datetime_unix_microseconds(SpeedateDateTime value, int64_t *out);
+
+/* What the clock shows, whatever the offset: the seconds since 1970-01-01T00:00:00 on the same clock, and the
+ * milliseconds, rounded down. They are Unix time only in UTC. */
+SPEEDATE_NODISCARD int speedate_datetime_clock_seconds(SpeedateDateTime value, int64_t *out);
+SPEEDATE_NODISCARD int speedate_datetime_clock_milliseconds(SpeedateDateTime value, int64_t *out);
 
 /* The date-time at the same instant, as a clock at another offset, in seconds, shows it. It fails with
  * SPEEDATE_OUT_OF_RANGE_TZ if the offset is 24 hours or more, SPEEDATE_TZ_REQUIRED if the date-time has none, and
@@ -586,10 +556,6 @@ SPEEDATE_NODISCARD int speedate_datetime_in_timezone(SpeedateDateTime value, int
  * is 365 days and a month 30; no call adds calendar months. */
 SPEEDATE_NODISCARD int speedate_duration_parse(const char *text, size_t size, SpeedateConfig config,
                                                SpeedateDuration *out);
-
-/* Where a text is wrong as a duration: at 4, the unit, in "P1D1Q". */
-SPEEDATE_NODISCARD int speedate_duration_error_place(const char *text, size_t size, SpeedateConfig config,
-                                                     size_t *place);
 
 /* The duration, or the part for which a text is refused: 4 to 5, the unit, in "P1D1Q". */
 SPEEDATE_NODISCARD int speedate_duration_parse_or_part(const char *text, size_t size, SpeedateConfig config,
@@ -656,26 +622,27 @@ typedef struct SpeedateColumnConfig {
     /* 0 if the end of the text ends its last line. 1 if more text may follow: what stands after the last line feed is
      * then left for a further call. */
     uint8_t more_follows;
-    /* 1 if a carriage return at the end of a line is dropped, as files of Windows have one; 0 if it is part of the line,
-     * which is then refused. */
+    /* 1 if a carriage return at the end of a line is dropped, as files of Windows have one; 0 if it is part of the
+     * line, which is then refused. */
     uint8_t drops_returns;
-    /* What a line of dates, times or date-times may be: SPEEDATE_FORM_TEXT, _TIMESTAMP or _STRICT. */
+    /* What a line of dates, times or date-times may be: SPEEDATE_FORM_TEXT, _OR_TIMESTAMP or _STRICT. */
     uint8_t form;
     /* 1 if a date-time without an offset is taken to be in UTC; 0 if it is refused, with SPEEDATE_TZ_REQUIRED. Only
      * speedate_datetime_column uses it. */
     uint8_t assumes_utc;
     /* 0 if a line that is refused ends the column; 1 if it gets the smallest number, INT64_MIN or INT32_MIN, and the
-     * column goes on. That is the number of no other line, and INT64_MIN is NaT in NumPy. */
+     * column goes on. That is the number of no other line, and INT64_MIN is NaT in NumPy. With `errors` the column goes
+     * on in any case. */
     uint8_t goes_on;
 } SpeedateColumnConfig;
 
 /* The default: SpeedateColumnConfig column = SPEEDATE_COLUMN_CONFIG_DEFAULT; */
 #define SPEEDATE_COLUMN_CONFIG_DEFAULT {0, 0, 0, 0, 0}
 
-/* No timestamps, as speedate_date_parse_rfc3339, speedate_time_parse and speedate_datetime_parse_rfc3339 parse. */
+/* No timestamps, as speedate_date_parse_text, speedate_time_parse and speedate_datetime_parse_text parse. */
 #define SPEEDATE_FORM_TEXT 0
 /* Timestamps too, as speedate_date_parse and speedate_datetime_parse parse. For times it is out of range. */
-#define SPEEDATE_FORM_TIMESTAMP 1
+#define SPEEDATE_FORM_OR_TIMESTAMP 1
 /* As speedate_time_parse_strict and speedate_datetime_parse_strict parse. For dates it is out of range. */
 #define SPEEDATE_FORM_STRICT 2
 
@@ -690,82 +657,54 @@ typedef struct SpeedateProgress {
  * place in `out`, and writes to *progress how far it came. Places without a line stay as they are. It returns
  * SPEEDATE_CONFIG_OUT_OF_RANGE if a field of either configuration is out of range, and otherwise SPEEDATE_OK: a line
  * that is refused does not make a call fail. What follows progress->bytes is left for a further call. If
- * progress->error is SPEEDATE_OK and there is room left, it has no whole line. */
+ * progress->error is SPEEDATE_OK and there is room left, it has no whole line.
+ *
+ * `errors` is NULL, with an error_room of 0, if only numbers are wanted. Otherwise the code of each line goes to the
+ * same place in `errors`, 0 if it is not refused, and no line ends the column: one that is refused gets the smallest
+ * number. As many lines are read as there is room for in both. */
 
-/* The microseconds of date-times since 1970-01-01T00:00:00 in UTC, as speedate_datetime_timestamp_tz_us gives them:
+/* The microseconds of date-times since 1970-01-01T00:00:00 in UTC, as speedate_datetime_unix_microseconds gives them:
  * 1000000 and 0 from "1970-01-01T00:00:01Z\n1970-01-01T01:00+01:00\n". */
 SPEEDATE_NODISCARD int speedate_datetime_column(const char *text, size_t size, SpeedateConfig config,
                                                 SpeedateColumnConfig column, int64_t *out, size_t room,
-                                                SpeedateProgress *progress);
+                                                uint8_t *errors, size_t error_room, SpeedateProgress *progress);
 
 /* The microseconds of date-times since 1970-01-01T00:00:00 that their clocks show, whatever the offset: 1000000 and
  * 3600000000 from "1970-01-01T00:00:01Z\n1970-01-01T01:00+01:00\n". With the offsets, which the next call gives, they
  * are the date-times as they stand, where speedate_datetime_column gives the instants alone. */
 SPEEDATE_NODISCARD int speedate_datetime_clock_column(const char *text, size_t size, SpeedateConfig config,
                                                       SpeedateColumnConfig column, int64_t *out, size_t room,
-                                                      SpeedateProgress *progress);
+                                                      uint8_t *errors, size_t error_room, SpeedateProgress *progress);
 
 /* The offsets of date-times in seconds, positive east of UTC: 0 and 3600 from the same text. A date-time without an
  * offset is refused with SPEEDATE_TZ_REQUIRED. A timestamp has the offset of the configuration. */
 SPEEDATE_NODISCARD int speedate_datetime_offset_column(const char *text, size_t size, SpeedateConfig config,
                                                        SpeedateColumnConfig column, int32_t *out, size_t room,
-                                                       SpeedateProgress *progress);
+                                                       uint8_t *errors, size_t error_room, SpeedateProgress *progress);
 
 /* The days of dates since 1970-01-01: 1 and -1 from "1970-01-02\n1969-12-31\n". Here SPEEDATE_FORM_STRICT is out of
  * range. */
 SPEEDATE_NODISCARD int speedate_date_column(const char *text, size_t size, SpeedateConfig config,
                                             SpeedateColumnConfig column, int32_t *out, size_t room,
-                                            SpeedateProgress *progress);
+                                            uint8_t *errors, size_t error_room, SpeedateProgress *progress);
 
 /* The microseconds after midnight that the clocks of times show, whatever the offset: 43994500000 and 0 from
- * "12:13:14.5\n00:00+01:00\n". They are 0 to 86399999999. Here SPEEDATE_FORM_TIMESTAMP is out of range. */
+ * "12:13:14.5\n00:00+01:00\n". They are 0 to 86399999999. Here SPEEDATE_FORM_OR_TIMESTAMP is out of range. */
 SPEEDATE_NODISCARD int speedate_time_column(const char *text, size_t size, SpeedateConfig config,
                                             SpeedateColumnConfig column, int64_t *out, size_t room,
-                                            SpeedateProgress *progress);
+                                            uint8_t *errors, size_t error_room, SpeedateProgress *progress);
 
-/* The offsets of times in seconds, positive east of UTC: 0 and 3600 from "12:13:14.5Z\n00:00+01:00\n". A time without an
- * offset is refused with SPEEDATE_TZ_REQUIRED. Here too SPEEDATE_FORM_TIMESTAMP is out of range. */
+/* The offsets of times in seconds, positive east of UTC: 0 and 3600 from "12:13:14.5Z\n00:00+01:00\n". A time without
+ * an offset is refused with SPEEDATE_TZ_REQUIRED. Here too SPEEDATE_FORM_OR_TIMESTAMP is out of range. */
 SPEEDATE_NODISCARD int speedate_time_offset_column(const char *text, size_t size, SpeedateConfig config,
                                                    SpeedateColumnConfig column, int32_t *out, size_t room,
-                                                   SpeedateProgress *progress);
+                                                   uint8_t *errors, size_t error_room, SpeedateProgress *progress);
 
 /* The microseconds of durations, with their signs: 1500000 and -60000000 from "PT1.5S\n-00:01:00\n". A duration of 2^63
  * microseconds or more, which is over 106,751,991 days, is refused with SPEEDATE_NUMBER_TOO_LARGE. */
 SPEEDATE_NODISCARD int speedate_duration_column(const char *text, size_t size, SpeedateConfig config,
                                                 SpeedateColumnConfig column, int64_t *out, size_t room,
-                                                SpeedateProgress *progress);
-
-/* The same, and to the same place in `errors` the code of each line, 0 if it is not refused. No line ends the column:
- * one that is refused gets the smallest number, whatever goes_on says. As many lines are read as there is room for in
- * both. */
-SPEEDATE_NODISCARD int speedate_datetime_column_with_errors(const char *text, size_t size, SpeedateConfig config,
-                                                            SpeedateColumnConfig column, int64_t *out, size_t room,
-                                                            uint8_t *errors, size_t error_room,
-                                                            SpeedateProgress *progress);
-SPEEDATE_NODISCARD int speedate_datetime_clock_column_with_errors(const char *text, size_t size, SpeedateConfig config,
-                                                                  SpeedateColumnConfig column, int64_t *out, size_t room,
-                                                                  uint8_t *errors, size_t error_room,
-                                                                  SpeedateProgress *progress);
-SPEEDATE_NODISCARD int speedate_datetime_offset_column_with_errors(const char *text, size_t size, SpeedateConfig config,
-                                                                   SpeedateColumnConfig column, int32_t *out, size_t room,
-                                                                   uint8_t *errors, size_t error_room,
-                                                                   SpeedateProgress *progress);
-SPEEDATE_NODISCARD int speedate_date_column_with_errors(const char *text, size_t size, SpeedateConfig config,
-                                                        SpeedateColumnConfig column, int32_t *out, size_t room,
-                                                        uint8_t *errors, size_t error_room,
-                                                        SpeedateProgress *progress);
-SPEEDATE_NODISCARD int speedate_time_column_with_errors(const char *text, size_t size, SpeedateConfig config,
-                                                        SpeedateColumnConfig column, int64_t *out, size_t room,
-                                                        uint8_t *errors, size_t error_room,
-                                                        SpeedateProgress *progress);
-SPEEDATE_NODISCARD int speedate_time_offset_column_with_errors(const char *text, size_t size, SpeedateConfig config,
-                                                               SpeedateColumnConfig column, int32_t *out, size_t room,
-                                                               uint8_t *errors, size_t error_room,
-                                                               SpeedateProgress *progress);
-SPEEDATE_NODISCARD int speedate_duration_column_with_errors(const char *text, size_t size, SpeedateConfig config,
-                                                            SpeedateColumnConfig column, int64_t *out, size_t room,
-                                                            uint8_t *errors, size_t error_room,
-                                                            SpeedateProgress *progress);
+                                                uint8_t *errors, size_t error_room, SpeedateProgress *progress);
 
 /* ---- Numbers ---- */
 

@@ -8,6 +8,7 @@
  *
  * - A Date, Time, DateTime or Duration is always in range. `of` makes one of numbers, and refuses those that are not.
  * - A call that can refuse returns a Result, which has a value or an Error. A call that cannot returns its value.
+ * - Arguments come in one order: what is read, and then the configuration, which may be left out.
  * - A text is a std::string_view, and what is printed a std::string. Nothing else allocates memory.
  * - No call throws but Result::value, where there are exceptions, and what std::string throws.
  *
@@ -15,6 +16,10 @@
  */
 #ifndef SPEEDATE_HPP
 #define SPEEDATE_HPP
+
+#if __cplusplus < 201703L && !(defined(_MSVC_LANG) && _MSVC_LANG >= 201703L)
+#error "speedate.hpp needs C++17 or later; speedate.h needs C++98"
+#endif
 
 #include "speedate.h"
 
@@ -24,6 +29,7 @@
 #include <cstdlib>
 #include <cstring>
 #include <iterator>
+#include <limits>
 #include <optional>
 #include <ostream>
 #include <stdexcept>
@@ -56,10 +62,11 @@ class Error {
     /* "day value is outside expected range". */
     std::string documentation() const { return printed("unknown code", speedate_code_documentation); }
 
-    /* What a call of a kind, one of SPEEDATE_KIND_DATE and its like, expected: "month, 01 to 12". */
-    std::string expected(int kind) const {
+    /* What the call expected that refused a text for it, and wrote the part: "month, 01 to 12". For a line of a column
+     * the part has the kind alone: {0, 0, SPEEDATE_KIND_DATE}. */
+    std::string expected(const SpeedatePart &part) const {
         return printed("unknown code or kind", [&](int code, auto... out) {
-            return speedate_code_expected(code, kind, out...);
+            return speedate_code_expected(code, &part, out...);
         });
     }
 
@@ -131,6 +138,20 @@ template <class T> class [[nodiscard]] Result {
     Error error_{SPEEDATE_OK};
 };
 
+/* The result of a call that tells which part of a text it refuses, or SPEEDATE_PART_NONE where it refuses none:
+ * if (auto date = Date::parse_or_part(text)) use(*date); else underline(date.part().place, date.part().end); */
+template <class T> class [[nodiscard]] OrPart : public Result<T> {
+  public:
+    OrPart(const Result<T> &result, const SpeedatePart &part) : Result<T>(result), part_(part) {}
+    const SpeedatePart &part() const noexcept { return part_; }
+
+    /* What was expected in place of the part. Call it only if there is no value. */
+    std::string expected() const { return this->error().expected(part_); }
+
+  private:
+    SpeedatePart part_;
+};
+
 /* A value at the front of a text, and how many bytes of the text it takes. */
 template <class T> struct Front {
     T value;
@@ -156,7 +177,7 @@ enum class Order : std::uint8_t { Lax = SPEEDATE_ORDER_LAX, Strict = SPEEDATE_OR
 /* What a line of a column may be: SPEEDATE_FORM_TEXT and so on. */
 enum class Form : std::uint8_t {
     Text = SPEEDATE_FORM_TEXT,
-    Timestamp = SPEEDATE_FORM_TIMESTAMP,
+    OrTimestamp = SPEEDATE_FORM_OR_TIMESTAMP,
     Strict = SPEEDATE_FORM_STRICT
 };
 
@@ -235,13 +256,25 @@ template <class T, class C, class Call> Result<Front<T>> front(Call call) {
     return Front<T>{T(out), taken};
 }
 
-/* The place of a fault of a text, whose codes are the first ones. */
-template <class Call> std::optional<std::size_t> place(Call call) {
-    std::size_t out = 0;
-    const int code = call(&out);
-    if (code == SPEEDATE_OK || code >= SPEEDATE_VALUE_OUT_OF_RANGE)
-        return std::nullopt;
-    return out;
+template <class T, class C, class Call> OrPart<T> or_part(Call call) {
+    SpeedatePart part;
+    const Result<T> result = written<T, C>([&](auto *out) { return call(out, &part); });
+    return {result, part};
+}
+template <class T, class C, class Call> OrPart<Front<T>> front_or_part(Call call) {
+    SpeedatePart part;
+    const Result<Front<T>> result = front<T, C>([&](auto... out) { return call(out..., &part); });
+    return {result, part};
+}
+
+/* A number in a type of C, or the greatest one of that type, which no field may have, if it does not fit. */
+template <class C> C narrowed(std::int64_t number) noexcept {
+    return number >= 0 && number <= std::int64_t{std::numeric_limits<C>::max()} ? static_cast<C>(number)
+                                                                                 : std::numeric_limits<C>::max();
+}
+/* The same for an offset, which may be negative. */
+inline std::int32_t narrowed_offset(std::int64_t offset) noexcept {
+    return offset < INT32_MIN || offset > INT32_MAX ? INT32_MAX : static_cast<std::int32_t>(offset);
 }
 
 template <std::size_t Size, class C> std::string text(int (*call)(C, char *, std::size_t, std::size_t *), C value) {
@@ -279,9 +312,13 @@ template <class T> struct Ordered : Equal<T> {
 /* A day of the Gregorian calendar, from 0000-01-01 to 9999-12-31. Dates are ordered. */
 class Date : public detail::Ordered<Date> {
   public:
-    /* The date of its numbers, or SPEEDATE_DATE_TOO_LARGE, SPEEDATE_OUT_OF_RANGE_MONTH or SPEEDATE_OUT_OF_RANGE_DAY. */
-    static Result<Date> of(std::uint16_t year, std::uint8_t month, std::uint8_t day) {
-        return of(SpeedateDate{year, month, day});
+    /* The date of its numbers, or SPEEDATE_DATE_TOO_SMALL, SPEEDATE_DATE_TOO_LARGE, SPEEDATE_OUT_OF_RANGE_MONTH or
+     * SPEEDATE_OUT_OF_RANGE_DAY. */
+    static Result<Date> of(std::int64_t year, std::int64_t month, std::int64_t day) {
+        if (year < 0)
+            return Error(SPEEDATE_DATE_TOO_SMALL);
+        return of(SpeedateDate{detail::narrowed<std::uint16_t>(year), detail::narrowed<std::uint8_t>(month),
+                               detail::narrowed<std::uint8_t>(day)});
     }
     static Result<Date> of(SpeedateDate date) {
         const int code = speedate_date_check(date);
@@ -298,41 +335,26 @@ class Date : public detail::Ordered<Date> {
     static Result<Date> parse(std::string_view text, const Config &config = {}) {
         return from_c([&](auto *out) { return speedate_date_parse(text.data(), text.size(), config.c(), out); });
     }
-    static Result<Date> parse_rfc3339(std::string_view text) {
-        return from_c([&](auto *out) { return speedate_date_parse_rfc3339(text.data(), text.size(), out); });
+    static Result<Date> parse_text(std::string_view text) {
+        return from_c([&](auto *out) { return speedate_date_parse_text(text.data(), text.size(), out); });
     }
     static Result<Front<Date>> parse_front(std::string_view text) {
         return detail::front<Date, SpeedateDate>(
             [&](auto... out) { return speedate_date_parse_front(text.data(), text.size(), out...); });
     }
 
-    /* What the parser of that name returns; if it refuses the text, the part for which it does is written. */
-    static Result<Date> parse_or_part(std::string_view text, SpeedatePart &part, const Config &config = {}) {
-        return from_c([&](auto *out) {
-            return speedate_date_parse_or_part(text.data(), text.size(), config.c(), out, &part);
-        });
+    /* What the parser of that name returns, and the part of a text that it refuses. */
+    static OrPart<Date> parse_or_part(std::string_view text, const Config &config = {}) {
+        return detail::or_part<Date, SpeedateDate>(
+            [&](auto... out) { return speedate_date_parse_or_part(text.data(), text.size(), config.c(), out...); });
     }
-    static Result<Date> parse_or_part_rfc3339(std::string_view text, SpeedatePart &part) {
-        return from_c([&](auto *out) {
-            return speedate_date_parse_or_part_rfc3339(text.data(), text.size(), out, &part);
-        });
+    static OrPart<Date> parse_or_part_text(std::string_view text) {
+        return detail::or_part<Date, SpeedateDate>(
+            [&](auto... out) { return speedate_date_parse_or_part_text(text.data(), text.size(), out...); });
     }
-    static Result<Front<Date>> parse_or_part_front(std::string_view text, SpeedatePart &part) {
-        return detail::front<Date, SpeedateDate>(
-            [&](auto... out) { return speedate_date_parse_or_part_front(text.data(), text.size(), out..., &part); });
-    }
-
-    /* Where a text is wrong for the parser of that name; nothing if it is accepted, or the configuration is out of range. */
-    static std::optional<std::size_t> error_place(std::string_view text, const Config &config = {}) {
-        return detail::place(
-            [&](auto *out) { return speedate_date_error_place(text.data(), text.size(), config.c(), out); });
-    }
-    static std::optional<std::size_t> error_place_rfc3339(std::string_view text) {
-        return detail::place(
-            [&](auto *out) { return speedate_date_error_place_rfc3339(text.data(), text.size(), out); });
-    }
-    static std::optional<std::size_t> error_place_front(std::string_view text) {
-        return detail::place([&](auto *out) { return speedate_date_error_place_front(text.data(), text.size(), out); });
+    static OrPart<Front<Date>> parse_or_part_front(std::string_view text) {
+        return detail::front_or_part<Date, SpeedateDate>(
+            [&](auto... out) { return speedate_date_parse_or_part_front(text.data(), text.size(), out...); });
     }
 
     static Result<Date> from_timestamp(std::int64_t timestamp, bool require_exact, const Config &config = {}) {
@@ -359,8 +381,10 @@ class Date : public detail::Ordered<Date> {
     Result<Date> add_days(std::int32_t days) const {
         return from_c([&](auto *out) { return speedate_date_add_days(c_, days, out); });
     }
-    std::int32_t days_since(const Date &earlier) const noexcept {
-        return detail::sure<std::int32_t>([&](auto *out) { return speedate_date_days_since(c_, earlier.c_, out); });
+    /* The days from one date to another, negative if `later` is the earlier one. */
+    static std::int32_t days_between(const Date &earlier, const Date &later) noexcept {
+        return detail::sure<std::int32_t>(
+            [&](auto *out) { return speedate_date_days_between(earlier.c_, later.c_, out); });
     }
 
     /* Negative if the first is the earlier one, 0 if they are equal, otherwise positive. */
@@ -373,11 +397,8 @@ class Date : public detail::Ordered<Date> {
     /* The date of a calendar date of chrono. One that is not in the calendar is refused as its numbers are, and a year
      * before 0000 with SPEEDATE_DATE_TOO_SMALL. */
     static Result<Date> of(std::chrono::year_month_day date) {
-        const int year = static_cast<int>(date.year());
-        if (year < 0)
-            return Error(SPEEDATE_DATE_TOO_SMALL);
-        return of(static_cast<std::uint16_t>(year), static_cast<std::uint8_t>(static_cast<unsigned>(date.month())),
-                  static_cast<std::uint8_t>(static_cast<unsigned>(date.day())));
+        return of(static_cast<int>(date.year()), static_cast<unsigned>(date.month()),
+                  static_cast<unsigned>(date.day()));
     }
     std::chrono::year_month_day year_month_day() const noexcept {
         return std::chrono::year(year()) / std::chrono::month(month()) / std::chrono::day(day());
@@ -403,9 +424,12 @@ class Time : public detail::Equal<Time> {
   public:
     /* The time of its numbers, or SPEEDATE_OUT_OF_RANGE_HOUR, _MINUTE or _SECOND, SPEEDATE_TIME_TOO_LARGE for the
      * microsecond, or SPEEDATE_OUT_OF_RANGE_TZ. */
-    static Result<Time> of(std::uint8_t hour, std::uint8_t minute, std::uint8_t second = 0,
-                           std::uint32_t microsecond = 0, std::optional<std::int32_t> offset = std::nullopt) {
-        return of(SpeedateTime{hour, minute, second, offset.has_value(), microsecond, offset.value_or(0)});
+    static Result<Time> of(std::int64_t hour, std::int64_t minute, std::int64_t second = 0,
+                           std::int64_t microsecond = 0, std::optional<std::int64_t> offset = std::nullopt) {
+        return of(SpeedateTime{detail::narrowed<std::uint8_t>(hour), detail::narrowed<std::uint8_t>(minute),
+                               detail::narrowed<std::uint8_t>(second), offset.has_value(),
+                               detail::narrowed<std::uint32_t>(microsecond),
+                               detail::narrowed_offset(offset.value_or(0))});
     }
     static Result<Time> of(SpeedateTime time) {
         const int code = speedate_time_check(time);
@@ -437,34 +461,20 @@ class Time : public detail::Equal<Time> {
             [&](auto... out) { return speedate_time_parse_front(text.data(), text.size(), config.c(), out...); });
     }
 
-    /* What the parser of that name returns; if it refuses the text, the part for which it does is written. */
-    static Result<Time> parse_or_part(std::string_view text, SpeedatePart &part, const Config &config = {}) {
-        return from_c([&](auto *out) {
-            return speedate_time_parse_or_part(text.data(), text.size(), config.c(), out, &part);
+    /* What the parser of that name returns, and the part of a text that it refuses. */
+    static OrPart<Time> parse_or_part(std::string_view text, const Config &config = {}) {
+        return detail::or_part<Time, SpeedateTime>(
+            [&](auto... out) { return speedate_time_parse_or_part(text.data(), text.size(), config.c(), out...); });
+    }
+    static OrPart<Time> parse_or_part_strict(std::string_view text, const Config &config = {}) {
+        return detail::or_part<Time, SpeedateTime>([&](auto... out) {
+            return speedate_time_parse_or_part_strict(text.data(), text.size(), config.c(), out...);
         });
     }
-    static Result<Time> parse_or_part_strict(std::string_view text, SpeedatePart &part, const Config &config = {}) {
-        return from_c([&](auto *out) {
-            return speedate_time_parse_or_part_strict(text.data(), text.size(), config.c(), out, &part);
+    static OrPart<Front<Time>> parse_or_part_front(std::string_view text, const Config &config = {}) {
+        return detail::front_or_part<Time, SpeedateTime>([&](auto... out) {
+            return speedate_time_parse_or_part_front(text.data(), text.size(), config.c(), out...);
         });
-    }
-    static Result<Front<Time>> parse_or_part_front(std::string_view text, SpeedatePart &part, const Config &config = {}) {
-        return detail::front<Time, SpeedateTime>(
-            [&](auto... out) { return speedate_time_parse_or_part_front(text.data(), text.size(), config.c(), out..., &part); });
-    }
-
-    /* Where a text is wrong for the parser of that name; nothing if it is accepted, or the configuration is out of range. */
-    static std::optional<std::size_t> error_place(std::string_view text, const Config &config = {}) {
-        return detail::place(
-            [&](auto *out) { return speedate_time_error_place(text.data(), text.size(), config.c(), out); });
-    }
-    static std::optional<std::size_t> error_place_strict(std::string_view text, const Config &config = {}) {
-        return detail::place(
-            [&](auto *out) { return speedate_time_error_place_strict(text.data(), text.size(), config.c(), out); });
-    }
-    static std::optional<std::size_t> error_place_front(std::string_view text, const Config &config = {}) {
-        return detail::place(
-            [&](auto *out) { return speedate_time_error_place_front(text.data(), text.size(), config.c(), out); });
     }
 
     static Result<Time> from_timestamp(std::uint32_t second, std::uint32_t microsecond, const Config &config = {}) {
@@ -523,9 +533,9 @@ class DateTime : public detail::Equal<DateTime> {
     static Result<DateTime> parse(std::string_view text, const Config &config = {}) {
         return from_c([&](auto *out) { return speedate_datetime_parse(text.data(), text.size(), config.c(), out); });
     }
-    static Result<DateTime> parse_rfc3339(std::string_view text, const Config &config = {}) {
+    static Result<DateTime> parse_text(std::string_view text, const Config &config = {}) {
         return from_c(
-            [&](auto *out) { return speedate_datetime_parse_rfc3339(text.data(), text.size(), config.c(), out); });
+            [&](auto *out) { return speedate_datetime_parse_text(text.data(), text.size(), config.c(), out); });
     }
     static Result<DateTime> parse_strict(std::string_view text, const Config &config = {}) {
         return from_c(
@@ -536,44 +546,25 @@ class DateTime : public detail::Equal<DateTime> {
             [&](auto... out) { return speedate_datetime_parse_front(text.data(), text.size(), config.c(), out...); });
     }
 
-    /* What the parser of that name returns; if it refuses the text, the part for which it does is written. */
-    static Result<DateTime> parse_or_part(std::string_view text, SpeedatePart &part, const Config &config = {}) {
-        return from_c([&](auto *out) {
-            return speedate_datetime_parse_or_part(text.data(), text.size(), config.c(), out, &part);
+    /* What the parser of that name returns, and the part of a text that it refuses. */
+    static OrPart<DateTime> parse_or_part(std::string_view text, const Config &config = {}) {
+        return detail::or_part<DateTime, SpeedateDateTime>(
+            [&](auto... out) { return speedate_datetime_parse_or_part(text.data(), text.size(), config.c(), out...); });
+    }
+    static OrPart<DateTime> parse_or_part_text(std::string_view text, const Config &config = {}) {
+        return detail::or_part<DateTime, SpeedateDateTime>([&](auto... out) {
+            return speedate_datetime_parse_or_part_text(text.data(), text.size(), config.c(), out...);
         });
     }
-    static Result<DateTime> parse_or_part_rfc3339(std::string_view text, SpeedatePart &part, const Config &config = {}) {
-        return from_c([&](auto *out) {
-            return speedate_datetime_parse_or_part_rfc3339(text.data(), text.size(), config.c(), out, &part);
+    static OrPart<DateTime> parse_or_part_strict(std::string_view text, const Config &config = {}) {
+        return detail::or_part<DateTime, SpeedateDateTime>([&](auto... out) {
+            return speedate_datetime_parse_or_part_strict(text.data(), text.size(), config.c(), out...);
         });
     }
-    static Result<DateTime> parse_or_part_strict(std::string_view text, SpeedatePart &part, const Config &config = {}) {
-        return from_c([&](auto *out) {
-            return speedate_datetime_parse_or_part_strict(text.data(), text.size(), config.c(), out, &part);
+    static OrPart<Front<DateTime>> parse_or_part_front(std::string_view text, const Config &config = {}) {
+        return detail::front_or_part<DateTime, SpeedateDateTime>([&](auto... out) {
+            return speedate_datetime_parse_or_part_front(text.data(), text.size(), config.c(), out...);
         });
-    }
-    static Result<Front<DateTime>> parse_or_part_front(std::string_view text, SpeedatePart &part, const Config &config = {}) {
-        return detail::front<DateTime, SpeedateDateTime>(
-            [&](auto... out) { return speedate_datetime_parse_or_part_front(text.data(), text.size(), config.c(), out..., &part); });
-    }
-
-    /* Where a text is wrong for the parser of that name; nothing if it is accepted, or the configuration is out of range. */
-    static std::optional<std::size_t> error_place(std::string_view text, const Config &config = {}) {
-        return detail::place(
-            [&](auto *out) { return speedate_datetime_error_place(text.data(), text.size(), config.c(), out); });
-    }
-    static std::optional<std::size_t> error_place_rfc3339(std::string_view text, const Config &config = {}) {
-        return detail::place([&](auto *out) {
-            return speedate_datetime_error_place_rfc3339(text.data(), text.size(), config.c(), out);
-        });
-    }
-    static std::optional<std::size_t> error_place_strict(std::string_view text, const Config &config = {}) {
-        return detail::place(
-            [&](auto *out) { return speedate_datetime_error_place_strict(text.data(), text.size(), config.c(), out); });
-    }
-    static std::optional<std::size_t> error_place_front(std::string_view text, const Config &config = {}) {
-        return detail::place(
-            [&](auto *out) { return speedate_datetime_error_place_front(text.data(), text.size(), config.c(), out); });
     }
 
     static Result<DateTime> from_timestamp(std::int64_t timestamp, std::uint32_t microsecond,
@@ -582,28 +573,36 @@ class DateTime : public detail::Equal<DateTime> {
             [&](auto *out) { return speedate_datetime_from_timestamp(timestamp, microsecond, config.c(), out); });
     }
 
+    /* The microseconds of a timestamp, as a column of date-times has them. */
+    static Result<std::int64_t> timestamp_microseconds(std::int64_t timestamp, const Config &config = {}) {
+        return detail::number<std::int64_t>(
+            [&](auto *out) { return speedate_datetime_timestamp_microseconds(timestamp, config.c(), out); });
+    }
+
     std::string to_text() const { return detail::text<SPEEDATE_DATETIME_TEXT_SIZE>(speedate_datetime_to_text, c_); }
-    std::int64_t timestamp() const noexcept {
-        return detail::sure<std::int64_t>([&](auto *out) { return speedate_datetime_timestamp(c_, out); });
+    /* Unix time. */
+    std::int64_t unix_seconds() const noexcept {
+        return detail::sure<std::int64_t>([&](auto *out) { return speedate_datetime_unix_seconds(c_, out); });
     }
-    std::int64_t timestamp_ms() const noexcept {
-        return detail::sure<std::int64_t>([&](auto *out) { return speedate_datetime_timestamp_ms(c_, out); });
+    std::int64_t unix_milliseconds() const noexcept {
+        return detail::sure<std::int64_t>([&](auto *out) { return speedate_datetime_unix_milliseconds(c_, out); });
     }
-    std::int64_t timestamp_tz() const noexcept {
-        return detail::sure<std::int64_t>([&](auto *out) { return speedate_datetime_timestamp_tz(c_, out); });
+    std::int64_t unix_microseconds() const noexcept {
+        return detail::sure<std::int64_t>([&](auto *out) { return speedate_datetime_unix_microseconds(c_, out); });
     }
-    std::int64_t timestamp_tz_ms() const noexcept {
-        return detail::sure<std::int64_t>([&](auto *out) { return speedate_datetime_timestamp_tz_ms(c_, out); });
+    /* What the clock shows, whatever the offset. */
+    std::int64_t clock_seconds() const noexcept {
+        return detail::sure<std::int64_t>([&](auto *out) { return speedate_datetime_clock_seconds(c_, out); });
     }
-    std::int64_t timestamp_tz_us() const noexcept {
-        return detail::sure<std::int64_t>([&](auto *out) { return speedate_datetime_timestamp_tz_us(c_, out); });
+    std::int64_t clock_milliseconds() const noexcept {
+        return detail::sure<std::int64_t>([&](auto *out) { return speedate_datetime_clock_milliseconds(c_, out); });
     }
     Result<DateTime> in_timezone(std::int32_t offset) const {
         return from_c([&](auto *out) { return speedate_datetime_in_timezone(c_, offset, out); });
     }
 
     /* The moment of a date-time. One without an offset is taken to be in UTC. */
-    SysTime sys_time() const noexcept { return SysTime(std::chrono::microseconds(timestamp_tz_us())); }
+    SysTime sys_time() const noexcept { return SysTime(std::chrono::microseconds(unix_microseconds())); }
     /* The date-time of a moment, in UTC. It fails with SPEEDATE_DATE_TOO_SMALL or SPEEDATE_DATE_TOO_LARGE outside the
      * years 0000 to 9999. */
     static Result<DateTime> of(SysTime moment) {
@@ -637,25 +636,35 @@ class DateTime : public detail::Equal<DateTime> {
 /* A length of time, with a sign, which zero may have too. Durations are ordered; negative zero is smaller than zero. */
 class Duration : public detail::Ordered<Duration> {
   public:
-    /* The duration of numbers of any size, as speedate_duration_normalize says. */
-    static Result<Duration> of(bool negative, std::uint32_t day, std::uint32_t second = 0,
-                               std::uint32_t microsecond = 0) {
-        return of(SpeedateDuration{negative, day, second, microsecond});
+    /* The duration of its numbers, or SPEEDATE_DURATION_DAYS_TOO_LARGE or SPEEDATE_DURATION_VALUE_TOO_LARGE. */
+    static Result<Duration> of(bool negative, std::int64_t day, std::int64_t second = 0, std::int64_t microsecond = 0) {
+        using detail::narrowed;
+        return of(SpeedateDuration{negative, narrowed<std::uint32_t>(day), narrowed<std::uint32_t>(second),
+                                   narrowed<std::uint32_t>(microsecond)});
     }
-    static Result<Duration> of(SpeedateDuration numbers) {
+    static Result<Duration> of(SpeedateDuration duration) {
+        const int code = speedate_duration_check(duration);
+        if (code != SPEEDATE_OK)
+            return Error(code);
+        return Duration(duration);
+    }
+    /* The duration of numbers that are brought into their ranges, as speedate_duration_normalize says. */
+    static Result<Duration> normalized(bool negative, std::int64_t day, std::int64_t second = 0,
+                                       std::int64_t microsecond = 0) {
+        for (const std::int64_t number : {day, second, microsecond})
+            if (number < 0 || number > std::int64_t{UINT32_MAX})
+                return Error(SPEEDATE_DURATION_VALUE_TOO_LARGE);
+        using detail::narrowed;
+        return normalized(SpeedateDuration{negative, narrowed<std::uint32_t>(day), narrowed<std::uint32_t>(second),
+                                           narrowed<std::uint32_t>(microsecond)});
+    }
+    static Result<Duration> normalized(SpeedateDuration numbers) {
         return from_c([&](auto *out) { return speedate_duration_normalize(numbers, out); });
     }
     /* The duration of a number of microseconds with a sign. */
     static Duration of(std::chrono::microseconds length) noexcept {
         return Duration(detail::sure<SpeedateDuration>(
             [&](auto *out) { return speedate_duration_from_signed_microseconds(length.count(), out); }));
-    }
-    /* The duration of numbers that are in range, as speedate_duration_check says. */
-    static Result<Duration> checked(SpeedateDuration duration) {
-        const int code = speedate_duration_check(duration);
-        if (code != SPEEDATE_OK)
-            return Error(code);
-        return Duration(duration);
     }
 
     bool negative() const noexcept { return c_.negative; }
@@ -667,17 +676,10 @@ class Duration : public detail::Ordered<Duration> {
     static Result<Duration> parse(std::string_view text, const Config &config = {}) {
         return from_c([&](auto *out) { return speedate_duration_parse(text.data(), text.size(), config.c(), out); });
     }
-    /* What the parser of that name returns; if it refuses the text, the part for which it does is written. */
-    static Result<Duration> parse_or_part(std::string_view text, SpeedatePart &part, const Config &config = {}) {
-        return from_c([&](auto *out) {
-            return speedate_duration_parse_or_part(text.data(), text.size(), config.c(), out, &part);
-        });
-    }
-
-    /* Where a text is wrong; nothing if it is accepted, or the configuration is out of range. */
-    static std::optional<std::size_t> error_place(std::string_view text, const Config &config = {}) {
-        return detail::place(
-            [&](auto *out) { return speedate_duration_error_place(text.data(), text.size(), config.c(), out); });
+    /* What the parser of that name returns, and the part of a text that it refuses. */
+    static OrPart<Duration> parse_or_part(std::string_view text, const Config &config = {}) {
+        return detail::or_part<Duration, SpeedateDuration>(
+            [&](auto... out) { return speedate_duration_parse_or_part(text.data(), text.size(), config.c(), out...); });
     }
 
     std::string to_text() const { return detail::text<SPEEDATE_DURATION_TEXT_SIZE>(speedate_duration_to_text, c_); }
@@ -755,142 +757,110 @@ struct Progress {
 
 namespace detail {
 
-template <class Call> Result<Progress> column(Call call) { return written<Progress, SpeedateProgress>(call); }
+template <class Call, class Numbers>
+Result<Progress> column(Call call, std::string_view text, Numbers &out, const Config &config,
+                        const ColumnConfig &column) {
+    return written<Progress, SpeedateProgress>([&](auto *progress) {
+        return call(text.data(), text.size(), config.c(), column.c(), std::data(out), std::size(out), nullptr, 0,
+                    progress);
+    });
+}
+template <class Call, class Numbers, class Codes>
+Result<Progress> column(Call call, std::string_view text, Numbers &out, Codes &errors, const Config &config,
+                        const ColumnConfig &column) {
+    /* Where there is no place for an error, no line is read. */
+    const std::size_t room = std::size(errors) == 0 ? 0 : std::size(out);
+    return written<Progress, SpeedateProgress>([&](auto *progress) {
+        return call(text.data(), text.size(), config.c(), column.c(), std::data(out), room, std::data(errors),
+                    std::size(errors), progress);
+    });
+}
 
 } // namespace detail
 
-/* Read the lines of a text as numbers, as many as there is room for in `out`, an array, a std::vector or another
- * container with contiguous numbers: std::int32_t for dates and offsets, otherwise std::int64_t. The calls with errors
- * write the code of each line into a container of std::uint8_t. */
+/* Read the lines of a text as numbers, as many as there is room for in `out`, an array, a std::vector, a std::span or
+ * another container with contiguous numbers: std::int32_t for dates and offsets, otherwise std::int64_t. The calls with
+ * errors write the code of each line into a container of std::uint8_t. */
 template <class Numbers>
-Result<Progress> date_column(std::string_view text, Numbers &out, const Config &config = {},
+Result<Progress> date_column(std::string_view text, Numbers &&out, const Config &config = {},
                              const ColumnConfig &column = {}) {
-    return detail::column([&](auto *progress) {
-        return speedate_date_column(text.data(), text.size(), config.c(), column.c(), std::data(out), std::size(out),
-                                    progress);
-    });
-}
-template <class Numbers>
-Result<Progress> datetime_column(std::string_view text, Numbers &out, const Config &config = {},
-                                 const ColumnConfig &column = {}) {
-    return detail::column([&](auto *progress) {
-        return speedate_datetime_column(text.data(), text.size(), config.c(), column.c(), std::data(out),
-                                        std::size(out), progress);
-    });
-}
-template <class Numbers>
-Result<Progress> datetime_clock_column(std::string_view text, Numbers &out, const Config &config = {},
-                                       const ColumnConfig &column = {}) {
-    return detail::column([&](auto *progress) {
-        return speedate_datetime_clock_column(text.data(), text.size(), config.c(), column.c(), std::data(out),
-                                              std::size(out), progress);
-    });
-}
-template <class Numbers>
-Result<Progress> datetime_offset_column(std::string_view text, Numbers &out, const Config &config = {},
-                                        const ColumnConfig &column = {}) {
-    return detail::column([&](auto *progress) {
-        return speedate_datetime_offset_column(text.data(), text.size(), config.c(), column.c(), std::data(out),
-                                               std::size(out), progress);
-    });
-}
-template <class Numbers>
-Result<Progress> time_column(std::string_view text, Numbers &out, const Config &config = {},
-                             const ColumnConfig &column = {}) {
-    return detail::column([&](auto *progress) {
-        return speedate_time_column(text.data(), text.size(), config.c(), column.c(), std::data(out),
-                                    std::size(out), progress);
-    });
-}
-template <class Numbers>
-Result<Progress> time_offset_column(std::string_view text, Numbers &out, const Config &config = {},
-                                    const ColumnConfig &column = {}) {
-    return detail::column([&](auto *progress) {
-        return speedate_time_offset_column(text.data(), text.size(), config.c(), column.c(), std::data(out),
-                                           std::size(out), progress);
-    });
-}
-template <class Numbers>
-Result<Progress> duration_column(std::string_view text, Numbers &out, const Config &config = {},
-                                 const ColumnConfig &column = {}) {
-    return detail::column([&](auto *progress) {
-        return speedate_duration_column(text.data(), text.size(), config.c(), column.c(), std::data(out),
-                                        std::size(out), progress);
-    });
+    return detail::column(speedate_date_column, text, out, config, column);
 }
 template <class Numbers, class Codes>
-Result<Progress> date_column_with_errors(std::string_view text, Numbers &out, Codes &errors, const Config &config = {},
-                                         const ColumnConfig &column = {}) {
-    return detail::column([&](auto *progress) {
-        return speedate_date_column_with_errors(text.data(), text.size(), config.c(), column.c(), std::data(out),
-                                                std::size(out), std::data(errors), std::size(errors), progress);
-    });
-}
-template <class Numbers, class Codes>
-Result<Progress> datetime_column_with_errors(std::string_view text, Numbers &out, Codes &errors,
-                                             const Config &config = {}, const ColumnConfig &column = {}) {
-    return detail::column([&](auto *progress) {
-        return speedate_datetime_column_with_errors(text.data(), text.size(), config.c(), column.c(), std::data(out),
-                                                    std::size(out), std::data(errors), std::size(errors), progress);
-    });
-}
-template <class Numbers, class Codes>
-Result<Progress> datetime_clock_column_with_errors(std::string_view text, Numbers &out, Codes &errors,
-                                                   const Config &config = {}, const ColumnConfig &column = {}) {
-    return detail::column([&](auto *progress) {
-        return speedate_datetime_clock_column_with_errors(text.data(), text.size(), config.c(), column.c(), std::data(out),
-                                                          std::size(out), std::data(errors), std::size(errors), progress);
-    });
-}
-template <class Numbers, class Codes>
-Result<Progress> datetime_offset_column_with_errors(std::string_view text, Numbers &out, Codes &errors,
-                                                    const Config &config = {}, const ColumnConfig &column = {}) {
-    return detail::column([&](auto *progress) {
-        return speedate_datetime_offset_column_with_errors(text.data(), text.size(), config.c(), column.c(), std::data(out),
-                                                           std::size(out), std::data(errors), std::size(errors), progress);
-    });
-}
-template <class Numbers, class Codes>
-Result<Progress> time_column_with_errors(std::string_view text, Numbers &out, Codes &errors,
+Result<Progress> date_column_with_errors(std::string_view text, Numbers &&out, Codes &&errors,
                                          const Config &config = {}, const ColumnConfig &column = {}) {
-    return detail::column([&](auto *progress) {
-        return speedate_time_column_with_errors(text.data(), text.size(), config.c(), column.c(), std::data(out),
-                                                std::size(out), std::data(errors), std::size(errors), progress);
-    });
+    return detail::column(speedate_date_column, text, out, errors, config, column);
+}
+template <class Numbers>
+Result<Progress> datetime_column(std::string_view text, Numbers &&out, const Config &config = {},
+                                 const ColumnConfig &column = {}) {
+    return detail::column(speedate_datetime_column, text, out, config, column);
 }
 template <class Numbers, class Codes>
-Result<Progress> time_offset_column_with_errors(std::string_view text, Numbers &out, Codes &errors,
-                                                const Config &config = {}, const ColumnConfig &column = {}) {
-    return detail::column([&](auto *progress) {
-        return speedate_time_offset_column_with_errors(text.data(), text.size(), config.c(), column.c(), std::data(out),
-                                                       std::size(out), std::data(errors), std::size(errors), progress);
-    });
-}
-template <class Numbers, class Codes>
-Result<Progress> duration_column_with_errors(std::string_view text, Numbers &out, Codes &errors,
+Result<Progress> datetime_column_with_errors(std::string_view text, Numbers &&out, Codes &&errors,
                                              const Config &config = {}, const ColumnConfig &column = {}) {
-    return detail::column([&](auto *progress) {
-        return speedate_duration_column_with_errors(text.data(), text.size(), config.c(), column.c(), std::data(out),
-                                                    std::size(out), std::data(errors), std::size(errors), progress);
-    });
+    return detail::column(speedate_datetime_column, text, out, errors, config, column);
+}
+template <class Numbers>
+Result<Progress> datetime_clock_column(std::string_view text, Numbers &&out, const Config &config = {},
+                                       const ColumnConfig &column = {}) {
+    return detail::column(speedate_datetime_clock_column, text, out, config, column);
+}
+template <class Numbers, class Codes>
+Result<Progress> datetime_clock_column_with_errors(std::string_view text, Numbers &&out, Codes &&errors,
+                                                   const Config &config = {}, const ColumnConfig &column = {}) {
+    return detail::column(speedate_datetime_clock_column, text, out, errors, config, column);
+}
+template <class Numbers>
+Result<Progress> datetime_offset_column(std::string_view text, Numbers &&out, const Config &config = {},
+                                        const ColumnConfig &column = {}) {
+    return detail::column(speedate_datetime_offset_column, text, out, config, column);
+}
+template <class Numbers, class Codes>
+Result<Progress> datetime_offset_column_with_errors(std::string_view text, Numbers &&out, Codes &&errors,
+                                                    const Config &config = {}, const ColumnConfig &column = {}) {
+    return detail::column(speedate_datetime_offset_column, text, out, errors, config, column);
+}
+template <class Numbers>
+Result<Progress> time_column(std::string_view text, Numbers &&out, const Config &config = {},
+                             const ColumnConfig &column = {}) {
+    return detail::column(speedate_time_column, text, out, config, column);
+}
+template <class Numbers, class Codes>
+Result<Progress> time_column_with_errors(std::string_view text, Numbers &&out, Codes &&errors,
+                                         const Config &config = {}, const ColumnConfig &column = {}) {
+    return detail::column(speedate_time_column, text, out, errors, config, column);
+}
+template <class Numbers>
+Result<Progress> time_offset_column(std::string_view text, Numbers &&out, const Config &config = {},
+                                    const ColumnConfig &column = {}) {
+    return detail::column(speedate_time_offset_column, text, out, config, column);
+}
+template <class Numbers, class Codes>
+Result<Progress> time_offset_column_with_errors(std::string_view text, Numbers &&out, Codes &&errors,
+                                                const Config &config = {}, const ColumnConfig &column = {}) {
+    return detail::column(speedate_time_offset_column, text, out, errors, config, column);
+}
+template <class Numbers>
+Result<Progress> duration_column(std::string_view text, Numbers &&out, const Config &config = {},
+                                 const ColumnConfig &column = {}) {
+    return detail::column(speedate_duration_column, text, out, config, column);
+}
+template <class Numbers, class Codes>
+Result<Progress> duration_column_with_errors(std::string_view text, Numbers &&out, Codes &&errors,
+                                             const Config &config = {}, const ColumnConfig &column = {}) {
+    return detail::column(speedate_duration_column, text, out, errors, config, column);
 }
 
 /* ---- Numbers and versions ---- */
-
-/* The number that a timestamp has in a column of date-times. */
-inline Result<std::int64_t> timestamp_microseconds(std::int64_t timestamp, const Config &config = {}) {
-    return detail::number<std::int64_t>(
-        [&](auto *out) { return speedate_timestamp_microseconds(timestamp, config.c(), out); });
-}
 
 /* The whole number of a text. */
 inline Result<std::int64_t> int_parse(std::string_view text) {
     return detail::number<std::int64_t>([&](auto *out) { return speedate_int_parse(text.data(), text.size(), out); });
 }
 
-/* The version and the minor version of the library that is called. */
+/* The SPEEDATE_VERSION_NUMBER of the library that is called. */
 inline int version() noexcept { return speedate_version(); }
-inline int version_minor() noexcept { return speedate_version_minor(); }
 
 } // namespace speedate
 

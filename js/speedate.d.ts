@@ -39,6 +39,8 @@ export class SpeedateError extends RangeError {
   /** Where in the text the fault lies, as a Refusal has it; of a line of a column in bytes. */ readonly place?: number;
   /** Where the part ends that begins there, as a Refusal has it. */ readonly end?: number;
   /** Of a line of a column its index, from 0. */ readonly index?: number;
+  /** The fields but the text, as a plain object. `structuredClone`, `postMessage` and loggers keep them, and of an error only the message. */
+  toJSON(): Reason & Partial<Part> & { readonly name: string; readonly index?: number };
 }
 /** The result of a `safe` call, which returns a refusal where another throws it. */
 export type Answer<Value> = { readonly ok: true; readonly value: Value } | Refusal;
@@ -126,7 +128,12 @@ export function schema(kind: "duration", options?: DurationOptions): Schema<Spee
 export type LineRefusal = { readonly index: number } & Reason;
 /** What happens to lines that are refused. Without a list the first one is thrown, as a SpeedateError with its index. With one each
  * is appended to it, and has in the column the number that is no other line's. */
-export type ColumnOptions = { refusals?: LineRefusal[] };
+export type ColumnOptions = {
+  refusals?: LineRefusal[];
+  /** How many bytes of a line are kept until its end comes; any number, if this is left out. With one more the call throws a
+   * RangeError, whose `name` is `LineTooLong`, with the `index` of the line. */
+  maxLineBytes?: number;
+};
 export type DateColumnOptions = TimestampOptions & ColumnOptions;
 export type DateTimeColumnOptions = DateTimeOptions & ColumnOptions;
 /** The offset of a timestamp moves no clock. */
@@ -147,17 +154,20 @@ export function dateColumn(text: Text, options?: DateColumnOptions): Int32Array;
  * negative and have a fraction. */
 export function dateTimeColumn(text: Text, options?: DateTimeColumnOptions & { unit?: "ms" }): Float64Array;
 export function dateTimeColumn(text: Text, options: DateTimeColumnOptions & { unit: "us" }): BigInt64Array;
+export function dateTimeColumn(text: Text, options: DateTimeColumnOptions & { unit?: "ms" | "us" }): Float64Array | BigInt64Array;
 /** The milliseconds from 1970-01-01T00:00 that the clock of each date-time shows, whatever its offset, with a fraction for
  * microseconds, and NaN of a line that is refused: 3600000 of `1970-01-01T01:00+02:00`. If `unit` is `us`, the microseconds, and
  * -(2n ** 63n) of a line that is refused. With the offset it is the date-time as it stands, where `dateTimeColumn` gives the instant. */
 export function dateTimeClockColumn(text: Text, options?: DateTimePartColumnOptions & { unit?: "ms" }): Float64Array;
 export function dateTimeClockColumn(text: Text, options: DateTimePartColumnOptions & { unit: "us" }): BigInt64Array;
+export function dateTimeClockColumn(text: Text, options: DateTimePartColumnOptions & { unit?: "ms" | "us" }): Float64Array | BigInt64Array;
 /** The seconds of the offset of each date-time: 7200 of `1970-01-01T01:00+02:00`, and -2147483648 of a line that is refused, as one
  * without an offset is. A timestamp has `timestampOffset`. */
 export function dateTimeOffsetColumn(text: Text, options?: DateTimePartColumnOptions): Int32Array;
 /** The milliseconds after midnight that the clock of each time shows, as `dateTimeClockColumn` gives those of date-times. */
 export function timeColumn(text: Text, options?: TimeColumnOptions & { unit?: "ms" }): Float64Array;
 export function timeColumn(text: Text, options: TimeColumnOptions & { unit: "us" }): BigInt64Array;
+export function timeColumn(text: Text, options: TimeColumnOptions & { unit?: "ms" | "us" }): Float64Array | BigInt64Array;
 /** The seconds of the offset of each time, as `dateTimeOffsetColumn` gives those of date-times. */
 export function timeOffsetColumn(text: Text, options?: TimeColumnOptions): Int32Array;
 /** Reads a column of dates in pieces. */
@@ -165,12 +175,15 @@ export function dateColumnReader(options?: DateColumnOptions): ColumnReader<Int3
 /** Reads a column of date-times in pieces. */
 export function dateTimeColumnReader(options?: DateTimeColumnOptions & { unit?: "ms" }): ColumnReader<Float64Array>;
 export function dateTimeColumnReader(options: DateTimeColumnOptions & { unit: "us" }): ColumnReader<BigInt64Array>;
+export function dateTimeColumnReader(options: DateTimeColumnOptions & { unit?: "ms" | "us" }): ColumnReader<Float64Array | BigInt64Array>;
 /** Read columns of what clocks show, and of offsets, in pieces. */
 export function dateTimeClockColumnReader(options?: DateTimePartColumnOptions & { unit?: "ms" }): ColumnReader<Float64Array>;
 export function dateTimeClockColumnReader(options: DateTimePartColumnOptions & { unit: "us" }): ColumnReader<BigInt64Array>;
+export function dateTimeClockColumnReader(options: DateTimePartColumnOptions & { unit?: "ms" | "us" }): ColumnReader<Float64Array | BigInt64Array>;
 export function dateTimeOffsetColumnReader(options?: DateTimePartColumnOptions): ColumnReader<Int32Array>;
 export function timeColumnReader(options?: TimeColumnOptions & { unit?: "ms" }): ColumnReader<Float64Array>;
 export function timeColumnReader(options: TimeColumnOptions & { unit: "us" }): ColumnReader<BigInt64Array>;
+export function timeColumnReader(options: TimeColumnOptions & { unit?: "ms" | "us" }): ColumnReader<Float64Array | BigInt64Array>;
 export function timeOffsetColumnReader(options?: TimeColumnOptions): ColumnReader<Int32Array>;
 
 /** The date of a timestamp: 1970-01-02 of 86400 seconds. `date_not_exact` where that is no midnight, unless `exact` is false;
@@ -199,8 +212,8 @@ export function compare(first: SpeedateDateTime, second: SpeedateDateTime): -1 |
 export function compare(first: SpeedateDuration, second: SpeedateDuration): -1 | 0 | 1;
 /** The date so many days later. `no_such_date` outside the years 0 to 9999. */
 export function addDays(date: SpeedateDate, days: number): SpeedateDate;
-/** The days from `earlier` to `date`, negative where `earlier` is the later one. */
-export function daysSince(date: SpeedateDate, earlier: SpeedateDate): number;
+/** The days from one date to the other, negative if `earlier` is the later one. */
+export function daysBetween(earlier: SpeedateDate, later: SpeedateDate): number;
 /** The day of the year, 1 to 366. */
 export function dayOfYear(date: SpeedateDate): number;
 /** The value `duration` after `start`, at the same offset. `date_not_exact` where a date would move by a part of a day;

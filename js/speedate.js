@@ -3,14 +3,16 @@
 
 /** The functions of speedate.h, a WebAssembly module, which other entries of the package take from elsewhere. */
 const ownModule = () => compiledOf(decoded("@MODULE@"));
-const NEEDED = "speedate needs WebAssembly with BigInt and bulk memory (Node 20, Chrome 115, Firefox 90, Safari 15) that a policy allows";
+const NEEDED = "speedate needs WebAssembly with BigInt and bulk memory (Node 20, Chrome 115, Firefox 90, Safari 15) that a policy allows: a content security policy has to have 'wasm-unsafe-eval'";
 
 /** Where what goes in and comes out stands in the memory, from the end of the module's own part. */
-const PLACE = { out: 0, taken: 16, config: 24, defaultConfig: 32, first: 40, second: 56, buffer: 72, part: 136, text: 152 };
+const PLACE = { out: 0, taken: 16, config: 24, defaultConfig: 32, first: 40, second: 56, buffer: 72, part: 136, text: 160 };
 const BUFFER_SIZE = BigInt(PLACE.part - PLACE.buffer);
 const PAGE_SIZE = 2 ** 16;
 /** A text of more bytes gets a library of its own, whose memory goes with it. */
 const MOST_KEPT = 2 ** 24;
+/** Of a part the place, the end and the kind of the call that refused the text. */
+const PART = { place: PLACE.part, end: PLACE.part + 8, kind: PLACE.part + 16 };
 /** The lines, and the bytes, of a column that a call gets at once. It gets a longer line whole. */
 const LINES_AT_ONCE = 2 ** 12;
 const BLOCK_SIZE = 2 ** 16;
@@ -26,7 +28,7 @@ const SECONDS_IN_DAY = 86400;
 const CODE = { tzRequired: 19, dateTooSmall: 38 };
 const MISSING = { error: 0, utc: 1 };
 /** The kinds of calls in C, on which it depends what is expected, by what a text of one may be. */
-const VALUES = 0;
+const NONE = 0;
 const KINDS = { date: { lax: 1, timestamps: 2 }, time: { lax: 3, strict: 4 }, dateTime: { lax: 5, timestamps: 6, strict: 7 }, duration: { lax: 8 } };
 const kindOf = (kinds, { timestamps, strict }) => (timestamps !== undefined ? kinds.timestamps : strict === 1 ? kinds.strict : kinds.lax);
 
@@ -44,6 +46,12 @@ export class SpeedateError extends RangeError {
     this.text = text;
     this.place = part.place;
     this.end = part.end;
+  }
+
+  toJSON() {
+    const { name, message, fault, code, expected, place, end, index } = this;
+    const all = Object.entries({ name, message, fault, code, expected, place, end, index });
+    return Object.fromEntries(all.filter(([, it]) => it !== undefined));
   }
 }
 
@@ -115,9 +123,10 @@ function told(call, ...numbers) {
 
 const faultOf = (code, kind) => faults[kind]?.[code] ?? newFault(code, kind);
 function newFault(code, kind) {
+  kept.view.setInt32(PART.kind, kind, true);
   const it = {
     fault: told(calls.speedate_code_name, code), code, message: told(calls.speedate_code_documentation, code),
-    expected: told(calls.speedate_code_expected, code, kind),
+    expected: told(calls.speedate_code_expected, code, address.part),
   };
   (faults[kind] ??= [])[code] = it;
   return it;
@@ -125,7 +134,7 @@ function newFault(code, kind) {
 
 /** Throws if this is the code of a call that refused. */
 function accept(code) {
-  if (code !== 0) throw new SpeedateError(faultOf(code, VALUES));
+  if (code !== 0) throw new SpeedateError(faultOf(code, NONE));
 }
 
 /** The size that a call has written: of its 64 bits a memory needs 32. */
@@ -148,7 +157,14 @@ function printed() {
 
 // ---- Texts, numbers and options ----
 
-const encoder = new TextEncoder();
+/** The bytes of a string. Jest's jsdom has no TextEncoder; half a pair becomes U+FFFD without one too. */
+let encoder;
+function encoded(text) {
+  if (typeof TextEncoder !== "undefined") return (encoder ??= new TextEncoder()).encode(text);
+  const escaped = encodeURIComponent(text.replace(/\p{Cs}/gu, "\ufffd"));
+  const units = escaped.replace(/%(..)/g, (_, byte) => String.fromCharCode(parseInt(byte, 16)));
+  return Uint8Array.from(units, (it) => it.charCodeAt(0));
+}
 const getterOf = (name) => Object.getOwnPropertyDescriptor(Object.getPrototypeOf(Uint8Array.prototype), name).get;
 const typeName = getterOf(Symbol.toStringTag);
 const byteCount = getterOf("length");
@@ -156,7 +172,7 @@ const byteOffset = getterOf("byteOffset");
 const bufferOf = getterOf("buffer");
 
 function bytesOf(text) {
-  const bytes = typeof text === "string" ? encoder.encode(text) : text;
+  const bytes = typeof text === "string" ? encoded(text) : text;
   if (typeName.call(bytes) !== "Uint8Array") throw new TypeError("text has to be a string or a Uint8Array");
   return bytes;
 }
@@ -232,7 +248,7 @@ const CHOICES = {
 /** No options as numbers. All names are its own: a prototype may have them too. */
 const noNumbers = () => ({
   timestamps: undefined, timestampOffset: undefined, overflow: undefined, isoOrder: undefined, strict: undefined, exact: undefined,
-  missingOffset: undefined, unit: undefined, refusals: undefined,
+  missingOffset: undefined, unit: undefined, refusals: undefined, maxLineBytes: undefined,
 });
 const NO_OPTIONS = noNumbers();
 
@@ -245,6 +261,11 @@ function choiceOf(value, choices, name) {
 function offsetOption(value) {
   if (Number.isInteger(value) && Math.abs(value) < SECONDS_IN_DAY) return value;
   throw new TypeError("timestampOffset has to be an integer, less than 86400 either way");
+}
+
+function sizeOption(value) {
+  if (Number.isInteger(value) && value >= 0) return value;
+  throw new TypeError("maxLineBytes has to be an integer, and not negative");
 }
 
 function listOption(value) {
@@ -260,6 +281,7 @@ function isPlain(it) {
 function optionOf(value, name) {
   if (name === "timestampOffset") return offsetOption(value);
   if (name === "refusals") return listOption(value);
+  if (name === "maxLineBytes") return sizeOption(value);
   return choiceOf(value, CHOICES[name], name);
 }
 
@@ -431,9 +453,20 @@ const JUST = { date: [DATE], dateTime: [DATE_TIME], duration: [DURATION] };
 /** A value of one of these kinds as it was given: its kind, and its fields, whose names mostly come in their order. */
 function given(value, name, kinds) {
   start();
-  const names = Object(value) === value ? Object.getOwnPropertyNames(value) : [];
-  for (const kind of kinds) if (areFields(names, kind.fields) && Object.getOwnPropertySymbols(value).length === 0) return kind.look(value);
-  throw new TypeError(`${name} has to be a ${kinds.map((it) => it.name).join(" or ")} with just its fields`);
+  const names = Object(value) === value ? Object.keys(value) : [];
+  for (const kind of kinds) if (areFields(names, kind.fields)) return kind.look(value);
+  throw new TypeError(`${name} has to be a ${kinds.map((it) => it.name).join(" or ")} with just its fields${wrongFields(names, kinds)}`);
+}
+
+/** What is too many, or missing, in the fields of the kind that they fit best. */
+function wrongFields(names, kinds) {
+  const missingIn = ({ fields }) => fields.filter((it) => !names.includes(it));
+  const extraIn = ({ fields }) => names.filter((it) => !fields.includes(it));
+  const wrongIn = (kind) => missingIn(kind).length + extraIn(kind).length;
+  const nearest = kinds.reduce((best, it) => (wrongIn(it) < wrongIn(best) ? it : best));
+  if (missingIn(nearest).length === nearest.fields.length) return "";
+  const said = [["without", missingIn(nearest)], ["and not", extraIn(nearest)]].filter(([, all]) => all.length > 0);
+  return `: it is a ${nearest.name} ${said.map(([word, all]) => `${word} ${all.join(", ")}`).join(" ")}`;
 }
 
 function areFields(names, fields) {
@@ -471,16 +504,16 @@ function check(it, place) {
 
 const OPTIONS_OF = {
   date: ["timestamps"], time: ["strict", "overflow"], dateTime: ["strict", "timestamps", "timestampOffset", "overflow", "missingOffset"],
-  duration: ["overflow", "isoOrder"], dateFront: [], front: ["overflow"], dateColumn: ["timestamps", "refusals"],
-  dateTimeColumn: ["strict", "timestamps", "timestampOffset", "overflow", "missingOffset", "unit", "refusals"],
-  dateTimeClockColumn: ["strict", "timestamps", "timestampOffset", "overflow", "unit", "refusals"],
-  dateTimeOffsetColumn: ["strict", "timestamps", "timestampOffset", "overflow", "refusals"],
-  timeColumn: ["strict", "overflow", "unit", "refusals"], timeOffsetColumn: ["strict", "overflow", "refusals"],
+  duration: ["overflow", "isoOrder"], dateFront: [], front: ["overflow"], dateColumn: ["timestamps", "refusals", "maxLineBytes"],
+  dateTimeColumn: ["strict", "timestamps", "timestampOffset", "overflow", "missingOffset", "unit", "refusals", "maxLineBytes"],
+  dateTimeClockColumn: ["strict", "timestamps", "timestampOffset", "overflow", "unit", "refusals", "maxLineBytes"],
+  dateTimeOffsetColumn: ["strict", "timestamps", "timestampOffset", "overflow", "refusals", "maxLineBytes"],
+  timeColumn: ["strict", "overflow", "unit", "refusals", "maxLineBytes"], timeOffsetColumn: ["strict", "overflow", "refusals", "maxLineBytes"],
 };
 
 // Each writes the value, or the part for which the text is refused. A line of a column is a text too, at another address.
 function callDate(library, size, it, text = address.text) {
-  const { speedate_date_parse_or_part: all, speedate_date_parse_or_part_rfc3339: lax } = library.calls;
+  const { speedate_date_parse_or_part: all, speedate_date_parse_or_part_text: lax } = library.calls;
   if (it.timestamps === undefined) return lax(text, size, address.out, address.part);
   return all(text, size, putConfig(library, it), address.out, address.part);
 }
@@ -490,18 +523,19 @@ function callTime(library, size, it, text = address.text) {
 }
 function callDateTime(library, size, it, text = address.text) {
   const { calls: inC } = library;
-  const lax = it.strict === 1 ? inC.speedate_datetime_parse_or_part_strict : inC.speedate_datetime_parse_or_part_rfc3339;
+  const lax = it.strict === 1 ? inC.speedate_datetime_parse_or_part_strict : inC.speedate_datetime_parse_or_part_text;
   const parse = it.timestamps !== undefined ? inC.speedate_datetime_parse_or_part : lax;
   const code = parse(text, size, putConfig(library, it), address.out, address.part);
   return code === 0 && it.missingOffset !== undefined ? withOffset(library, size, it) : code;
 }
 /** The code of a date-time that was read. Without an offset it gets that of UTC, or is refused, at its end. */
-function withOffset({ view }, size, { missingOffset }) {
+function withOffset({ view }, size, numbers) {
   const at = PLACE.out + 4;
   if (offsetOf(view, at) !== null) return 0;
-  if (missingOffset === MISSING.error) {
-    view.setBigUint64(PLACE.part, size, true);
-    view.setBigUint64(PLACE.part + 8, size, true);
+  if (numbers.missingOffset === MISSING.error) {
+    view.setBigUint64(PART.place, size, true);
+    view.setBigUint64(PART.end, size, true);
+    view.setInt32(PART.kind, kindOf(KINDS.dateTime, numbers), true);
     return CODE.tzRequired;
   }
   view.setUint8(at + 3, 1);
@@ -517,33 +551,30 @@ const callTimeFront = (library, size, it) =>
 const callDateTimeFront = (library, size, it) =>
   library.calls.speedate_datetime_parse_or_part_front(address.text, size, putConfig(library, it), address.out, address.taken, address.part);
 
-/** The numbers of the options of the last text for which there were any. */
-let lastNumbers;
-
 // Options come first, since their getters may call this too.
 function codeOfDate(text, options) {
   const size = options === undefined ? putShort(text) : undefined;
-  if (size !== undefined) return calls.speedate_date_parse_or_part_rfc3339(address.text, size, address.out, address.part);
-  return read(text, false, lastNumbers = numbersOf(options, OPTIONS_OF.date), callDate);
+  if (size !== undefined) return calls.speedate_date_parse_or_part_text(address.text, size, address.out, address.part);
+  return read(text, false, numbersOf(options, OPTIONS_OF.date), callDate);
 }
 function codeOfTime(text, options) {
   const size = options === undefined ? putShort(text) : undefined;
   if (size !== undefined) return calls.speedate_time_parse_or_part(address.text, size, address.defaultConfig, address.out, address.part);
-  return read(text, false, lastNumbers = numbersOf(options, OPTIONS_OF.time), callTime);
+  return read(text, false, numbersOf(options, OPTIONS_OF.time), callTime);
 }
 function codeOfDateTime(text, options) {
   const size = options === undefined ? putShort(text) : undefined;
-  if (size !== undefined) return calls.speedate_datetime_parse_or_part_rfc3339(address.text, size, address.defaultConfig, address.out, address.part);
-  return read(text, false, lastNumbers = numbersOf(options, OPTIONS_OF.dateTime), callDateTime);
+  if (size !== undefined) return calls.speedate_datetime_parse_or_part_text(address.text, size, address.defaultConfig, address.out, address.part);
+  return read(text, false, numbersOf(options, OPTIONS_OF.dateTime), callDateTime);
 }
 function codeOfDuration(text, options) {
   const size = options === undefined ? putShort(text) : undefined;
   if (size !== undefined) return calls.speedate_duration_parse_or_part(address.text, size, address.defaultConfig, address.out, address.part);
-  return read(text, false, lastNumbers = numbersOf(options, OPTIONS_OF.duration), callDuration);
+  return read(text, false, numbersOf(options, OPTIONS_OF.duration), callDuration);
 }
-const codeOfDateFront = (text, options) => read(frontOf(text), true, lastNumbers = numbersOf(options, OPTIONS_OF.dateFront), callDateFront);
-const codeOfTimeFront = (text, options) => read(frontOf(text), true, lastNumbers = numbersOf(options, OPTIONS_OF.front), callTimeFront);
-const codeOfDateTimeFront = (text, options) => read(frontOf(text), true, lastNumbers = numbersOf(options, OPTIONS_OF.front), callDateTimeFront);
+const codeOfDateFront = (text, options) => read(frontOf(text), true, numbersOf(options, OPTIONS_OF.dateFront), callDateFront);
+const codeOfTimeFront = (text, options) => read(frontOf(text), true, numbersOf(options, OPTIONS_OF.front), callTimeFront);
+const codeOfDateTimeFront = (text, options) => read(frontOf(text), true, numbersOf(options, OPTIONS_OF.front), callDateTimeFront);
 
 /** What a reader of a front looks at in bytes. */
 const seenOf = (text) =>
@@ -551,25 +582,25 @@ const seenOf = (text) =>
 
 // Bytes may have been written to by the time that an error is looked at.
 const keptText = (text) => (typeof text === "string" ? text : new Uint8Array(text));
-/** The kind of the call that was made last. */
-const lastKind = (kinds, options) => (options === undefined ? kinds.lax : kindOf(kinds, lastNumbers));
+/** The fault of the text that was refused last. */
+const lastFault = (code) => faultOf(code, kept.view.getInt32(PART.kind, true));
 
 /** The answer to a text that a call has refused with this code. Of a text that is read at its front it has seen so much. */
-function refusal(code, seen, options, kinds) {
-  const { fault, message, expected } = faultOf(code, lastKind(kinds, options));
+function refusal(code, seen) {
+  const { fault, message, expected } = lastFault(code);
   const { place, end } = partOf(seen);
   return { ok: false, fault, code, message, expected, place, end };
 }
 /** The error. */
-function errorOf(code, text, options, kinds, seen = text) {
-  return new SpeedateError(faultOf(code, lastKind(kinds, options)), keptText(text), partOf(seen));
+function errorOf(code, text, seen = text) {
+  return new SpeedateError(lastFault(code), keptText(text), partOf(seen));
 }
 
 /** The part for which the text was refused that was read last: in units of a string, otherwise in bytes. */
 function partOf(text) {
   const { view } = kept;
-  const place = view.getUint32(PLACE.part, true);
-  const end = view.getUint32(PLACE.part + 8, true);
+  const place = view.getUint32(PART.place, true);
+  const end = view.getUint32(PART.end, true);
   if (typeof text !== "string" || text.length === lastSize) return { place, end };
   return { place: unitsBefore(text, place), end: end === lastSize ? text.length : unitsBefore(text, end) };
 }
@@ -587,39 +618,39 @@ function unitsBefore(text, size) {
 
 export function parseDate(text, options) {
   const code = codeOfDate(text, options);
-  if (code !== 0) throw errorOf(code, text, options, KINDS.date);
+  if (code !== 0) throw errorOf(code, text);
   return DATE.read(kept);
 }
 export function parseTime(text, options) {
   const code = codeOfTime(text, options);
-  if (code !== 0) throw errorOf(code, text, options, KINDS.time);
+  if (code !== 0) throw errorOf(code, text);
   return TIME.read(kept);
 }
 export function parseDateTime(text, options) {
   const code = codeOfDateTime(text, options);
-  if (code !== 0) throw errorOf(code, text, options, KINDS.dateTime);
+  if (code !== 0) throw errorOf(code, text);
   return DATE_TIME.read(kept);
 }
 export function parseDuration(text, options) {
   const code = codeOfDuration(text, options);
-  if (code !== 0) throw errorOf(code, text, options, KINDS.duration);
+  if (code !== 0) throw errorOf(code, text);
   return DURATION.read(kept);
 }
 export function safeParseDate(text, options) {
   const code = codeOfDate(text, options);
-  return code === 0 ? { ok: true, value: DATE.read(kept) } : refusal(code, text, options, KINDS.date);
+  return code === 0 ? { ok: true, value: DATE.read(kept) } : refusal(code, text);
 }
 export function safeParseTime(text, options) {
   const code = codeOfTime(text, options);
-  return code === 0 ? { ok: true, value: TIME.read(kept) } : refusal(code, text, options, KINDS.time);
+  return code === 0 ? { ok: true, value: TIME.read(kept) } : refusal(code, text);
 }
 export function safeParseDateTime(text, options) {
   const code = codeOfDateTime(text, options);
-  return code === 0 ? { ok: true, value: DATE_TIME.read(kept) } : refusal(code, text, options, KINDS.dateTime);
+  return code === 0 ? { ok: true, value: DATE_TIME.read(kept) } : refusal(code, text);
 }
 export function safeParseDuration(text, options) {
   const code = codeOfDuration(text, options);
-  return code === 0 ? { ok: true, value: DURATION.read(kept) } : refusal(code, text, options, KINDS.duration);
+  return code === 0 ? { ok: true, value: DURATION.read(kept) } : refusal(code, text);
 }
 
 /** A value that was read at the front of a text, with its size. */
@@ -637,30 +668,30 @@ function unitsOf(text, size) {
 
 export function parseDateFront(text, options) {
   const code = codeOfDateFront(text, options);
-  if (code !== 0) throw errorOf(code, seenOf(text), options, KINDS.date, frontOf(text));
+  if (code !== 0) throw errorOf(code, seenOf(text), frontOf(text));
   return frontAnswer(DATE.read(kept), text);
 }
 export function parseTimeFront(text, options) {
   const code = codeOfTimeFront(text, options);
-  if (code !== 0) throw errorOf(code, seenOf(text), options, KINDS.time, frontOf(text));
+  if (code !== 0) throw errorOf(code, seenOf(text), frontOf(text));
   return frontAnswer(TIME.read(kept), text);
 }
 export function parseDateTimeFront(text, options) {
   const code = codeOfDateTimeFront(text, options);
-  if (code !== 0) throw errorOf(code, seenOf(text), options, KINDS.dateTime, frontOf(text));
+  if (code !== 0) throw errorOf(code, seenOf(text), frontOf(text));
   return frontAnswer(DATE_TIME.read(kept), text);
 }
 export function safeParseDateFront(text, options) {
   const code = codeOfDateFront(text, options);
-  return code === 0 ? { ok: true, value: frontAnswer(DATE.read(kept), text) } : refusal(code, frontOf(text), options, KINDS.date);
+  return code === 0 ? { ok: true, value: frontAnswer(DATE.read(kept), text) } : refusal(code, frontOf(text));
 }
 export function safeParseTimeFront(text, options) {
   const code = codeOfTimeFront(text, options);
-  return code === 0 ? { ok: true, value: frontAnswer(TIME.read(kept), text) } : refusal(code, frontOf(text), options, KINDS.time);
+  return code === 0 ? { ok: true, value: frontAnswer(TIME.read(kept), text) } : refusal(code, frontOf(text));
 }
 export function safeParseDateTimeFront(text, options) {
   const code = codeOfDateTimeFront(text, options);
-  return code === 0 ? { ok: true, value: frontAnswer(DATE_TIME.read(kept), text) } : refusal(code, frontOf(text), options, KINDS.dateTime);
+  return code === 0 ? { ok: true, value: frontAnswer(DATE_TIME.read(kept), text) } : refusal(code, frontOf(text));
 }
 
 // ---- Schemas ----
@@ -702,10 +733,36 @@ const INTEGERS = { Numbers: Int32Array, numberAt: (view, at) => view.getInt32(at
 const MILLISECONDS = { Numbers: Float64Array, numberAt: millisecondsAt };
 const MICROSECONDS = { Numbers: BigInt64Array, numberAt: (view, at) => view.getBigInt64(at, true) };
 
-/** A column of which pieces come: how it is read, and a line of it alone, of which kind, how many lines it had, and what it has
- * of an unfinished one. */
+/** A column of which pieces come: how it is read, and a line of it alone, of which kind, how many lines it had, what it has of an
+ * unfinished one, as so many bytes of an array, and half a pair that ended a string. */
 const columnOf = (name, callLine, kinds, handedOut, numbers) =>
-  ({ name, callLine, kind: kindOf(kinds, numbers), ...handedOut, numbers, lines: 0, unfinished: [], hasEnded: false });
+  ({ name, callLine, kind: kindOf(kinds, numbers), ...handedOut, numbers, lines: 0, unfinished: new Uint8Array(0), size: 0, half: "", hasEnded: false });
+
+/** Adds bytes to what is unfinished. The array doubles, so that many small pieces take no more room than a large one. */
+function addUnfinished(column, bytes) {
+  const size = column.size + bytes.length;
+  if (size > column.unfinished.length) {
+    const larger = new Uint8Array(Math.max(size, 2 * column.unfinished.length));
+    larger.set(column.unfinished.subarray(0, column.size));
+    column.unfinished = larger;
+  }
+  column.unfinished.set(bytes, column.size);
+  column.size = size;
+}
+
+/** The bytes of a piece. Half a pair at the end of a string waits for the other half. */
+function bytesOfPiece(column, text, isEnd) {
+  if (typeof text !== "string") {
+    const it = bytesOf(text);
+    if (column.half !== "") addUnfinished(column, encoded(column.half));
+    column.half = "";
+    return new Uint8Array(bufferOf.call(it), byteOffset.call(it), byteCount.call(it));
+  }
+  const whole = column.half + text;
+  const size = isEnd || !/[\ud800-\udbff]$/.test(whole) ? whole.length : whole.length - 1;
+  column.half = whole.slice(size);
+  return encoded(whole.slice(0, size));
+}
 
 /** Writes how a column is read into the memory of a library, and gives its address: returns are dropped, and a refused line ends it. */
 function putColumnConfig({ start, view }, { timestamps, strict, missingOffset = MISSING.error }, isEnd) {
@@ -718,17 +775,12 @@ function putColumnConfig({ start, view }, { timestamps, strict, missingOffset = 
 }
 
 /** Puts what is unfinished into the memory of a library, and gives that library, and the place where the text ends. */
-function putUnfinished({ unfinished }) {
-  const size = unfinished.reduce((sum, it) => sum + it.length, 0);
+function putUnfinished({ unfinished, size }) {
   const needed = COLUMN.text - PLACE.text + size;
   const library = size > MOST_KEPT ? new Library(needed) : kept;
   library.reserve(needed);
-  let end = COLUMN.text;
-  for (const it of unfinished) {
-    library.bytes.set(it, end);
-    end += it.length;
-  }
-  return { library, end };
+  library.bytes.set(unfinished.subarray(0, size), COLUMN.text);
+  return { library, end: COLUMN.text + size };
 }
 
 /** Has the library read what is unfinished, and keeps of it what follows its lines. Adds to the parts arrays of numbers, and to
@@ -739,10 +791,10 @@ function readLines(column, isEnd, parts, refusals) {
   const { bytes, view, calls: inC } = library;
   const addressOf = (place) => BigInt(library.start + place);
   const hasErrors = numbers.refusals !== undefined;
-  const call = inC[`speedate_${name}${hasErrors ? "_with_errors" : ""}`];
+  const call = inC[`speedate_${name}`];
   const configs = [putConfig(library, numbers), putColumnConfig(library, numbers, isEnd)];
   const room = BigInt(LINES_AT_ONCE);
-  const errors = hasErrors ? [addressOf(COLUMN.errors), room] : [];
+  const errors = hasErrors ? [addressOf(COLUMN.errors), room] : [0n, 0n];
   const out = [addressOf(COLUMN.numbers), room, ...errors, addressOf(COLUMN.progress)];
   let at = COLUMN.text;
   let lines;
@@ -760,7 +812,8 @@ function readLines(column, isEnd, parts, refusals) {
     column.lines += lines;
     at = next;
   } while (lines === LINES_AT_ONCE);
-  column.unfinished = [bytes.slice(at, end)];
+  column.unfinished.set(bytes.subarray(at, end));
+  column.size = end - at;
 }
 
 function numbersIn(view, lines, { Numbers, numberAt }) {
@@ -784,26 +837,33 @@ function partOfLine(library, at, textEnd, { callLine, numbers }) {
   const end = feed < 0 ? textEnd : at + feed;
   const size = (end > at && bytes[end - 1] === CARRIAGE_RETURN ? end - 1 : end) - at;
   if (callLine(library, BigInt(size), numbers, BigInt(library.start + at)) === 0) return { place: size, end: size };
-  return { place: view.getUint32(PLACE.part, true), end: view.getUint32(PLACE.part + 8, true) };
+  return { place: view.getUint32(PART.place, true), end: view.getUint32(PART.end, true) };
 }
 
 /** The numbers of the lines that a piece ends. A column whose piece was refused has ended. */
 function readPiece(column, text, isEnd) {
-  const it = bytesOf(text);
-  const bytes = new Uint8Array(bufferOf.call(it), byteOffset.call(it), byteCount.call(it));
+  if (typeof text !== "string") bytesOf(text);
   if (column.hasEnded) throw new TypeError("the column has ended");
   column.hasEnded = true;
+  const bytes = bytesOfPiece(column, text, isEnd);
   const [parts, refusals] = [[], []];
   for (let from = 0; from < bytes.length; from += BLOCK_SIZE) {
-    const block = bytes.slice(from, from + BLOCK_SIZE);
-    column.unfinished.push(block);
-    // A line may be as long as it likes: what cannot end one is not read, again and again, with all that came before.
-    if (block.includes(LINE_FEED)) readLines(column, false, parts, refusals);
+    const before = column.size;
+    addUnfinished(column, bytes.subarray(from, from + BLOCK_SIZE));
+    // What cannot end a line is not read, again and again, with all that came before.
+    if (column.unfinished.subarray(before, column.size).includes(LINE_FEED)) readLines(column, false, parts, refusals);
+    checkUnfinished(column);
   }
   if (isEnd) readLines(column, true, parts, refusals);
   for (const it of refusals) column.numbers.refusals.push(it);
   column.hasEnded = isEnd;
   return concatenated(parts, column.Numbers);
+}
+
+/** Throws if more is kept of an unfinished line than may be. */
+function checkUnfinished({ size, lines, numbers: { maxLineBytes = Infinity } }) {
+  if (size <= maxLineBytes) return;
+  throw Object.assign(new RangeError(`line ${lines} has more than ${maxLineBytes} bytes`), { name: "LineTooLong", index: lines });
 }
 
 function concatenated(parts, Numbers) {
@@ -908,7 +968,7 @@ export function timeFromTimestamp(timestamp, unit, options) {
 
 export function epochMilliseconds(value) {
   const it = given(value, "value", JUST.dateTime);
-  acceptOf(calls.speedate_datetime_timestamp_tz_ms(putFirst(it), address.out), it);
+  acceptOf(calls.speedate_datetime_unix_milliseconds(putFirst(it), address.out), it);
   if (it.offsetSeconds === null) accept(CODE.tzRequired);
   return int64Out();
 }
@@ -947,10 +1007,10 @@ export function addDays(date, days) {
   return DATE.read(kept);
 }
 
-export function daysSince(date, earlier) {
-  const one = given(date, "date", JUST.date);
-  const other = given(earlier, "earlier", JUST.date);
-  acceptOf(calls.speedate_date_days_since(putFirst(one), putSecond(other), address.out), one, other);
+export function daysBetween(earlier, later) {
+  const one = given(earlier, "earlier", JUST.date);
+  const other = given(later, "later", JUST.date);
+  acceptOf(calls.speedate_date_days_between(putFirst(one), putSecond(other), address.out), one, other);
   return int32Out();
 }
 

@@ -8,7 +8,7 @@ use std::process::Command;
 use std::slice;
 
 /// The version of `speedate.h` that `src/ffi.rs` calls, and the first minor version that has its calls.
-const VERSION: u32 = 1;
+const VERSION_MAJOR: u32 = 1;
 const VERSION_MINOR: u32 = 0;
 
 fn main() {
@@ -116,10 +116,10 @@ impl Installed {
         }
         let path = self.headers.join("speedate.h");
         let header = read(&path).ok_or_else(|| format!("there is no {}; {made_by}", path.display()))?;
-        let numbers = ["SPEEDATE_VERSION", "SPEEDATE_VERSION_MINOR"].map(|name| number(&header, name));
-        if !matches!(numbers, [Some(VERSION), Some(VERSION_MINOR..)]) {
+        let numbers = ["SPEEDATE_VERSION_MAJOR", "SPEEDATE_VERSION_MINOR"].map(|name| number(&header, name));
+        if !matches!(numbers, [Some(VERSION_MAJOR), Some(VERSION_MINOR..)]) {
             let has = numbers.map(|it| it.map_or("?".to_owned(), |number| number.to_string())).join(".");
-            let needs = format!("version {VERSION}, from {VERSION}.{VERSION_MINOR} on");
+            let needs = format!("version {VERSION_MAJOR}, from {VERSION_MAJOR}.{VERSION_MINOR} on");
             return Err(format!("{} has version {has}, and the package needs {needs}; {made_by}", path.display()));
         }
         let manifest = env::var_os("CARGO_MANIFEST_DIR").expect("cargo sets CARGO_MANIFEST_DIR");

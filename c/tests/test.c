@@ -5,14 +5,14 @@
  * for a row of an empty one is an empty field.
  *
  * In the text of a column `\n` stands for a line feed, and `\r` for a carriage return. Its row has the configurations,
- * the room for numbers and for errors, and the text; then the numbers, the errors, how many lines and bytes they are,
- * and the name of the error that ends it.
+ * the room for numbers and, if there is any, for errors, and the text; then the numbers, the errors, how many lines and
+ * bytes they are, and the name of the error that ends it. A part is its place, its end and its kind.
  *
  * Each text is read from three places: a block of the heap of its very size, the end of a page after which none
  * can be read, and the beginning of one before which none can be; an empty one also from NULL. Each text is
  * printed into a buffer of its very size, at the end of such a page, and is refused by one that is a byte too small,
  * and by none. Each output stands before bytes that no call may touch, and a call that refuses may touch no output but
- * the place of its fault. */
+ * the part of the text. */
 #define _DEFAULT_SOURCE
 #include "speedate.h"
 
@@ -235,21 +235,7 @@ static void say_progress(SpeedateProgress it) {
         return 1;                                                                                                      \
     }
 
-/* A call that writes the place of a fault, and nothing where its code is no fault of a text. */
-#define WRITES_PLACE(CALL)                                                                                             \
-    {                                                                                                                  \
-        OUTPUT(size_t, place)                                                                                          \
-        int code = CALL;                                                                                               \
-        int is_fault = code >= SPEEDATE_TOO_SHORT && code <= SPEEDATE_LAST_FAULT;                                      \
-        say_code(code);                                                                                                \
-        if (!IS_KEPT(is_fault ? SPEEDATE_OK : SPEEDATE_CONFIG_OUT_OF_RANGE, place))                                    \
-            strcat(answer, " but wrote where it may not");                                                             \
-        if (is_fault)                                                                                                  \
-            say("|%lld", (long long)*place);                                                                           \
-        return 1;                                                                                                      \
-    }
-
-/* A call that writes a value, or the part for which a text is refused: the same as two calls, and where the part ends. */
+/* A call that writes a value, or the part for which a text is refused, and no part if none is. */
 #define WRITES_PART(TYPE, SAY, CALL)                                                                                   \
     {                                                                                                                  \
         OUTPUT(TYPE, out)                                                                                              \
@@ -260,39 +246,26 @@ static void say_progress(SpeedateProgress it) {
         int code = CALL;                                                                                               \
         int is_fault = code >= SPEEDATE_TOO_SHORT && code <= SPEEDATE_LAST_FAULT;                                      \
         int kept = IS_KEPT(code, out) && IS_KEPT(is_front ? code : SPEEDATE_VALUE_OUT_OF_RANGE, taken) &&              \
-                   IS_KEPT(is_fault ? SPEEDATE_OK : SPEEDATE_CONFIG_OUT_OF_RANGE, part);                               \
+                   IS_KEPT(SPEEDATE_OK, part);                                                                         \
         if (said(code, kept))                                                                                          \
             SAY(*out);                                                                                                 \
         if (is_front && code == SPEEDATE_OK)                                                                           \
             say("|%lld", (long long)*taken);                                                                           \
         if (is_fault) {                                                                                                \
             say("|%lld ", (long long)part->place);                                                                     \
-            say("%lld", (long long)part->end);                                                                         \
+            say("%lld ", (long long)part->end);                                                                        \
+            say("%lld", part->kind);                                                                                   \
             if (speedate_code_part_end(code, text, size, part->place, &end) != SPEEDATE_OK || end != part->end)        \
                 strcat(answer, " with another end");                                                                   \
+        } else if (part->place != 0 || part->end != 0 || part->kind != SPEEDATE_KIND_NONE) {                           \
+            strcat(answer, " with a part");                                                                            \
         }                                                                                                              \
         return 1;                                                                                                      \
     }
 
-/* Calls that read a column, without errors and with them. Without room there is no address either. */
+/* Calls that read a column, with errors if there is room for them. Without room there is no address either. */
 #define COLUMN(TYPE, NAME)                                                                                             \
     if (is_call(#NAME)) {                                                                                              \
-        SpeedateConfig it = config();                                                                                  \
-        SpeedateColumnConfig by = column_config();                                                                     \
-        size_t room = (size_t)number();                                                                                \
-        TYPE out[PLACES];                                                                                              \
-        OUTPUT(SpeedateProgress, progress)                                                                             \
-        memset(out, UNTOUCHED, sizeof out);                                                                            \
-        int code = speedate_##NAME(text, size, it, by, room ? out : NULL, room, progress);                             \
-        size_t lines = code == SPEEDATE_OK ? progress->lines : 0;                                                      \
-        int kept = lines <= room && is_untouched(out + lines, sizeof out - lines * sizeof *out);                       \
-        if (said(code, kept && IS_KEPT(code, progress))) {                                                             \
-            LIST(out, lines)                                                                                           \
-            say_progress(*progress);                                                                                   \
-        }                                                                                                              \
-        return 1;                                                                                                      \
-    }                                                                                                                  \
-    if (is_call(#NAME "_with_errors")) {                                                                               \
         SpeedateConfig it = config();                                                                                  \
         SpeedateColumnConfig by = column_config();                                                                     \
         long long rooms[2];                                                                                            \
@@ -303,14 +276,15 @@ static void say_progress(SpeedateProgress it) {
         OUTPUT(SpeedateProgress, progress)                                                                             \
         memset(out, UNTOUCHED, sizeof out);                                                                            \
         memset(errors, UNTOUCHED, sizeof errors);                                                                      \
-        int code = speedate_##NAME##_with_errors(text, size, it, by, room ? out : NULL, room,                          \
-                                                 error_room ? errors : NULL, error_room, progress);                    \
-        size_t lines = code == SPEEDATE_OK ? progress->lines : 0;                                                      \
+        int code = speedate_##NAME(text, size, it, by, room ? out : NULL, room, error_room ? errors : NULL,            \
+                                   error_room, progress);                                                              \
+        size_t lines = code == SPEEDATE_OK ? progress->lines : 0, written = error_room ? lines : 0;                    \
         int kept = lines <= room && is_untouched(out + lines, sizeof out - lines * sizeof *out);                       \
-        kept = kept && lines <= error_room && is_untouched(errors + lines, sizeof errors - lines);                     \
+        kept = kept && written <= error_room && is_untouched(errors + written, sizeof errors - written);               \
         if (said(code, kept && IS_KEPT(code, progress))) {                                                             \
             LIST(out, lines)                                                                                           \
-            LIST(errors, lines)                                                                                        \
+            if (error_room)                                                                                            \
+                LIST(errors, lines)                                                                                    \
             say_progress(*progress);                                                                                   \
         }                                                                                                              \
         return 1;                                                                                                      \
@@ -385,12 +359,6 @@ static int is_call(const char *name) {
         WRITES_FRONT(TYPE, SAY, speedate_##NAME(text, size, it, out, taken))                                           \
     }
 
-#define PLACE(NAME)                                                                                                    \
-    if (is_call(#NAME)) {                                                                                              \
-        SpeedateConfig it = config();                                                                                  \
-        WRITES_PLACE(speedate_##NAME(text, size, it, place))                                                           \
-    }
-
 #define PART(TYPE, SAY, NAME)                                                                                          \
     if (is_call(#NAME)) {                                                                                              \
         SpeedateConfig it = config();                                                                                  \
@@ -410,26 +378,15 @@ static int is_call(const char *name) {
         PRINTS(speedate_##NAME(it, buffer, size, length))                                                              \
     }
 
-/* A call that returns a number of the header. */
-#define VERSION(NAME, NUMBER)                                                                                          \
-    if (is_call(#NAME)) {                                                                                              \
-        strcpy(answer, speedate_##NAME() == NUMBER ? "ok" : "another one");                                            \
-        return 1;                                                                                                      \
-    }
-
 /* Calls of a text: the text is the row's last argument. */
 static int run_text(const char *text, size_t size) {
     field = 1;
-    if (is_call("date_parse_rfc3339"))
-        WRITES(SpeedateDate, say_date, speedate_date_parse_rfc3339(text, size, out))
+    if (is_call("date_parse_text"))
+        WRITES(SpeedateDate, say_date, speedate_date_parse_text(text, size, out))
     if (is_call("date_parse_front"))
         WRITES_FRONT(SpeedateDate, say_date, speedate_date_parse_front(text, size, out, taken))
-    if (is_call("date_error_place_rfc3339"))
-        WRITES_PLACE(speedate_date_error_place_rfc3339(text, size, place))
-    if (is_call("date_error_place_front"))
-        WRITES_PLACE(speedate_date_error_place_front(text, size, place))
-    if (is_call("date_parse_or_part_rfc3339"))
-        WRITES_PART(SpeedateDate, say_date, speedate_date_parse_or_part_rfc3339(text, size, out, part))
+    if (is_call("date_parse_or_part_text"))
+        WRITES_PART(SpeedateDate, say_date, speedate_date_parse_or_part_text(text, size, out, part))
     if (is_call("date_parse_or_part_front"))
         WRITES_PART(SpeedateDate, say_date, speedate_date_parse_or_part_front(text, size, out, taken, part))
     if (is_call("time_parse_or_part_front")) {
@@ -452,24 +409,15 @@ static int run_text(const char *text, size_t size) {
     PARSE(SpeedateTime, say_time, time_parse_strict)
     FRONT(SpeedateTime, say_time, time_parse_front)
     PARSE(SpeedateDateTime, say_datetime, datetime_parse)
-    PARSE(SpeedateDateTime, say_datetime, datetime_parse_rfc3339)
+    PARSE(SpeedateDateTime, say_datetime, datetime_parse_text)
     PARSE(SpeedateDateTime, say_datetime, datetime_parse_strict)
     FRONT(SpeedateDateTime, say_datetime, datetime_parse_front)
     PARSE(SpeedateDuration, say_duration, duration_parse)
-    PLACE(date_error_place)
-    PLACE(time_error_place)
-    PLACE(time_error_place_strict)
-    PLACE(time_error_place_front)
-    PLACE(datetime_error_place)
-    PLACE(datetime_error_place_rfc3339)
-    PLACE(datetime_error_place_strict)
-    PLACE(datetime_error_place_front)
-    PLACE(duration_error_place)
     PART(SpeedateDate, say_date, date_parse_or_part)
     PART(SpeedateTime, say_time, time_parse_or_part)
     PART(SpeedateTime, say_time, time_parse_or_part_strict)
     PART(SpeedateDateTime, say_datetime, datetime_parse_or_part)
-    PART(SpeedateDateTime, say_datetime, datetime_parse_or_part_rfc3339)
+    PART(SpeedateDateTime, say_datetime, datetime_parse_or_part_text)
     PART(SpeedateDateTime, say_datetime, datetime_parse_or_part_strict)
     PART(SpeedateDuration, say_duration, duration_parse_or_part)
     COLUMN(int64_t, datetime_column)
@@ -485,13 +433,16 @@ static int run_text(const char *text, size_t size) {
 /* Calls of values. */
 static int run_value(void) {
     field = 1;
-    VERSION(version, SPEEDATE_VERSION)
-    VERSION(version_minor, SPEEDATE_VERSION_MINOR)
+    if (is_call("version")) {
+        strcpy(answer, speedate_version() == SPEEDATE_VERSION_NUMBER ? "ok" : "another one");
+        return 1;
+    }
     PRINT(code_name, int, (int)number)
     PRINT(code_documentation, int, (int)number)
     if (is_call("code_expected")) {
-        int of = (int)number(), kind = (int)number();
-        PRINTS(speedate_code_expected(of, kind, buffer, size, length))
+        int of = (int)number();
+        SpeedatePart part = {SIZE_MAX, 1, (int32_t)number()};
+        PRINTS(speedate_code_expected(of, &part, buffer, size, length))
     }
     CHECK(date_check, SpeedateDate, date)
     PRINT(date_to_text, SpeedateDate, date)
@@ -508,7 +459,7 @@ static int run_value(void) {
     VALUE(SpeedateDate, say_date, date_from_day_number, uint32_t, (uint32_t)number)
     VALUE(uint16_t, say_number, date_ordinal_day, SpeedateDate, date)
     TWO_VALUES(SpeedateDate, say_date, date_add_days, SpeedateDate, date, int32_t, (int32_t)number)
-    TWO_VALUES(int32_t, say_number, date_days_since, SpeedateDate, date, SpeedateDate, date)
+    TWO_VALUES(int32_t, say_number, date_days_between, SpeedateDate, date, SpeedateDate, date)
     CHECK(time_check, SpeedateTime, time_value)
     PRINT(time_to_text, SpeedateTime, time_value)
     TWO_VALUES(int32_t, say_number, time_compare, SpeedateTime, time_value, SpeedateTime, time_value)
@@ -529,16 +480,16 @@ static int run_value(void) {
         SpeedateConfig it = config();
         WRITES(SpeedateDateTime, say_datetime, speedate_datetime_from_timestamp(timestamp, microsecond, it, out))
     }
-    if (is_call("timestamp_microseconds")) {
+    if (is_call("datetime_timestamp_microseconds")) {
         int64_t timestamp = number();
         SpeedateConfig it = config();
-        WRITES(int64_t, say_number, speedate_timestamp_microseconds(timestamp, it, out))
+        WRITES(int64_t, say_number, speedate_datetime_timestamp_microseconds(timestamp, it, out))
     }
-    VALUE(int64_t, say_number, datetime_timestamp, SpeedateDateTime, datetime)
-    VALUE(int64_t, say_number, datetime_timestamp_ms, SpeedateDateTime, datetime)
-    VALUE(int64_t, say_number, datetime_timestamp_tz, SpeedateDateTime, datetime)
-    VALUE(int64_t, say_number, datetime_timestamp_tz_ms, SpeedateDateTime, datetime)
-    VALUE(int64_t, say_number, datetime_timestamp_tz_us, SpeedateDateTime, datetime)
+    VALUE(int64_t, say_number, datetime_clock_seconds, SpeedateDateTime, datetime)
+    VALUE(int64_t, say_number, datetime_clock_milliseconds, SpeedateDateTime, datetime)
+    VALUE(int64_t, say_number, datetime_unix_seconds, SpeedateDateTime, datetime)
+    VALUE(int64_t, say_number, datetime_unix_milliseconds, SpeedateDateTime, datetime)
+    VALUE(int64_t, say_number, datetime_unix_microseconds, SpeedateDateTime, datetime)
     TWO_VALUES(SpeedateDateTime, say_datetime, datetime_in_timezone, SpeedateDateTime, datetime, int32_t, (int32_t)number)
     VALUE(SpeedateDuration, say_duration, duration_normalize, SpeedateDuration, duration)
     CHECK(duration_check, SpeedateDuration, duration)
@@ -584,27 +535,35 @@ static int cut(char *row) {
     return count;
 }
 
-/* A code has a name, which is its string too, a documentation text, and what is expected, by calls of each kind, for which
+/* A code has a name, which is its string too, a documentation text, and what is expected, by calls of each kind, except of success, for which
  * there is room. Another number has none, and a string of its own. */
 static void try_code(int code) {
     char name[SPEEDATE_CODE_TEXT_SIZE], text[SPEEDATE_CODE_TEXT_SIZE];
     size_t length = 0;
-    int is_one = (code >= SPEEDATE_TOO_SHORT && code <= SPEEDATE_LAST_FAULT) ||
+    int is_one = (code >= SPEEDATE_OK && code <= SPEEDATE_LAST_FAULT) ||
                  (code >= SPEEDATE_NUMBER_TOO_LARGE && code <= SPEEDATE_NO_SUCH_DATE) ||
                  (code >= SPEEDATE_VALUE_OUT_OF_RANGE && code <= SPEEDATE_BUFFER_TOO_SMALL);
     int wanted = is_one ? SPEEDATE_OK : SPEEDATE_VALUE_OUT_OF_RANGE;
     const char *string = speedate_code_string(code);
-    strcpy(name, code == SPEEDATE_OK ? "ok" : "unknown code");
+    strcpy(name, "unknown code");
     if (speedate_code_name(code, name, sizeof name, &length) != wanted || !string || strcmp(string, name) != 0 ||
         speedate_code_documentation(code, text, sizeof text, &length) != wanted) {
         fprintf(stderr, "the code %d is named by mistake, or not at all\n", code);
         failures++;
     }
-    for (int kind = SPEEDATE_KIND_VALUES; kind <= SPEEDATE_KIND_DURATION; kind++)
-        if (speedate_code_expected(code, kind, text, sizeof text, &length) != wanted) {
-            fprintf(stderr, "calls of the kind %d expect something by mistake, or nothing, with the code %d\n", kind, code);
+    if (code == SPEEDATE_OK)
+        wanted = SPEEDATE_VALUE_OUT_OF_RANGE;
+    SpeedatePart part = SPEEDATE_PART_NONE;
+    for (; part.kind <= SPEEDATE_KIND_DURATION; part.kind++)
+        if (speedate_code_expected(code, &part, text, sizeof text, &length) != wanted) {
+            fprintf(stderr, "calls of the kind %d expect something by mistake, or nothing, with the code %d\n", (int)part.kind,
+                    code);
             failures++;
         }
+    if (is_one && SPEEDATE_IS_FAULT(code) != (code != SPEEDATE_OK && code < SPEEDATE_VALUE_OUT_OF_RANGE)) {
+        fprintf(stderr, "the code %d is a fault by mistake, or none\n", code);
+        failures++;
+    }
 }
 
 /* Whether a field is the name of a code, with which the answer begins. */

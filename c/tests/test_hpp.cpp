@@ -31,8 +31,13 @@ template <class T> static std::string said(const Result<T> &result) {
 template <class T> static std::string said(const Result<Front<T>> &result) {
     return result ? result->value.to_text() + " " + std::to_string(result->size) : result.error().name();
 }
-// A place of an error, or -1.
-static int at(std::optional<std::size_t> place) { return place ? static_cast<int>(*place) : -1; }
+// The part that a text is refused for, and the kind of the call: -1 and the code for any other answer.
+template <class T> static std::string part_of(const OrPart<T> &result) {
+    const SpeedatePart part = result.part();
+    if (result || !SPEEDATE_IS_FAULT(result.error().code()))
+        return part.place == 0 && part.end == 0 && part.kind == SPEEDATE_KIND_NONE ? "none" : "a part by mistake";
+    return std::to_string(part.place) + " " + std::to_string(part.end) + " " + std::to_string(part.kind);
+}
 
 static Date date(const char *text) { return Date::parse(text).value(); }
 static Time time_of(const char *text) { return Time::parse(text).value(); }
@@ -55,7 +60,9 @@ static void results() {
     CHECK(bad.error().code() == SPEEDATE_OUT_OF_RANGE_DAY && bad.error() != Error(SPEEDATE_TOO_SHORT));
     CHECK(bad.error().name() == "out_of_range_day" && Error(1000).name() == "unknown code");
     CHECK(bad.error().documentation() == "day value is outside expected range");
-    CHECK(bad.error().expected(SPEEDATE_KIND_DATE) == "a day that the month has");
+    CHECK(bad.error().expected({0, 0, SPEEDATE_KIND_DATE}) == "a day that the month has");
+    CHECK(Date::parse_or_part("").expected() == "a date, YYYY-MM-DD, or a whole number");
+    CHECK(Date::parse_or_part_text("").expected() == "a date: YYYY-MM-DD");
     CHECK(bad.error().part_end("2021-02-29", 8) == 10 && Error(1000).part_end("2021-02-29", 8) == 8);
     CHECK(bad.value_or(*good) == *good && good.value_or(date("2020-03-01")) == *good);
     bool throws = false;
@@ -65,8 +72,8 @@ static void results() {
         throws = failure.error() == bad.error() && failure.what() == std::string("out_of_range_day");
     }
     CHECK(throws);
-    CHECK(version() == SPEEDATE_VERSION && version_minor() >= SPEEDATE_VERSION_MINOR);
-    CHECK(timestamp_microseconds(-1).value() == -1000000 && !timestamp_microseconds(INT64_MIN));
+    CHECK(version() == SPEEDATE_VERSION_NUMBER && version() / 1000000 == SPEEDATE_VERSION_MAJOR);
+    CHECK(DateTime::timestamp_microseconds(-1).value() == -1000000 && !DateTime::timestamp_microseconds(INT64_MIN));
     CHECK(int_parse("-012").value() == -12 && int_parse("1.5").error() == Error(SPEEDATE_INVALID_INTEGER));
 }
 
@@ -76,17 +83,20 @@ static void dates() {
     CHECK(said(Date::of(SpeedateDate{10000, 13, 1})) == "date_too_large");
     CHECK(date("2020-02-29").year() == 2020 && date("2020-02-29").month() == 2 && date("2020-02-29").day() == 29);
     CHECK(said(Date::parse("86400000000", microseconds)) == "1970-01-02" && said(Date::parse("")) == "too_short");
-    CHECK(said(Date::parse_rfc3339("2020-02-29")) == "2020-02-29" && !Date::parse_rfc3339("1582934400"));
+    CHECK(said(Date::parse_text("2020-02-29")) == "2020-02-29" && !Date::parse_text("1582934400"));
     CHECK(said(Date::parse_front("2020-02-29 opening balance")) == "2020-02-29 10");
     CHECK(said(Date::parse_front("2020-02-2")) == "too_short");
-    CHECK(at(Date::error_place("2020-13-01")) == 5 && at(Date::error_place("86400")) == -1);
-    CHECK(at(Date::error_place("86400", microseconds)) == 0);
-    CHECK(at(Date::error_place("x", with(Unit::Infer, Overflow::Error, Order::Lax, 86400))) == -1);
-    SpeedatePart part{0, 0};
-    CHECK(!Date::parse_or_part("2020-13-01", part) && part.place == 5 && part.end == 7);
-    CHECK(!Date::parse_or_part_rfc3339("2020-01-01T12:13", part) && part.place == 10 && part.end == 16);
-    CHECK(Date::parse_or_part_front("2020-02-29 rent", part)->size == 10 && part.place == 10);
-    CHECK(at(Date::error_place_rfc3339("2020-01-01T12:13")) == 10 && at(Date::error_place_front("2026-11-2")) == 9);
+    CHECK(part_of(Date::parse_or_part("2020-13-01")) == "5 7 2" && part_of(Date::parse_or_part("86400")) == "none");
+    CHECK(part_of(Date::parse_or_part("86400", microseconds)) == "0 5 2");
+    CHECK(part_of(Date::parse_or_part("x", with(Unit::Infer, Overflow::Error, Order::Lax, 86400))) == "none");
+    CHECK(part_of(Date::parse_or_part_text("2020-01-01T12:13")) == "10 16 1");
+    CHECK(Date::parse_or_part_front("2020-02-29 rent")->size == 10);
+    CHECK(part_of(Date::parse_or_part_front("2020-02-29 rent")) == "none");
+    CHECK(part_of(Date::parse_or_part_front("2026-11-2")) == "9 9 1");
+    // Numbers that do not fit their fields in C are refused, and not narrowed.
+    CHECK(said(Date::of(2020, 257, 29)) == "out_of_range_month" && said(Date::of(2020, 1, 257)) == "out_of_range_day");
+    CHECK(said(Date::of(65536 + 2020, 1, 1)) == "date_too_large" && said(Date::of(-1, 1, 1)) == "date_too_small");
+    CHECK(said(Date::of(2020, -1, 1)) == "out_of_range_month" && said(Date::of(2020, 1, -1)) == "out_of_range_day");
     CHECK(said(Date::from_timestamp(86401, false)) == "1970-01-02" &&
           said(Date::from_timestamp(86401, true)) == "date_not_exact");
     CHECK(said(Date::from_timestamp(86400000000, true, microseconds)) == "1970-01-02");
@@ -96,7 +106,7 @@ static void dates() {
     CHECK(date("2020-01-01").day_number() == 737790 && date("2020-12-31").ordinal_day() == 366);
     CHECK(said(date("2020-02-28").add_days(2)) == "2020-03-01" &&
           said(date("9999-12-31").add_days(1)) == "no_such_date");
-    CHECK(date("2020-03-01").days_since(date("2020-02-28")) == 2);
+    CHECK(Date::days_between(date("2020-02-28"), date("2020-03-01")) == 2);
     const Date early = date("2020-02-29"), late = date("2020-03-01");
     CHECK(early < late && late > early && early <= late && late >= early && early <= early && early >= early);
     CHECK(!(late < early) && !(early > late) && early == early && early != late && !(early == late) &&
@@ -121,14 +131,18 @@ static void times() {
           said(Time::parse_strict("12:13:14")) == "tz_required");
     CHECK(said(Time::parse_strict("12:13:14.1234567Z", cut)) == "12:13:14.123456Z");
     CHECK(said(Time::parse_front("12:13:14.1234567Z GET /", cut)) == "12:13:14.123456Z 17");
-    CHECK(at(Time::error_place("12:13:60")) == 6 && at(Time::error_place("12:13:14.1234567", cut)) == -1);
-    SpeedatePart part{0, 0};
-    CHECK(!Time::parse_or_part("12:13:60", part) && part.place == 6 && part.end == 8);
-    CHECK(!Time::parse_or_part_strict("12:13+01:00", part) && part.place == 5 && part.end == 6);
-    CHECK(!Time::parse_or_part_front("12:00:00-ERROR", part) && part.place == 9 && part.end == 11);
-    CHECK(at(Time::error_place_strict("12:13")) == 5 && at(Time::error_place_strict("12:13:14.1234567Z", cut)) == -1);
-    CHECK(at(Time::error_place_front("12:00:00-ERROR")) == 9 &&
-          at(Time::error_place_front("12:13:14.1234567", cut)) == -1);
+    CHECK(part_of(Time::parse_or_part("12:13:60")) == "6 8 3");
+    CHECK(part_of(Time::parse_or_part("12:13:14.1234567", cut)) == "none");
+    CHECK(part_of(Time::parse_or_part_strict("12:13+01:00")) == "5 6 4");
+    CHECK(part_of(Time::parse_or_part_strict("12:13:14.1234567Z", cut)) == "none");
+    CHECK(part_of(Time::parse_or_part_front("12:00:00-ERROR")) == "9 11 3");
+    CHECK(part_of(Time::parse_or_part_front("12:13:14.1234567", cut)) == "none");
+    CHECK(said(Time::of(256, 0)) == "out_of_range_hour" && said(Time::of(0, 256)) == "out_of_range_minute");
+    CHECK(said(Time::of(0, 0, 256)) == "out_of_range_second" && said(Time::of(0, 0, -1)) == "out_of_range_second");
+    CHECK(said(Time::of(0, 0, 0, std::int64_t{1} << 32)) == "time_too_large");
+    CHECK(said(Time::of(0, 0, 0, 0, std::int64_t{1} << 32)) == "out_of_range_tz");
+    CHECK(said(Time::of(0, 0, 0, 0, -(std::int64_t{1} << 32))) == "out_of_range_tz");
+    CHECK(said(Time::of(0, 0, 0, 0, -60)) == "00:00:00-00:01");
     CHECK(said(Time::from_timestamp(36005, 1500000)) == "10:00:06.500000" &&
           said(Time::from_timestamp(86400, 0)) == "time_too_large");
     CHECK(said(Time::from_timestamp(1, 0, with(Unit::Infer, Overflow::Error, Order::Lax, 60))) == "00:00:01+00:01");
@@ -147,30 +161,25 @@ static void date_times() {
     CHECK(DateTime::of(value.c()).value() == value && said(DateTime::of(SpeedateDateTime{})) == "out_of_range_month");
     CHECK(DateTime::of(SpeedateDateTime{{2020, 2, 29}, {12, 13, 0, 0, 0, 7}}).value() == moment("2020-02-29T12:13"));
     CHECK(said(DateTime::parse("20000000001", unix_time)) == "2603-10-11T11:33:21Z");
-    CHECK(said(DateTime::parse_rfc3339("2020-02-29 12:13")) == "2020-02-29T12:13:00" && !DateTime::parse_rfc3339("1"));
-    CHECK(said(DateTime::parse_rfc3339("2020-02-29 12:13:14.1234567", unix_time)) == "2020-02-29T12:13:14.123456");
+    CHECK(said(DateTime::parse_text("2020-02-29 12:13")) == "2020-02-29T12:13:00" && !DateTime::parse_text("1"));
+    CHECK(said(DateTime::parse_text("2020-02-29 12:13:14.1234567", unix_time)) == "2020-02-29T12:13:14.123456");
     CHECK(said(DateTime::parse_strict("2020-02-29T12:13:14.1234567Z", unix_time)) == "2020-02-29T12:13:14.123456Z");
     CHECK(said(DateTime::parse_strict("2020-02-29 12:13:14Z")) == "invalid_char_date_time_sep");
     CHECK(said(DateTime::parse_front("2026-11-22T12:13:14.1234567Z GET /", unix_time)) ==
           "2026-11-22T12:13:14.123456Z 28");
-    CHECK(at(DateTime::error_place("2020-02-29T12:13:60")) == 17 &&
-          at(DateTime::error_place("1.0000000", unix_time)) == -1);
-    SpeedatePart part{0, 0};
-    CHECK(!DateTime::parse_or_part("2020-02-29T12:13:60", part) && part.place == 17 && part.end == 19);
-    CHECK(!DateTime::parse_or_part_rfc3339("2020-02-29", part) && part.place == 10 && part.end == 10);
-    CHECK(!DateTime::parse_or_part_strict("2020-02-29 12:13:14Z", part) && part.place == 10 && part.end == 11);
-    CHECK(!DateTime::parse_or_part_front("2026-11-22T12:00:00-ERROR", part) && part.place == 20 && part.end == 22);
-    CHECK(at(DateTime::error_place_rfc3339("2020-02-29")) == 10);
-    CHECK(at(DateTime::error_place_rfc3339("2020-02-29T12:13:14.1234567", unix_time)) == -1);
-    CHECK(at(DateTime::error_place_strict("2020-02-29T12:13:14")) == 19);
-    CHECK(at(DateTime::error_place_strict("2020-02-29T12:13:14.1234567Z", unix_time)) == -1);
-    CHECK(at(DateTime::error_place_front("2026-11-22T12:00:00-ERROR")) == 20);
-    CHECK(at(DateTime::error_place_front("2026-11-22T12:00:00.1234567", unix_time)) == -1);
+    CHECK(part_of(DateTime::parse_or_part("2020-02-29T12:13:60")) == "17 19 6");
+    CHECK(part_of(DateTime::parse_or_part("1.0000000", unix_time)) == "none");
+    CHECK(part_of(DateTime::parse_or_part_text("2020-02-29")) == "10 10 5");
+    CHECK(part_of(DateTime::parse_or_part_text("2020-02-29T12:13:14.1234567", unix_time)) == "none");
+    CHECK(part_of(DateTime::parse_or_part_strict("2020-02-29 12:13:14Z")) == "10 11 7");
+    CHECK(part_of(DateTime::parse_or_part_strict("2020-02-29T12:13:14.1234567Z", unix_time)) == "none");
+    CHECK(part_of(DateTime::parse_or_part_front("2026-11-22T12:00:00-ERROR")) == "20 22 5");
+    CHECK(part_of(DateTime::parse_or_part_front("2026-11-22T12:00:00.1234567", unix_time)) == "none");
     CHECK(said(DateTime::from_timestamp(1, 2)) == "1970-01-01T00:00:01.000002");
     CHECK(said(DateTime::from_timestamp(20000000001, 0, unix_time)) == "2603-10-11T11:33:21Z");
     const DateTime zoned = moment("1970-01-01T01:00:01.5+01:00");
-    CHECK(zoned.timestamp() == 3601 && zoned.timestamp_ms() == 3601500 && zoned.timestamp_tz() == 1);
-    CHECK(zoned.timestamp_tz_ms() == 1500 && zoned.timestamp_tz_us() == 1500000);
+    CHECK(zoned.clock_seconds() == 3601 && zoned.clock_milliseconds() == 3601500 && zoned.unix_seconds() == 1);
+    CHECK(zoned.unix_milliseconds() == 1500 && zoned.unix_microseconds() == 1500000);
     CHECK(said(zoned.in_timezone(0)) == "1970-01-01T00:00:01.500000Z" &&
           said(zoned.in_timezone(86400)) == "out_of_range_tz");
     CHECK(compare_instants(zoned, zoned.in_timezone(0).value()) == 0 && zoned != zoned.in_timezone(0).value());
@@ -181,17 +190,19 @@ static void durations() {
     const Duration duration = length("-P1DT2.000003S");
     CHECK(duration == Duration::of(true, 1, 2, 3).value() && duration != Duration::of(false, 1, 2, 3).value());
     CHECK(duration.negative() && duration.day() == 1 && duration.second() == 2 && duration.microsecond() == 3);
-    CHECK(said(Duration::of(false, 1, 86500, 1000123)) == "P2DT1M41.000123S" &&
-          said(Duration::of(false, 1000000000)) == "duration_days_too_large");
+    CHECK(said(Duration::normalized(false, 1, 86500, 1000123)) == "P2DT1M41.000123S" &&
+          said(Duration::normalized(false, 1000000000)) == "duration_days_too_large");
+    CHECK(said(Duration::normalized(false, 0, (std::int64_t{1} << 32) + 5)) == "duration_value_too_large" &&
+          said(Duration::normalized(false, 0, -1)) == "duration_value_too_large");
+    CHECK(said(Duration::of(false, 0, (std::int64_t{1} << 32) + 5)) == "duration_value_too_large" &&
+          said(Duration::of(false, std::int64_t{1} << 32)) == "duration_days_too_large");
     CHECK(Duration::of(std::chrono::microseconds(-1500000)).to_text() == "-PT1.5S");
-    CHECK(Duration::checked(duration.c()).value() == duration);
-    CHECK(said(Duration::checked(SpeedateDuration{0, 0, 86400, 0})) == "duration_value_too_large");
-    SpeedatePart part{0, 0};
-    CHECK(!Duration::parse_or_part("P1D1Q", part) && part.place == 4 && part.end == 5);
-    CHECK(said(Duration::parse("P1D1Y")) == "P1Y1D" && at(Duration::error_place("P1D1Q")) == 4);
+    CHECK(Duration::of(duration.c()).value() == duration);
+    CHECK(said(Duration::of(SpeedateDuration{0, 0, 86400, 0})) == "duration_value_too_large");
+    CHECK(said(Duration::parse("P1D1Y")) == "P1Y1D" && part_of(Duration::parse_or_part("P1D1Q")) == "4 5 8");
     const Config strict = with(Unit::Infer, Overflow::Error, Order::Strict);
     CHECK(said(Duration::parse("P1D1Y", strict)) == "duration_unit_order" &&
-          at(Duration::error_place("P1D1Y", strict)) == 4);
+          part_of(Duration::parse_or_part("P1D1Y", strict)) == "4 5 8");
     CHECK(duration.signed_total_seconds() == std::chrono::seconds(-86402));
     CHECK(duration.signed_total_ms() == std::chrono::milliseconds(-86402000));
     CHECK(duration.signed_microseconds() == std::chrono::microseconds(-3));
@@ -224,7 +235,7 @@ static void columns() {
     column = ColumnConfig();
     column.more_follows = true;
     column.drops_returns = true;
-    column.form = Form::Timestamp;
+    column.form = Form::OrTimestamp;
     read = date_column("86400\r\n1970-01-0", days, {}, column).value();
     CHECK(read.lines == 1 && read.bytes == 7 && !read.error && days[0] == 1 && days[1] == 7);
     read = duration_column("PT1.5S\n-00:01:00\n", numbers).value();
@@ -247,6 +258,7 @@ static void columns() {
     read = datetime_column_with_errors("1970-01-01T00:00Z\n24:00\n1970-01-01T00:00Z", numbers, errors).value();
     CHECK(read.lines == 2 && numbers[0] == 0 && numbers[1] == INT64_MIN);
     CHECK(errors[0] == 0 && errors[1] == SPEEDATE_TOO_SHORT);
+    CHECK(datetime_column_with_errors("x", numbers, std::array<std::uint8_t, 0>()).value().lines == 0);
     read = date_column_with_errors("1970-01-03\nx", days, errors).value();
     CHECK(read.lines == 2 && days[0] == 2 && days[1] == INT32_MIN && errors[1] == SPEEDATE_TOO_SHORT);
     read = datetime_clock_column_with_errors("1970-01-01T00:00:03-01:00\nx", numbers, errors).value();
@@ -263,7 +275,7 @@ static void columns() {
     // Each call hands on both configurations: by the first the line is read, or refused, and by the second it is cut.
     const Config config = with(Unit::Microsecond, Overflow::Error, Order::Strict);
     column = ColumnConfig();
-    column.form = Form::Timestamp;
+    column.form = Form::OrTimestamp;
     column.drops_returns = true;
     column.assumes_utc = true;
     CHECK(date_column("86400000000\r\n", days, config, column).value().lines == 1 && days[0] == 1);

@@ -17,7 +17,7 @@ const source = (name) => readFileSync(`${root}/${name}`, "utf8");
 /** What the page to try shows by its address and after each step of a visitor; what is wrong with how it looks and is reached,
  * which should be nothing; the calls that it shows; and the least milliseconds in which it shows what a typed text is: the
  * machine may be busy. */
-async function visit({ SAID, MARKED, OFFERED }) {
+async function visit({ SAID, MARKED, OFFERED, GUESSED }) {
   const form = document.forms[0];
   const [nav, options, main, status] = ["nav", "details", "main", "[role=status]"].map((it) => document.querySelector(it));
   const sleep = (milliseconds) => new Promise((resolve) => setTimeout(resolve, milliseconds));
@@ -37,6 +37,7 @@ async function visit({ SAID, MARKED, OFFERED }) {
   history.replaceState = (...its) => (changes++, replaceState.apply(history, its));
 
   const steps = [shown(), main.querySelector("a").getAttribute("href"), form.timestampOffset.disabled];
+  steps.push(form.text.value.slice(form.text.selectionStart, form.text.selectionEnd));
   type("PT90M");
   steps.push(shown());
   nav.querySelector('a[href*="20200229&timestamps"]').click();
@@ -71,13 +72,26 @@ async function visit({ SAID, MARKED, OFFERED }) {
     return [text, fields, offered, options.querySelector("summary").textContent, (isFocused || offered.length === 0) && shown().replace(/, .*/, "")];
   });
   form.reset();
+  for (const it of ["P1Y", "PT1M", "1 day", "PT1H"]) {
+    type(it);
+    steps.push(all(".note", (it) => it.textContent).join());
+  }
+  const guesses = GUESSED.map(([text, fields]) => {
+    form.reset();
+    for (const [name, value] of Object.entries(fields)) form[name].value = value;
+    type(text);
+    const told = [text, fields, all("h2", (it) => it.textContent).join(), all(".guess button", (it) => it.textContent).join(" or "), all(".note", (it) => it.textContent).join()];
+    main.querySelector(".guess button")?.click();
+    return [...told, shown().replace(/, .*/, "")];
+  });
+  form.reset();
   const least = Math.min(...Array.from(typed, (_, i) => type(typed.slice(0, i + 1))));
   steps.push(changes, main.querySelector(".said").textContent, all(".said span, dd span", (it) => `${it.className} ${it.textContent}`).join("|"));
   await sleep(900);
-  steps.push(changes, location.search, status.textContent);
+  steps.push(changes, location.search + location.hash, status.textContent);
   type("12:13");
   await sleep(450);
-  steps.push(changes, location.search);
+  steps.push(changes, location.search + location.hash);
   type("2021-02-29");
   await sleep(900);
   steps.push(status.textContent);
@@ -85,7 +99,7 @@ async function visit({ SAID, MARKED, OFFERED }) {
   await sleep(900);
   steps.push(main.textContent, status.textContent);
   // What is pasted, and what a link has, may have the end of a line. A key gives none.
-  const link = nav.appendChild(Object.assign(document.createElement("a"), { href: "?text=2020%0D%0A-02-29" }));
+  const link = nav.appendChild(Object.assign(document.createElement("a"), { href: "#text=2020%0D%0A-02-29" }));
   link.click();
   link.remove();
   steps.push(shown(), main.querySelector("code").textContent, form.text.getBoundingClientRect().height > 50);
@@ -167,7 +181,7 @@ async function visit({ SAID, MARKED, OFFERED }) {
   }
   type("12:1x");
   has(nav.querySelector("[aria-current]") === null, "no example is marked if none is chosen");
-  report({ width: innerWidth, steps, marks, offers, wrong, calls, least });
+  report({ width: innerWidth, steps, marks, offers, guesses, wrong, calls, least });
 }
 /** Texts, and what the page says of each. */
 const SAID = {
@@ -180,7 +194,7 @@ const SAID = {
 };
 /** Texts, and by kind how the page marks where each is wrong, and says it. */
 const MARKED = {
-  "20200229": ["Not a date-time 20200229[] at the end: ", "Duration 20200229[] at the end: ", "Date 20200229[] at the end: ", "Time 20[2]00229 at character 3: "],
+  "20200229": ["Not a date-time 20200229[] at the end: ", "Date 20200229[] at the end: ", "Duration 20200229[] at the end: ", "Time 20[2]00229 at character 3: "],
   "2021-02-29": [
     "Not a date 2021-02-[29] from character 9 on: ", "Date-time 2021-02-[29] from character 9 on: ",
     "Duration 2021[-]02-29 at character 5: ", "Time 20[2]1-02-29 at character 3: ",
@@ -234,27 +248,47 @@ const OFFERED = [
   ["86400", { timestamps: "s", strict: true }, ["Date-time: only RFC 3339 is read: allow more"], "Options, timestamps: s", "Date: 1970-01-02"],
   ["1", { timestamps: "s" }, [], "Options, timestamps: s", "Date-time: 1970-01-01T00:00:01"],
   ["2021-02-29", {}, [], "Options", "Not a date: out_of_range_day"],
+  ["2020-02-29 ", {}, ["Not a date: spaces and line ends around it are not read: drop them"], "Options", "Date: 2020-02-29"],
+  ["\n 12:13:14Z\n", { strict: true }, ["Not a time: spaces and line ends around it are not read: drop them"], "Options, strict: true", "Time: 12:13:14Z"],
+  ["2021-02-29 ", {}, [], "Options", "Not a date: out_of_range_day"],
+];
+/** Texts in other forms: the titles, what may be meant, what else is said, and what is shown first after a click. */
+const GUESSED = [
+  ["29.02.2020", {}, "Not one of the four kinds", "2020-02-29", "", "Date: 2020-02-29"],
+  ["22 Nov 2026", {}, "Not one of the four kinds", "2026-11-22", "", "Date: 2026-11-22"],
+  ["11/22/2026 10:00", {}, "Not one of the four kinds", "2026-11-22T10:00", "", "Date-time: 2026-11-22T10:00:00"],
+  ["20200229T121314Z", {}, "Not one of the four kinds", "2020-02-29T12:13:14Z", "", "Date-time: 2020-02-29T12:13:14Z"],
+  ["20200229", { timestamps: "infer" }, "Date-time", "2020-02-29", "The number is read as seconds since 1970.", "Date: 2020-02-29"],
+  ["2020-02-30T12:13", {}, "Not a date-time", "", "", "Not a date-time: out_of_range_day"],
+  ["November 22nd, 2026", {}, "Not one of the four kinds", "2026-11-22", "", "Date: 2026-11-22"],
+  ["01/02/2020", {}, "Not one of the four kinds", "2020-02-01 or 2020-01-02", "", "Date: 2020-02-01"],
+  ["2020-2-9 9:05", {}, "Not one of the four kinds", "2020-02-09T09:05", "", "Date-time: 2020-02-09T09:05:00"],
+  ["2026-11-22T10:00:00 UTC", {}, "Not one of the four kinds", "2026-11-22T10:00:00Z", "", "Date-time: 2026-11-22T10:00:00Z"],
+  ["30.02.2020", {}, "Not one of the four kinds", "", "", "Not one of the four kinds: invalid_char_year"],
+  ["never", {}, "Not a date", "", "", "Not a date: too_short"],
 ];
 const STEPS = [
   "Not a date: out_of_range_day, Date-time: out_of_range_day, Duration: invalid_char_hour, Time: invalid_char_time_sep",
   "../docs/GRAMMAR.md#fault-out_of_range_day",
   true,
+  "2021-02-29",
   "Duration: PT1H30M, Date: too_short, Time: invalid_char_hour, Date-time: too_short",
-  "Date-time: 1970-08-22T19:10:29, Duration: invalid_char_hour, Time: invalid_char_time_sep, Date: date_not_exact",
+  "Date-time: 1970-08-22T19:10:29, Date: date_not_exact, Duration: invalid_char_hour, Time: invalid_char_time_sep",
   "Options, timestamps: infer",
   false,
-  "Not a date-time: TypeError, Duration: invalid_char_hour, Time: invalid_char_time_sep, Date: date_not_exact",
+  "Not a date-time: TypeError, Date: date_not_exact, Duration: invalid_char_hour, Time: invalid_char_time_sep",
   "Date-time: none: its offset is not whole minutes, Date: date_not_exact, Time: too_short, Duration: duration_invalid_days",
   "Thursday, 1 January 1970, 00:00:01, 0:01:30 east of UTC: 23:58:31 UTC on the day before",
   ...Object.values(SAID),
+  "A year counts as 365 days, a month as 30.", "", "", "",
   0,
   "Saturday, 29 February 2020, 12:13:14.5, 1:30 east of UTC: 10:43:14.5 UTC",
   "date Saturday, 29 February 2020|time 12:13:14.5|offset 1:30 east of UTC|date 2020-02-29|time 12:13:14.5|offset +01:30|date 2020-02-29|time 12:13:14.500000|offset +01:30",
   1,
-  "?text=2020-02-29T12%3A13%3A14.5%2B01%3A30",
+  "#text=2020-02-29T12%3A13%3A14.5%2B01%3A30",
   "Date-time: Saturday, 29 February 2020, 12:13:14.5, 1:30 east of UTC: 10:43:14.5 UTC.",
   2,
-  "?text=12%3A13",
+  "#text=12%3A13",
   "Not a date: expected a day that the month has, from character 9 on.",
   "Type a text, or choose an example.",
   "",
@@ -285,9 +319,22 @@ async function readAll() {
   bare.init(await WebAssembly.compileStreaming(fetch("speedate.wasm")));
   report({ width: 0, temporal: typeof Temporal, drawn: readDrawn(), without, handedOver: bare.format(bare.parseDuration("PT90M")) });
 }
+/** What the page asks of a server that it was loaded from, while a visitor types: nothing more. */
+async function askNothing() {
+  const form = document.forms[0];
+  const before = await (await fetch("asked")).json();
+  for (const it of ["2020-02-29", "secret", "P1D\n"]) {
+    form.text.value = it;
+    form.text.dispatchEvent(new Event("input", { bubbles: true }));
+    await new Promise((resolve) => setTimeout(resolve, 400));
+  }
+  document.querySelector("nav a").click();
+  await new Promise((resolve) => setTimeout(resolve, 1000));
+  report({ width: 0, address: location.hash, asked: (await (await fetch("asked")).json()).slice(before.length), before, icon: document.querySelector("link[rel=icon]").href });
+}
 /** What the page says without WebAssembly, and without scripts. */
 const WITHOUT = [
-  "Nothing can be parsed here: speedate needs WebAssembly with BigInt and bulk memory (Node 20, Chrome 115, Firefox 90, Safari 15) that a policy allows.",
+  "Nothing can be parsed here: speedate needs WebAssembly with BigInt and bulk memory (Node 20, Chrome 115, Firefox 90, Safari 15) that a policy allows: a content security policy has to have 'wasm-unsafe-eval'.",
   "This page needs JavaScript, which is switched off here.",
 ];
 
@@ -300,19 +347,21 @@ const files = {
   "bare.js": source("out/js/bare.js"), "speedate.wasm": readFileSync(`${root}/out/js/speedate.wasm`),
   "page.html": source("out/try.html"), "without.html": source("out/try.html").replace("<title>", "<script>delete globalThis.WebAssembly</script>$&"),
 };
-const { port, next } = await serve(files);
+const server = await serve(files);
+const { port, next } = server;
 const reporting = `<script>
   const report = (it) => fetch("http://127.0.0.1:${port}/", { method: "POST", mode: "no-cors", body: JSON.stringify(it) })
     .then(() => parent.postMessage("next", "*"));
   onerror = (it) => report({ error: String(it) });
   onunhandledrejection = ({ reason }) => report({ error: String(reason) });
 </script>`;
+files["served.html"] = `${source("out/try.html")}${reporting}<script type="module">(${askNothing})()</script>`;
 files["all.html"] = `<!DOCTYPE html>${reporting}
   <script type="importmap">{ "imports": { "speedate": "./speedate.js", "node:assert/strict": "./shim.mjs", "node:fs": "./shim.mjs" } }</script>
   <script type="module">(${readAll})()</script>`;
-writeFileSync("try.html", `${source("out/try.html")}${reporting}<script type="module">(${visit})(${JSON.stringify({ SAID: Object.keys(SAID), MARKED: Object.keys(MARKED), OFFERED })})</script>`);
+writeFileSync("try.html", `${source("out/try.html")}${reporting}<script type="module">(${visit})(${JSON.stringify({ SAID: Object.keys(SAID), MARKED: Object.keys(MARKED), OFFERED, GUESSED })})</script>`);
 writeFileSync("frames.html", `<!DOCTYPE html><body><script>
-  const frames = [[360, "try.html?text=2021-02-29"], [1280, "try.html?text=2021-02-29"], [100, "http://127.0.0.1:${port}/all.html"]];
+  const frames = [[360, "try.html#text=2021-02-29"], [1280, "try.html#text=2021-02-29"], [100, "http://127.0.0.1:${port}/all.html"], [100, "http://127.0.0.1:${port}/served.html#text=secret"]];
   const add = ([width, src]) => document.body.append(Object.assign(document.createElement("iframe"), { width, src, height: 800 }));
   onmessage = () => frames.length && add(frames.shift());
   onmessage();
@@ -325,12 +374,18 @@ const told = async (seconds, what) => {
 };
 const visits = [await told(120, "the page, narrow"), await told(120, "the page, wide")];
 const all = await told(240, "the rows and the drawn texts");
+const served = await told(60, "the page, from a server");
+assert.deepEqual(served.asked, ["/asked"], "a visitor who types asks for nothing");
+assert.equal(served.address, "#text=2020-02-29");
+assert.equal(served.icon, "data:,", "an icon that is asked for nowhere");
+for (const { url, referer } of server.asked)
+  assert.ok(!/secret|favicon/.test(url) && !/secret/.test(referer ?? ""), `${url} from ${referer}`);
 assert.deepEqual(all.drawn, { ...readDrawn(), wrong: [] });
 assert.deepEqual(all.without, WITHOUT);
 assert.equal(all.handedOver, "PT1H30M");
 for (const [i, width] of [360, 1280].entries()) {
   const { calls, least, ...others } = visits[i];
-  assert.deepEqual(others, { width, steps: STEPS, marks: Object.values(MARKED), offers: OFFERED, wrong: [] });
+  assert.deepEqual(others, { width, steps: STEPS, marks: Object.values(MARKED), offers: OFFERED, guesses: GUESSED, wrong: [] });
   assert.ok(least < 16, `what is typed is shown after ${least} milliseconds`);
 }
 

@@ -7,7 +7,7 @@ import { setFlagsFromString } from "node:v8";
 import { runInNewContext } from "node:vm";
 import {
   dateColumn, dateColumnReader, dateTimeClockColumn, dateTimeClockColumnReader, dateTimeColumn, dateTimeColumnReader, dateTimeFromTimestamp, dateTimeOffsetColumn,
-  dateTimeOffsetColumnReader, daysSince, epochMilliseconds, inTimezone, parseDate, parseDateTime, safeParseDate, safeParseDateTime, safeParseTime, SpeedateError, timeColumn,
+  dateTimeOffsetColumnReader, daysBetween, epochMilliseconds, inTimezone, parseDate, parseDateTime, safeParseDate, safeParseDateTime, safeParseTime, SpeedateError, timeColumn,
   timeColumnReader, timeOffsetColumn, timeOffsetColumnReader, toDate,
 } from "speedate";
 
@@ -31,7 +31,7 @@ function linesOf(text) {
 /** What a line has in a column of dates. */
 function day(line, { timestamps }) {
   const { ok, value, ...refusal } = safeParseDate(Buffer.from(line), { timestamps });
-  return ok ? { number: daysSince(value, EPOCH) } : { number: SMALLEST, refusal };
+  return ok ? { number: daysBetween(EPOCH, value) } : { number: SMALLEST, refusal };
 }
 
 /** Of a decimal text JavaScript makes the nearest double. */
@@ -284,6 +284,50 @@ for (const size of [2 ** 16 - 22, 2 ** 16 - 21, 2 ** 16 - 20, 2 ** 17, 2 ** 24 -
   assert.equal(column.length, COUNT);
   for (let i = 0; i < COUNT; i++) if (column[i] !== 1577836800000 + i * 60000) assert.fail(`line ${i}`);
   for (let i = 0; i < 3; i++) assert.equal(dateTimeColumn(text, { unit: "us" }).at(-1), BigInt(column.at(-1)) * 1000n);
+}
+{
+  // A string may be cut within a pair: the parts are those of the whole text. Bytes end half a pair.
+  const text = "1970-01-01\u{1f600}x\n\u{1f600}\n\ud83d\n\ude00\u{1f600}\n2020-0\u{1f600}\ud83d";
+  const refusalsOf = (pieces, cut = pieces.pop()) => {
+    const refusals = [];
+    const reader = dateColumnReader({ refusals });
+    return [...pieces.flatMap((it) => [...reader.read(it)]), ...reader.end(cut), refusals];
+  };
+  const thrownBy = (pieces, first = dateColumnReader()) => thrown(() => [...pieces.map((it) => first.read(it)), first.end()]);
+  const whole = refusalsOf([text]);
+  for (let at = 0; at <= text.length; at++) assert.deepEqual(refusalsOf([text.slice(0, at), "", text.slice(at)]), whole, String(at));
+  assert.deepEqual(refusalsOf([...text].flatMap((it) => it.split(""))), whole);
+  for (const [pieces, place, end] of [[["1970-01-01\ud83d", "\ude00"], 10, 14], [["1970-01-01\ud83d", Buffer.from("\n")], 10, 13], [["1970-01-01\ud83d"], 10, 13]]) {
+    const error = thrownBy(pieces);
+    assert.deepEqual([error.place, error.end], [place, end]);
+  }
+}
+{
+  // Many small pieces of a line take no more room than the line.
+  const reader = dateTimeColumnReader({ overflow: "truncate" });
+  const before = held();
+  reader.read("1970-01-01T00:00:01.");
+  const zero = Buffer.from("0");
+  for (let i = 0; i < 2000000; i++) reader.read(zero);
+  assert.ok(held() < before + 100, `${before} megabytes before, and ${held()} for a line of two`);
+  assert.deepEqual(reader.end("Z\n"), Float64Array.of(1000));
+}
+for (const [maxLineBytes, size, index] of [[20, 20], [20, 21, 0], [0, 0], [0, 1, 0], [2 ** 20, 2 ** 20], [2 ** 20, 2 ** 20 + 1, 0]]) {
+  for (const piece of [1, 1000, 2 ** 21]) {
+    const reader = dateColumnReader({ maxLineBytes, refusals: [] });
+    const fed = () => {
+      for (let at = 0; at < size; at += piece) reader.read("x".repeat(Math.min(piece, size - at)));
+    };
+    if (piece === 1 && size > 1000) continue;
+    if (index === undefined) fed(), assert.equal(reader.end().length, Math.min(size, 1));
+    else assert.throws(fed, { constructor: RangeError, name: "LineTooLong", index, message: `line 0 has more than ${maxLineBytes} bytes` });
+    if (index !== undefined) assert.throws(() => reader.read(""), TypeError);
+  }
+}
+{
+  const reader = dateColumnReader({ maxLineBytes: 10 });
+  for (let i = 0; i < 10; i++) assert.equal(reader.read("1970-01-02\n1970-01").length + reader.read("-02\n").length, 2);
+  assert.throws(() => reader.read("1970-01-02\n1970-01-020"), { name: "LineTooLong", index: 21 });
 }
 assert.equal(thrown(() => dateColumn(Buffer.alloc(2 ** 28, "0"))).index, 0);
 // What is collected is given back a little later.

@@ -29,7 +29,7 @@ const EPOCH = speedate.parseDate("1970-01-01");
 const inMicroseconds = (it) => BigInt(speedate.epochMilliseconds({ ...it, offsetSeconds: it.offsetSeconds ?? 0 })) * 1000n + BigInt(it.microsecond);
 /** By kind what reads columns, what each has of a value, and what of a text that is refused. */
 const COLUMNS = {
-  date: [[speedate.dateColumn, {}, (it) => speedate.daysSince(it, EPOCH), -(2 ** 31)]],
+  date: [[speedate.dateColumn, {}, (it) => speedate.daysBetween(EPOCH, it), -(2 ** 31)]],
   time: [[speedate.timeColumn, {}, (it) => Number(`${inMicroseconds({ year: 1970, month: 1, day: 1, ...it, offsetSeconds: 0 })}e-3`), NaN]],
   "date-time": [
     [speedate.dateTimeColumn, { missingOffset: "utc", unit: "us" }, inMicroseconds, -(2n ** 63n)],

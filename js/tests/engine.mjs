@@ -17,27 +17,30 @@ export function within(seconds, what, promise) {
   return Promise.race([promise, late]);
 }
 
-/** A server on the loopback that gives these files by their names, and `next`, the next thing that a page has posted to it: also
- * one that came before it was asked for. Its pages are isolated, so that their clocks have microseconds. */
+/** A server on the loopback that gives these files by their names, and at `asked` the addresses that it was asked for; the
+ * requests themselves; and `next`, the next thing that a page has posted to it: also one that came before it was asked for.
+ * Its pages are isolated, so that their clocks have microseconds. */
 export async function serve(files) {
   const posted = [];
+  const asked = [];
   let wake;
   const server = createServer(async (request, response) => {
     if (request.method === "POST") posted.push(JSON.parse(await text(request)));
     wake?.();
+    asked.push({ url: request.url, referer: request.headers.referer });
     const name = request.url.slice(1).replace(/\?.*/, "");
     const type = name.endsWith("wasm") ? "application/wasm" : `text/${name.endsWith("html") ? "html" : "javascript"};charset=utf-8`;
     response.setHeader("content-type", type);
     response.setHeader("cross-origin-opener-policy", "same-origin");
     response.setHeader("cross-origin-embedder-policy", "require-corp");
-    response.end(files[name]);
+    response.end(name === "asked" ? JSON.stringify(asked.map((it) => it.url)) : files[name]);
   });
   await new Promise((resolve) => server.listen(0, "127.0.0.1", resolve));
   const arrival = async () => {
     while (posted.length === 0) await new Promise((resolve) => (wake = resolve));
     return posted.shift();
   };
-  return { port: server.address().port, next: (seconds, what) => within(seconds, what, arrival()) };
+  return { port: server.address().port, asked, next: (seconds, what) => within(seconds, what, arrival()) };
 }
 
 /** Starts a program in a group of its own, which ends with this program. */

@@ -62,7 +62,7 @@ const uses: Record<keyof typeof speedate, unknown> = {
   dateTimeColumn: [
     ((it: Float64Array): number => it[0])(speedate.dateTimeColumn("1", { timestamps: "s", missingOffset: "utc", unit: "ms" })),
     ((it: Float64Array): number => it.length)(speedate.dateTimeColumn(new Uint8Array(0))),
-    same<BigInt64Array, ReturnType<typeof speedate.dateTimeColumn>>(true, speedate.dateTimeColumn("1970-01-01T00:00Z", { strict: true, unit: "us", refusals })),
+    ((it: BigInt64Array): bigint => it[0])(speedate.dateTimeColumn("1970-01-01T00:00Z", { strict: true, unit: "us", refusals })),
   ],
   dateColumnReader: ((it: Int32Array): number => it[0])(speedate.dateColumnReader({ refusals }).end("1970-01-02")),
   dateTimeColumnReader: [
@@ -71,12 +71,12 @@ const uses: Record<keyof typeof speedate, unknown> = {
   ],
   dateTimeClockColumn: [
     ((it: Float64Array): number => it[0])(speedate.dateTimeClockColumn("1", { timestamps: "s", timestampOffset: 3600, unit: "ms" })),
-    same<BigInt64Array, ReturnType<typeof speedate.dateTimeClockColumn>>(true, speedate.dateTimeClockColumn("1970-01-01T00:00:00Z", { strict: true, unit: "us", refusals })),
+    ((it: BigInt64Array): bigint => it[0])(speedate.dateTimeClockColumn("1970-01-01T00:00:00Z", { strict: true, unit: "us", refusals })),
   ],
   dateTimeOffsetColumn: same<Int32Array, ReturnType<typeof speedate.dateTimeOffsetColumn>>(true, speedate.dateTimeOffsetColumn("1", { timestamps: "s", timestampOffset: 0, refusals })),
   timeColumn: [
     ((it: Float64Array): number => it[0])(speedate.timeColumn("12:13", { overflow: "truncate", unit: "ms" })),
-    same<BigInt64Array, ReturnType<typeof speedate.timeColumn>>(true, speedate.timeColumn("12:13:14Z", { strict: true, unit: "us", refusals })),
+    ((it: BigInt64Array): bigint => it[0])(speedate.timeColumn("12:13:14Z", { strict: true, unit: "us", refusals })),
   ],
   timeOffsetColumn: same<Int32Array, ReturnType<typeof speedate.timeOffsetColumn>>(true, speedate.timeOffsetColumn("12:13Z", { overflow: "error", refusals })),
   dateTimeClockColumnReader: [
@@ -101,7 +101,7 @@ const uses: Record<keyof typeof speedate, unknown> = {
     speedate.compare(moment, moment), speedate.compare(second, second), [date, date].sort(speedate.compare), [moment, moment].sort(speedate.compare),
   ],
   addDays: same<SpeedateDate, ReturnType<typeof speedate.addDays>>(true, speedate.addDays(date, 1)),
-  daysSince: same<number, ReturnType<typeof speedate.daysSince>>(true, speedate.daysSince(date, date)),
+  daysBetween: same<number, ReturnType<typeof speedate.daysBetween>>(true, speedate.daysBetween(date, date)),
   dayOfYear: same<number, ReturnType<typeof speedate.dayOfYear>>(true, speedate.dayOfYear(date)),
   after: [((it: SpeedateDate) => it.day)(speedate.after(date, speedate.parseDuration("P1D"))), same<SpeedateDateTime, ReturnType<typeof speedate.after>>(true, speedate.after(moment, second))],
   before: [((it: SpeedateDate) => it.day)(speedate.before(date, speedate.parseDuration("P1D"))), same<SpeedateDateTime, ReturnType<typeof speedate.before>>(true, speedate.before(moment, second))],
@@ -156,7 +156,7 @@ const refused = [
   // @ts-expect-error
   () => speedate.addDays(moment, 1),
   // @ts-expect-error
-  () => speedate.daysSince(date, moment),
+  () => speedate.daysBetween(date, moment),
   // @ts-expect-error
   () => speedate.dayOfYear(moment),
   // @ts-expect-error
@@ -175,6 +175,14 @@ const refused = [
   () => speedate.after(time, second),
 ];
 for (const call of refused) assert.throws(call, TypeError, String(call));
+
+declare const unit: "ms" | "us" | undefined;
+export const unions = () => [
+  same<Float64Array | BigInt64Array, ReturnType<typeof ofUnion>>(true, ofUnion()),
+  speedate.dateTimeClockColumn("", { unit }), speedate.timeColumn("", { unit }), speedate.dateTimeClockColumnReader({ unit }).end(),
+  speedate.timeColumnReader({ unit }).end(), speedate.dateTimeColumnReader({ unit, maxLineBytes: 100 }).end(),
+];
+const ofUnion = () => speedate.dateTimeColumn("", { unit });
 
 export const sameTypes = same<typeof bare, typeof speedate>(true, bare);
 

@@ -28,7 +28,7 @@ static const char *const hint_words[BOTH_HINTS + 1] = {
 /* The places of the objects that are held from the import on. Nothing is added afterwards. */
 enum {
     /* what is imported */
-    DATETIME, ARRAY, CONFIG, FAULT, UNREPRESENTABLE, REFUSAL, INTEGER, CHOICE, PLAIN, MISSING, ITEMS,
+    DATETIME, ARRAY, CONFIG, FAULT, UNREPRESENTABLE, REFUSAL, INTEGER, CHOICE, PLAIN, MISSING, ITEMS, TURN,
     NUMBERS, INDEX, HINT, UTCOFFSET, FROMBYTES,       /* names of attributes */
     HINTS,                                            /* the words of each hint */
     ARGUMENTS = HINTS + BOTH_HINTS + 1,               /* of the fault of each code */
@@ -37,7 +37,7 @@ enum {
     ALL = ZONES + 2 * QUARTERS + 1
 };
 
-/* What a Fault keeps, so that it can find its place: the text that was refused, and how. They are slots of a class. */
+/* What a Fault keeps, so that it can find its part: the text that was refused, and how. They are slots of a class. */
 enum { SOURCE, CALL_NUMBER, SLOTS };
 static const char *const slot_names[SLOTS] = {"_source", "_call"};
 
@@ -61,6 +61,7 @@ static const struct {
     [PLAIN] = {"speedate._types", "_plain"},
     [MISSING] = {"speedate._types", "_missing"},
     [ITEMS] = {"speedate._types", "_items"},
+    [TURN] = {"speedate._types", "_turn"},
 };
 
 /* ---- Errors ---- */
@@ -123,13 +124,28 @@ static inline PyObject *source_of(PyObject *object, const Text *text) {
     return text->owner && !PyUnicode_Check(object) ? text->owner : object;
 }
 
-/* Raises an Unrepresentable, which keeps its text as a Fault does, if it is of one. */
+/* How much of a text a size in bytes is: of a str in characters, which begin with any byte but 10xxxxxx. */
+static Py_ssize_t size_in(PyObject *object, const Text *text, size_t taken) {
+    Py_ssize_t size = 0;
+    if (!PyUnicode_Check(object))
+        return (Py_ssize_t)taken;
+    for (size_t i = 0; i < taken; i++)
+        size += ((unsigned char)text->bytes[i] & 0xc0) != 0x80;
+    return size;
+}
+
+static int set_slot(PyObject *error, int slot, PyObject *object) {
+    return PyObject_SetAttrString(error, slot_names[slot], object);
+}
+
+/* Raises an Unrepresentable. If it is of a text, it keeps that as a Fault does, and where the value ends. */
 static PyObject *raise_unrepresentable(const State *state, const char *name, PyObject *object, const Text *text) {
     PyObject *error = PyObject_CallFunction(state->held[UNREPRESENTABLE], "s", name);
+    PyObject *end = error && object ? PyLong_FromSsize_t(size_in(object, text, text->size)) : NULL;
     if (error && object &&
-        (PyObject_SetAttrString(error, slot_names[SOURCE], source_of(object, text)) < 0 ||
-         PyObject_SetAttrString(error, slot_names[CALL_NUMBER], Py_None) < 0))
+        (!end || set_slot(error, SOURCE, source_of(object, text)) < 0 || set_slot(error, CALL_NUMBER, end) < 0))
         Py_CLEAR(error);
+    Py_XDECREF(end);
     return raise_error(error);
 }
 
@@ -421,41 +437,41 @@ typedef int Parse(const Text *text, SpeedateConfig config, Value *out, size_t *t
         return call; \
     }
 #define BYTES text->bytes, text->size
-PARSE(parse_date, speedate_date_parse_rfc3339(BYTES, &out->date))
+PARSE(parse_date, speedate_date_parse_text(BYTES, &out->date))
 PARSE(parse_date_or_timestamp, speedate_date_parse(BYTES, config, &out->date))
 PARSE(parse_date_front, speedate_date_parse_front(BYTES, &out->date, taken))
 PARSE(parse_time, speedate_time_parse(BYTES, config, &out->time))
 PARSE(parse_time_strict, speedate_time_parse_strict(BYTES, config, &out->time))
 PARSE(parse_time_front, speedate_time_parse_front(BYTES, config, &out->time, taken))
-PARSE(parse_date_time, speedate_datetime_parse_rfc3339(BYTES, config, &out->date_time))
+PARSE(parse_date_time, speedate_datetime_parse_text(BYTES, config, &out->date_time))
 PARSE(parse_date_time_or_timestamp, speedate_datetime_parse(BYTES, config, &out->date_time))
 PARSE(parse_date_time_strict, speedate_datetime_parse_strict(BYTES, config, &out->date_time))
 PARSE(parse_date_time_front, speedate_datetime_parse_front(BYTES, config, &out->date_time, taken))
 PARSE(parse_duration, speedate_duration_parse(BYTES, config, &out->duration))
 
-/* How the place of an error is told, after a parser that has refused the text: it is written if the code is a fault. */
-typedef int FindPlace(const Text *text, SpeedateConfig config, size_t *place);
+/* The same, and the part for which a text is refused. It takes longer, so it is called for what a first call refused. */
+typedef int ParseOrPart(const Text *text, SpeedateConfig config, Value *out, size_t *taken, SpeedatePart *part);
 
-#define FIND_PLACE(name, call) \
-    static int name(const Text *text, SpeedateConfig config, size_t *place) { \
-        (void)config; \
+#define PARSE_OR_PART(name, call) \
+    static int name##_or_part(const Text *text, SpeedateConfig config, Value *out, size_t *taken, SpeedatePart *part) { \
+        (void)config, (void)taken; \
         return call; \
     }
-FIND_PLACE(place_of_date, speedate_date_error_place_rfc3339(BYTES, place))
-FIND_PLACE(place_of_date_or_timestamp, speedate_date_error_place(BYTES, config, place))
-FIND_PLACE(place_of_date_front, speedate_date_error_place_front(BYTES, place))
-FIND_PLACE(place_of_time, speedate_time_error_place(BYTES, config, place))
-FIND_PLACE(place_of_time_strict, speedate_time_error_place_strict(BYTES, config, place))
-FIND_PLACE(place_of_time_front, speedate_time_error_place_front(BYTES, config, place))
-FIND_PLACE(place_of_date_time, speedate_datetime_error_place_rfc3339(BYTES, config, place))
-FIND_PLACE(place_of_date_time_or_timestamp, speedate_datetime_error_place(BYTES, config, place))
-FIND_PLACE(place_of_date_time_strict, speedate_datetime_error_place_strict(BYTES, config, place))
-FIND_PLACE(place_of_date_time_front, speedate_datetime_error_place_front(BYTES, config, place))
-FIND_PLACE(place_of_duration, speedate_duration_error_place(BYTES, config, place))
+PARSE_OR_PART(parse_date, speedate_date_parse_or_part_text(BYTES, &out->date, part))
+PARSE_OR_PART(parse_date_or_timestamp, speedate_date_parse_or_part(BYTES, config, &out->date, part))
+PARSE_OR_PART(parse_date_front, speedate_date_parse_or_part_front(BYTES, &out->date, taken, part))
+PARSE_OR_PART(parse_time, speedate_time_parse_or_part(BYTES, config, &out->time, part))
+PARSE_OR_PART(parse_time_strict, speedate_time_parse_or_part_strict(BYTES, config, &out->time, part))
+PARSE_OR_PART(parse_time_front, speedate_time_parse_or_part_front(BYTES, config, &out->time, taken, part))
+PARSE_OR_PART(parse_date_time, speedate_datetime_parse_or_part_text(BYTES, config, &out->date_time, part))
+PARSE_OR_PART(parse_date_time_or_timestamp, speedate_datetime_parse_or_part(BYTES, config, &out->date_time, part))
+PARSE_OR_PART(parse_date_time_strict, speedate_datetime_parse_or_part_strict(BYTES, config, &out->date_time, part))
+PARSE_OR_PART(parse_date_time_front, speedate_datetime_parse_or_part_front(BYTES, config, &out->date_time, taken, part))
+PARSE_OR_PART(parse_duration, speedate_duration_parse_or_part(BYTES, config, &out->duration, part))
 
-/* The parsers, whose faults have places. */
+/* The parsers, whose faults have parts. */
 enum {
-    NO_PLACE,
+    NO_PART,
     DATE,
     DATE_OR_TIMESTAMP,
     DATE_FRONT,
@@ -467,31 +483,32 @@ enum {
     DATE_TIME_STRICT,
     DATE_TIME_FRONT,
     DURATION,
-    ALL_PLACES
+    ALL_PARSERS
 };
 static const struct {
     Parse *parse;
-    FindPlace *find_place;
+    ParseOrPart *parse_or_part;
     int kind; /* of calls, on which it depends what is expected */
-} parsers[ALL_PLACES] = {
-    [NO_PLACE] = {NULL, NULL, SPEEDATE_KIND_VALUES},
-    [DATE] = {parse_date, place_of_date, SPEEDATE_KIND_DATE},
-    [DATE_OR_TIMESTAMP] = {parse_date_or_timestamp, place_of_date_or_timestamp, SPEEDATE_KIND_DATE_OR_TIMESTAMP},
-    [DATE_FRONT] = {parse_date_front, place_of_date_front, SPEEDATE_KIND_DATE},
-    [TIME] = {parse_time, place_of_time, SPEEDATE_KIND_TIME},
-    [TIME_STRICT] = {parse_time_strict, place_of_time_strict, SPEEDATE_KIND_TIME_STRICT},
-    [TIME_FRONT] = {parse_time_front, place_of_time_front, SPEEDATE_KIND_TIME},
-    [DATE_TIME] = {parse_date_time, place_of_date_time, SPEEDATE_KIND_DATETIME},
-    [DATE_TIME_OR_TIMESTAMP] = {parse_date_time_or_timestamp, place_of_date_time_or_timestamp, SPEEDATE_KIND_DATETIME_OR_TIMESTAMP},
-    [DATE_TIME_STRICT] = {parse_date_time_strict, place_of_date_time_strict, SPEEDATE_KIND_DATETIME_STRICT},
-    [DATE_TIME_FRONT] = {parse_date_time_front, place_of_date_time_front, SPEEDATE_KIND_DATETIME},
-    [DURATION] = {parse_duration, place_of_duration, SPEEDATE_KIND_DURATION},
+} parsers[ALL_PARSERS] = {
+#define PARSER(name, kind) {name, name##_or_part, SPEEDATE_KIND_##kind}
+    [NO_PART] = {NULL, NULL, SPEEDATE_KIND_NONE},
+    [DATE] = PARSER(parse_date, DATE),
+    [DATE_OR_TIMESTAMP] = PARSER(parse_date_or_timestamp, DATE_OR_TIMESTAMP),
+    [DATE_FRONT] = PARSER(parse_date_front, DATE),
+    [TIME] = PARSER(parse_time, TIME),
+    [TIME_STRICT] = PARSER(parse_time_strict, TIME_STRICT),
+    [TIME_FRONT] = PARSER(parse_time_front, TIME),
+    [DATE_TIME] = PARSER(parse_date_time, DATETIME),
+    [DATE_TIME_OR_TIMESTAMP] = PARSER(parse_date_time_or_timestamp, DATETIME_OR_TIMESTAMP),
+    [DATE_TIME_STRICT] = PARSER(parse_date_time_strict, DATETIME_STRICT),
+    [DATE_TIME_FRONT] = PARSER(parse_date_time_front, DATETIME),
+    [DURATION] = PARSER(parse_duration, DURATION),
 };
 
 typedef struct {
     Signature signature;
     PyObject *(*make)(const State *state, const Value *value, PyObject *object, const Text *text);
-    int parser, timestamp_parser; /* of those above: the second with timestamps=True, or NO_PLACE */
+    int parser, timestamp_parser; /* of those above: the second with timestamps=True, or NO_PART */
 } Reader;
 
 /* One number for a call and what its faults depend on of a configuration, less than 256, so that Python has it ready. */
@@ -525,7 +542,7 @@ static PyObject *with_hint(const State *state, PyObject *fault, int hint) {
 /* Raises the Fault of a text, which it keeps. */
 static PyObject *refuse(const State *state, int code, PyObject *object, const Text *text, int call,
                         SpeedateConfig config) {
-    if (call == NO_PLACE || code < 1 || code > SPEEDATE_LAST_FAULT)
+    if (call == NO_PART || code < 1 || code > SPEEDATE_LAST_FAULT)
         return raise_fault(state, code);
     PyObject *number = PyLong_FromLong(call_number(call, config));
     PyObject *fault = number ? new_fault(state, code, state->held[ARGUMENTS + code]) : NULL;
@@ -553,7 +570,7 @@ static inline PyObject *read_text(const Reader *reader, GIVEN) {
     Value value;
     if (bind(&reader->signature, arguments, count, keywords, bound) < 0)
         return NULL;
-    if (reader->timestamp_parser != NO_PLACE && take_flag("timestamps", bound[2], &timestamps) < 0)
+    if (reader->timestamp_parser != NO_PART && take_flag("timestamps", bound[2], &timestamps) < 0)
         return NULL;
     if (take_text(bound[0], -1, &text) < 0)
         return NULL;
@@ -565,16 +582,6 @@ static inline PyObject *read_text(const Reader *reader, GIVEN) {
     }
     Py_XDECREF(text.owner);
     return made;
-}
-
-/* How much of a text a size in bytes is: of a str in characters, which begin with any byte but 10xxxxxx. */
-static Py_ssize_t size_in(PyObject *object, const Text *text, size_t taken) {
-    Py_ssize_t size = 0;
-    if (!PyUnicode_Check(object))
-        return (Py_ssize_t)taken;
-    for (size_t i = 0; i < taken; i++)
-        size += ((unsigned char)text->bytes[i] & 0xc0) != 0x80;
-    return size;
 }
 
 static PyObject *with_size(PyObject *made, Py_ssize_t size) {
@@ -613,11 +620,9 @@ static int parse_long_front(int parser, PyObject *object, SpeedateConfig config,
         bool whole;
         if (take_front(object, size, text, &whole) < 0)
             return -1;
-        *code = parsers[parser].parse(text, config, value, taken);
-        size_t end = *taken;
-        if (*code != SPEEDATE_OK)
-            parsers[parser].find_place(text, config, &end);
-        if (whole || end + BEYOND <= text->size)
+        SpeedatePart part;
+        *code = parsers[parser].parse_or_part(text, config, value, taken, &part);
+        if (whole || (*code == SPEEDATE_OK ? *taken : part.end) + BEYOND <= text->size)
             return 0;
         Py_XDECREF(text->owner);
     }
@@ -642,25 +647,29 @@ static inline PyObject *read_front(const Reader *reader, GIVEN) {
             return NULL;
         code = parsers[reader->parser].parse(&text, config, &value, &taken);
     }
-    PyObject *pair = code == SPEEDATE_OK ? with_size(reader->make(state, &value, bound[0], &text),
-                                                     size_in(bound[0], &text, taken))
-                                         : refuse(state, code, bound[0], &text, reader->parser, config);
+    PyObject *pair;
+    if (code == SPEEDATE_OK) {
+        Text front = {text.bytes, taken, text.owner};
+        pair = with_size(reader->make(state, &value, bound[0], &front), size_in(bound[0], &text, taken));
+    } else {
+        pair = refuse(state, code, bound[0], &text, reader->parser, config);
+    }
     Py_XDECREF(text.owner);
     return pair;
 }
 
 static const Reader date_reader = {{"date", {"text", "config", "timestamps"}, 2}, make_date, DATE, DATE_OR_TIMESTAMP};
-static const Reader time_reader = {{"time", {"text", "config"}, 2}, make_time, TIME, NO_PLACE};
+static const Reader time_reader = {{"time", {"text", "config"}, 2}, make_time, TIME, NO_PART};
 static const Reader date_time_reader = {
     {"date_time", {"text", "config", "timestamps"}, 2}, make_date_time, DATE_TIME, DATE_TIME_OR_TIMESTAMP};
-static const Reader duration_reader = {{"duration", {"text", "config"}, 2}, make_duration, DURATION, NO_PLACE};
-static const Reader time_strict_reader = {{"time_strict", {"text", "config"}, 2}, make_time, TIME_STRICT, NO_PLACE};
+static const Reader duration_reader = {{"duration", {"text", "config"}, 2}, make_duration, DURATION, NO_PART};
+static const Reader time_strict_reader = {{"time_strict", {"text", "config"}, 2}, make_time, TIME_STRICT, NO_PART};
 static const Reader date_time_strict_reader = {
-    {"date_time_strict", {"text", "config"}, 2}, make_date_time, DATE_TIME_STRICT, NO_PLACE};
-static const Reader date_front_reader = {{"date_front", {"text"}, 1}, make_date, DATE_FRONT, NO_PLACE};
-static const Reader time_front_reader = {{"time_front", {"text", "config"}, 2}, make_time, TIME_FRONT, NO_PLACE};
+    {"date_time_strict", {"text", "config"}, 2}, make_date_time, DATE_TIME_STRICT, NO_PART};
+static const Reader date_front_reader = {{"date_front", {"text"}, 1}, make_date, DATE_FRONT, NO_PART};
+static const Reader time_front_reader = {{"time_front", {"text", "config"}, 2}, make_time, TIME_FRONT, NO_PART};
 static const Reader date_time_front_reader = {
-    {"date_time_front", {"text", "config"}, 2}, make_date_time, DATE_TIME_FRONT, NO_PLACE};
+    {"date_time_front", {"text", "config"}, 2}, make_date_time, DATE_TIME_FRONT, NO_PART};
 
 #define CALL(name, read) \
     static PyObject *call_##name(GIVEN) { \
@@ -676,111 +685,101 @@ CALL(date_front, read_front)
 CALL(time_front, read_front)
 CALL(date_time_front, read_front)
 
-/* ---- Places ---- */
+/* ---- Parts ---- */
 
-/* A place as Python counts it: one within a character of a str is that of its beginning. */
-static Py_ssize_t place_in(PyObject *object, const Text *text, size_t place) {
-    if (PyUnicode_Check(object))
-        while (place > 0 && place < text->size && ((unsigned char)text->bytes[place] & 0xc0) == 0x80)
-            place--;
-    return size_in(object, text, place);
-}
-
-/* Finds the code and the place in bytes for which a column refuses a text, and says whether there is a place. A column
- * alone refuses a text without an offset, which is missing at its end, and a duration that is too large as a whole. */
-static bool find_in_column(int call, SpeedateConfig config, const Text *text, int *code, size_t *place) {
-    *place = text->size;
-    *code = parsers[call].find_place(text, config, place);
-    return *code != SPEEDATE_OK || call != DURATION;
-}
-
-/* The place of an error in a text of a column, or a negative number. */
-static Py_ssize_t place_in_column(int call, SpeedateConfig config, PyObject *object, const Text *text) {
-    int code;
-    size_t place;
-    return find_in_column(call, config, text, &code, &place) ? place_in(object, text, place) : -1;
-}
-
-/* A part of a text as Python counts it. */
+/* A part of a text as Python counts it. One with a negative place is none. */
 typedef struct {
     Py_ssize_t place, end;
 } Part;
 
-/* Where the part ends in bytes that a fault at a place is about. */
-static size_t end_of(const Text *text, int code, size_t place) {
-    size_t end = place;
-    return speedate_code_part_end(code, text->bytes, text->size, place, &end) == SPEEDATE_OK ? end : place;
+/* The part as Python counts it: a place within a character of a str is that of its beginning. */
+static Part part_in(PyObject *object, const Text *text, SpeedatePart part) {
+    if (PyUnicode_Check(object))
+        while (part.place > 0 && part.place < text->size && ((unsigned char)text->bytes[part.place] & 0xc0) == 0x80)
+            part.place--;
+    return (Part){size_in(object, text, part.place), size_in(object, text, part.end)};
 }
 
-/* The part for which a column refuses a text, or one with a negative place. */
-static Part part_in_column(int call, SpeedateConfig config, PyObject *object, const Text *text) {
-    int code;
-    size_t place;
-    if (!find_in_column(call, config, text, &code, &place))
-        return (Part){-1, -1};
-    return (Part){place_in(object, text, place), size_in(object, text, end_of(text, code, place))};
+/* Finds the part for which a column refuses a text. A column alone refuses a text without an offset, which is missing at its
+ * end, and a duration that is too large as a whole, which has no part. */
+static int part_in_column(int call, SpeedateConfig config, PyObject *object, const Text *text, Part *part) {
+    Value value;
+    size_t taken;
+    SpeedatePart found;
+    int code = parsers[call].parse_or_part(text, config, &value, &taken, &found);
+    if (code == SPEEDATE_OK)
+        found.place = found.end = text->size;
+    *part = code == SPEEDATE_OK && call == DURATION ? (Part){-1, -1} : part_in(object, text, found);
+    return code;
 }
 
-/* The code by which a call refuses a text, and the part of it that the error is about. */
-static int find_error(int call, SpeedateConfig config, PyObject *object, Part *part) {
+/* Finds the part for which a call refuses a text, and gives the code. Of a long text the front may be enough. */
+static int find_part(int call, SpeedateConfig config, PyObject *object, Part *part) {
     bool front = (call == DATE_FRONT || call == TIME_FRONT || call == DATE_TIME_FRONT) && is_long(object), whole = true;
     for (Py_ssize_t size = FRONT;; size *= 8) {
         Text text;
-        size_t at = 0;
+        Value value;
+        size_t taken;
+        SpeedatePart found;
         if ((front ? take_front(object, size, &text, &whole) : take_text(object, -1, &text)) < 0)
             return -1;
-        int code = parsers[call].find_place(&text, config, &at);
-        size_t end = end_of(&text, code, at);
-        bool found = whole || (code != SPEEDATE_OK && end + BEYOND <= text.size);
-        if (found)
-            *part = (Part){place_in(object, &text, at), size_in(object, &text, end)};
+        int code = parsers[call].parse_or_part(&text, config, &value, &taken, &found);
+        bool is_all = whole || (code != SPEEDATE_OK && found.end + BEYOND <= text.size);
+        if (is_all)
+            *part = part_in(object, &text, found);
         Py_XDECREF(text.owner);
-        if (found)
+        if (is_all)
             return code;
     }
 }
 
-/* The place of an error and the end of its part, from what a Fault keeps. */
-static PyObject *call_part(PyObject *module, PyObject *arguments) {
-    (void)module;
-    PyObject *object;
-    int number;
+static int find_part_in_column(int call, SpeedateConfig config, PyObject *object, Part *part) {
     Text text;
-    Part part;
-    if (!PyArg_ParseTuple(arguments, "Oi:_part", &object, &number))
-        return NULL;
+    if (take_text(object, -1, &text) < 0)
+        return -1;
+    int code = part_in_column(call, config, object, &text, part);
+    Py_XDECREF(text.owner);
+    return code;
+}
+
+/* What was expected where a call gave a code. */
+static PyObject *expected_of(const State *state, int code, int call) {
+    char text[SPEEDATE_CODE_TEXT_SIZE];
+    size_t length;
+    SpeedatePart part = SPEEDATE_PART_NONE;
+    part.kind = parsers[call].kind;
+    int failed = speedate_code_expected(code, &part, text, sizeof text, &length);
+    return failed == SPEEDATE_OK ? PyUnicode_FromStringAndSize(text, (Py_ssize_t)length) : raise_fault(state, failed);
+}
+
+/* Finds the part of a refusal, from the text and the number that it keeps. */
+static int part_of_kept(PyObject *object, int number, Part *part) {
     bool of_column = number >= OF_COLUMN;
     int call = number & 15;
     SpeedateConfig config = {
         .timestamp_unit = number >> 4 & 3, .overflow_behavior = number >> 6 & 1, .iso_order = number >> 7 & 1};
-    if (call == NO_PLACE || call >= ALL_PLACES || call_number(call, config) + (of_column ? OF_COLUMN : 0) != number)
-        return PyErr_Format(PyExc_ValueError, "no call has the number %d", number);
-    if (of_column) {
-        if (take_text(object, -1, &text) < 0)
-            return NULL;
-        part = part_in_column(call, config, object, &text);
-        Py_XDECREF(text.owner);
-        return part.place < 0 ? PyTuple_Pack(2, Py_None, Py_None) : Py_BuildValue("nn", part.place, part.end);
-    }
-    int code = find_error(call, config, object, &part);
-    if (code == SPEEDATE_OK || code > SPEEDATE_LAST_FAULT)
-        return PyErr_SetString(PyExc_ValueError, "the text is not refused"), NULL;
-    return code < 0 ? NULL : Py_BuildValue("nn", part.place, part.end);
+    if (call == NO_PART || call >= ALL_PARSERS || call_number(call, config) + (of_column ? OF_COLUMN : 0) != number)
+        return PyErr_Format(PyExc_ValueError, "no call has the number %d", number), -1;
+    int code = (of_column ? find_part_in_column : find_part)(call, config, object, part);
+    if (code > SPEEDATE_LAST_FAULT || (code == SPEEDATE_OK && !of_column))
+        return PyErr_SetString(PyExc_ValueError, "the text is not refused"), -1;
+    return code < 0 ? -1 : 0;
 }
 
-/* What was expected where a call gave a code, from the number of the call. */
-static PyObject *call_expected(PyObject *module, PyObject *arguments) {
-    char text[SPEEDATE_CODE_TEXT_SIZE];
-    size_t length;
+/* The place of an error, the end of its part and what was expected, from the code and what a Fault keeps. The number is 0 if
+ * no call raised it, or one on a number. */
+static PyObject *call_found(PyObject *module, PyObject *arguments) {
+    PyObject *object;
     int code, number;
-    if (!PyArg_ParseTuple(arguments, "ii:_expected", &code, &number))
+    Part part = {-1, -1};
+    if (!PyArg_ParseTuple(arguments, "iOi:_found", &code, &object, &number) ||
+        (number != NO_PART && part_of_kept(object, number, &part) < 0))
         return NULL;
-    int call = number & 15;
-    if (call >= ALL_PLACES)
-        return PyErr_Format(PyExc_ValueError, "no call has the number %d", number);
-    int failed = speedate_code_expected(code, parsers[call].kind, text, sizeof text, &length);
-    return failed == SPEEDATE_OK ? PyUnicode_FromStringAndSize(text, (Py_ssize_t)length)
-                                 : raise_fault(PyModule_GetState(module), failed);
+    PyObject *expected = expected_of(PyModule_GetState(module), code, number & 15);
+    if (!expected)
+        return NULL;
+    return part.place < 0 ? Py_BuildValue("OON", Py_None, Py_None, expected)
+                          : Py_BuildValue("nnN", part.place, part.end, expected);
 }
 
 /* ---- Timestamps ---- */
@@ -842,6 +841,7 @@ static PyObject *call_date_time_from_timestamp(GIVEN) {
 #define LONG_BYTES 65536   /* of lines, from which on other threads run meanwhile */
 #define REFUSED 256        /* lines at a time that are refused */
 #define ROWS 1024          /* of a table of faults, at a time */
+#define TURN_ITEMS 1024    /* after which other threads may have their turn */
 
 /* How the library reads lines into numbers. */
 typedef int ReadLines(const Text *text, SpeedateConfig config, SpeedateColumnConfig column, int64_t *numbers,
@@ -850,7 +850,7 @@ typedef int ReadLines(const Text *text, SpeedateConfig config, SpeedateColumnCon
 #define READ_LINES(name, call, number) \
     static int name(const Text *text, SpeedateConfig config, SpeedateColumnConfig column, number *numbers, \
                     size_t room, SpeedateProgress *progress) { \
-        return call(BYTES, config, column, numbers, room, progress); \
+        return call(BYTES, config, column, numbers, room, NULL, 0, progress); \
     }
 READ_LINES(read_date_times, speedate_datetime_column, int64_t)
 READ_LINES(read_clocks, speedate_datetime_clock_column, int64_t)
@@ -899,13 +899,13 @@ static int number_of_date_time(const ColumnReader *reader, const Text *text, con
     (void)text;
     if (!value->date_time.time.has_offset && !reader->lines.assumes_utc)
         return SPEEDATE_TZ_REQUIRED;
-    return speedate_datetime_timestamp_tz_us(value->date_time, number);
+    return speedate_datetime_unix_microseconds(value->date_time, number);
 }
 
 static int number_of_date(const ColumnReader *reader, const Text *text, const Value *value, int64_t *number) {
     (void)reader, (void)text;
     int32_t days;
-    int code = speedate_date_days_since(value->date, (SpeedateDate){1970, 1, 1}, &days);
+    int code = speedate_date_days_between((SpeedateDate){1970, 1, 1}, value->date, &days);
     if (code == SPEEDATE_OK)
         *number = days;
     return code;
@@ -953,7 +953,7 @@ static inline int read_number(const ColumnReader *reader, const Text *text, int6
 /* The numbers of timestamps. */
 
 static int date_time_of_timestamp(const ColumnReader *reader, int64_t timestamp, int64_t *number) {
-    int code = speedate_timestamp_microseconds(timestamp, reader->config, number);
+    int code = speedate_datetime_timestamp_microseconds(timestamp, reader->config, number);
     bool lacks_offset = !reader->config.has_timestamp_offset && !reader->lines.assumes_utc;
     return code == SPEEDATE_OK && lacks_offset ? SPEEDATE_TZ_REQUIRED : code;
 }
@@ -962,7 +962,7 @@ static int date_time_of_timestamp(const ColumnReader *reader, int64_t timestamp,
 static int clock_of_timestamp(const ColumnReader *reader, int64_t timestamp, int64_t *number) {
     SpeedateConfig config = reader->config;
     config.timestamp_offset = config.has_timestamp_offset = 0;
-    return speedate_timestamp_microseconds(timestamp, config, number);
+    return speedate_datetime_timestamp_microseconds(timestamp, config, number);
 }
 
 static int date_time_offset_of_timestamp(const ColumnReader *reader, int64_t timestamp, int64_t *number) {
@@ -1019,6 +1019,7 @@ typedef struct {
     int64_t *numbers;
     size_t room, count; /* of the block */
     Py_ssize_t before;  /* how many numbers the array has */
+    bool keeps_lock;    /* while the next lines are read */
 } Column;
 
 static Py_ssize_t next_index(const Column *column) {
@@ -1042,18 +1043,30 @@ static int add_to_array(const State *state, PyObject *array, void *memory, size_
     return none ? 0 : -1;
 }
 
-/* Moves the numbers of the block to the array. Signals are heard, and other threads may run. */
+/* Moves the numbers of the block to the array. Signals are heard. */
 static int end_block(Column *column) {
     size_t count = column->count;
     if (add_to_array(column->state, column->array, column->numbers, count * sizeof *column->numbers) < 0)
         return -1;
     column->before += (Py_ssize_t)count;
     column->count = 0;
-    if (count == BLOCK) {
-        Py_BEGIN_ALLOW_THREADS
-        Py_END_ALLOW_THREADS
-    }
     return PyErr_CheckSignals();
+}
+
+/* Hands the lock to another thread, if one has waited for it as long as CPython has a thread wait. CPython does so when a
+ * function of Python begins. To release the lock here for a moment would not do: before that time a waiting thread only
+ * begins to wait anew. */
+static int give_turn(const Column *column) {
+    PyObject *none = PyObject_CallObject(column->state->held[TURN], NULL);
+    Py_XDECREF(none);
+    return none ? 0 : -1;
+}
+
+/* Goes on to the next item. */
+static int end_item(Column *column) {
+    if (++column->count % TURN_ITEMS == 0 && give_turn(column) < 0)
+        return -1;
+    return column->count < column->room ? 0 : end_block(column);
 }
 
 /* ---- Texts of columns that are refused ---- */
@@ -1100,7 +1113,10 @@ static int add_row(Column *column, int code, Py_ssize_t index, PyObject *item, c
     Table *table = column->table;
     table->indices[table->count] = index;
     table->codes[table->count] = (uint8_t)code;
-    table->places[table->count] = text ? place_in_column(reader->parser, reader->config, item, text) : -1;
+    Part part = {-1, -1};
+    if (text)
+        part_in_column(reader->parser, reader->config, item, text, &part);
+    table->places[table->count] = part.place;
     return ++table->count < ROWS ? 0 : end_rows(column->state, table);
 }
 
@@ -1229,10 +1245,12 @@ static int add_some_lines(Column *column, Text *text, bool is_last) {
     Read read;
     read.count = read.lines = 0;
     lines.more_follows = !is_last;
-    PyThreadState *thread = text->size >= LONG_BYTES ? PyEval_SaveThread() : NULL;
+    PyThreadState *thread = text->size >= LONG_BYTES && !column->keeps_lock ? PyEval_SaveThread() : NULL;
     int code = read_lines(column, text, lines, &read);
     if (thread)
         PyEval_RestoreThread(thread);
+    /* Where most lines are refused, the lock would be back before another thread has woken up. */
+    column->keeps_lock = read.count == REFUSED;
     for (size_t i = 0; i < read.count; i++) {
         const Refused *it = &read.refused[i];
         if (refuse_text(column, it->code, column->before + (Py_ssize_t)it->place, Py_None, &it->text, 0, true) < 0)
@@ -1248,7 +1266,7 @@ static int add_some_lines(Column *column, Text *text, bool is_last) {
 static int add_ended_lines(Column *column, Text *text) {
     for (size_t size = text->size + 1; text->size > 0 && text->size < size;) {
         size = text->size;
-        if (add_some_lines(column, text, false) < 0)
+        if (add_some_lines(column, text, false) < 0 || (column->keeps_lock && give_turn(column) < 0))
             return -1;
     }
     return 0;
@@ -1436,8 +1454,8 @@ static int add_integers(Column *column, const Py_buffer *buffer) {
     for (size_t i = 0; status == 0 && i < count; i++) {
         const char *at = (const char *)buffer->buf + i * (size_t)buffer->itemsize;
         status = add_integer(column, buffer, at, column->numbers + column->count);
-        if (status == 0 && ++column->count == column->room)
-            status = end_block(column);
+        if (status == 0)
+            status = end_item(column);
     }
     return status;
 }
@@ -1460,8 +1478,8 @@ static int add_items(Column *column, PyObject *items, size_t count, bool are_lin
     int status = iterator ? start_block(column, count) : -1;
     while (status == 0 && (item = PyIter_Next(iterator)) != NULL) {
         status = read_item(column, item, are_lines, column->numbers + column->count);
-        if (status == 0 && ++column->count == column->room)
-            status = end_block(column);
+        if (status == 0)
+            status = end_item(column);
         Py_DECREF(item);
     }
     Py_XDECREF(iterator);
@@ -1564,7 +1582,7 @@ static PyObject *read_column(const ColumnCall *call, GIVEN) {
         PyErr_SetString(PyExc_ValueError, "strict and timestamps exclude each other");
         return NULL;
     }
-    reader->lines.form = strict ? SPEEDATE_FORM_STRICT : timestamps ? SPEEDATE_FORM_TIMESTAMP : SPEEDATE_FORM_TEXT;
+    reader->lines.form = strict ? SPEEDATE_FORM_STRICT : timestamps ? SPEEDATE_FORM_OR_TIMESTAMP : SPEEDATE_FORM_TEXT;
     reader->lines.assumes_utc = naive_is_utc;
     reader->lines.drops_returns = !return_is_text;
     reader->lines.goes_on = nat;
@@ -1598,25 +1616,25 @@ static const ColumnCall date_column_reader = {
     read_dates,
     number_of_date,
     date_of_timestamp,
-    {DATE, DATE_OR_TIMESTAMP, NO_PLACE}};
+    {DATE, DATE_OR_TIMESTAMP, NO_PART}};
 static const ColumnCall time_column_reader = {
     {"time_column", {"texts", OTHERS, "strict"}, 2},
     read_times,
     number_of_line,
     NULL,
-    {TIME, NO_PLACE, TIME_STRICT}};
+    {TIME, NO_PART, TIME_STRICT}};
 static const ColumnCall time_offset_column_reader = {
     {"time_offset_column", {"texts", OTHERS, "strict"}, 2},
     read_time_offsets,
     number_of_time_offset,
     NULL,
-    {TIME, NO_PLACE, TIME_STRICT}};
+    {TIME, NO_PART, TIME_STRICT}};
 static const ColumnCall duration_column_reader = {
     {"duration_column", {"texts", OTHERS}, 2},
     read_durations,
     number_of_line,
     NULL,
-    {DURATION, NO_PLACE, NO_PLACE}};
+    {DURATION, NO_PART, NO_PART}};
 
 CALL(date_time_column, read_column)
 CALL(date_time_clock_column, read_column)
@@ -1963,11 +1981,12 @@ static PyMethodDef methods[] = {
            "texts. The year 0 is accepted, although `date_time` has no such value.\n\n"
            "Texts and timestamps without an offset fail with `tz_required`, or count as UTC with `naive=\"utc\"`. A timestamp has\n"
            "the offset of the configuration: for Unix time it is `Config(timestamp_offset=0)`.\n\n"
-           "The first text that is refused raises its `Fault`, whose `index` is its place in the column. With `faults=\"nat\"` the\n"
-           "smallest number, NumPy's NaT, stands in the place of each such text. If `faults` is a list, their faults are appended\n"
-           "to it too. If it is a dict, it gets arrays with the `index`, the `code` and the `place` of each fault instead, which\n"
-           "cost little; a place of -1 is none, and a call that fails leaves it as it was. `None`, NaN, `pandas.NA` and\n"
-           "`pandas.NaT` are NaT, and no fault. So is an empty text with `empty=\"nat\"`.\n\n"
+           "The first text that is refused raises its `Fault`, whose `index` is its position in the column: in pandas its row\n"
+           "is `frame.iloc[fault.index]`, whatever the labels are. With `faults=\"nat\"` each such text gives the smallest\n"
+           "number, which is NaT in NumPy. If `faults` is a list, their faults are appended to it too. If it is a dict, it gets\n"
+           "arrays with the `index`, the `code` and the `place` of each fault instead, which cost little; a place of -1 is none,\n"
+           "and a call that fails leaves it as it was. `None`, NaN, `pandas.NA` and `pandas.NaT` are NaT, and no fault. So is an\n"
+           "empty text with `empty=\"nat\"`.\n\n"
            ">>> date_time_column([\"1970-01-01T00:00:01Z\", \"1970-01-01T01:00+01:00\"])\n"
            "array('q', [1000000, 0])\n"
            ">>> faults = []\n"
@@ -2048,10 +2067,8 @@ static PyMethodDef methods[] = {
            ">>> text(datetime.timedelta(microseconds=-1))\n"
            "'-PT0.000001S'\n"),
     {"_words", call_words, METH_O, "_words(code)\n--\n\nThe name and the documentation of a fault."},
-    {"_part", call_part, METH_VARARGS,
-     "_part(source, call)\n--\n\nThe place of an error and the end of its part, from what its Fault keeps."},
-    {"_expected", call_expected, METH_VARARGS,
-     "_expected(code, call)\n--\n\nWhat was expected, from what a Fault keeps, or of no call, from 0."},
+    {"_found", call_found, METH_VARARGS,
+     "_found(code, source, call)\n--\n\nThe place of an error, the end of its part and what was expected, from what a Fault keeps."},
     {NULL, NULL, 0, NULL},
 };
 

@@ -9,29 +9,36 @@ import sys
 
 
 class Refusal(ValueError):
-    """Why a text, or a number, has no value: a `Fault` or an `Unrepresentable`, by its `name`.
+    """Why a text, or a number, has no value: a `Fault` or an `Unrepresentable`. Both have the same attributes.
 
-    Its `text` is the text that was refused, of a column too: a `str`, otherwise its bytes. Its `place` is where the fault
-    lies in it, counted in characters of a `str`, otherwise in bytes. Both are `None` for a number, and for a refusal that no
-    call raised. The `place` is `None` for `number_too_large` too.
+    - `name`, `code` and `documentation`: of the fault. The `code` is its number in C, and 0 for an `Unrepresentable`, whose
+      text the library accepts.
+    - `text`: what was refused, in a column too: a `str`, otherwise its bytes.
+    - `place` and `end`: the part of the text that is wrong, counted in characters of a `str`, otherwise in bytes. They are
+      equal if the part is missing.
+    - `expected`: what the call expected there, a phrase for people.
+    - `index`: the position of the text in a column, and `None` in any other call. It is not a label of pandas:
+      `frame.iloc[fault.index]` is the row.
+    - `hint`: `None`, or what alone refuses the text: a byte order mark, or a line ending.
 
-    Its `index` is the place of the text in a column, and `None` in any other call.
+    The `text`, `place` and `end` are `None` for a number, and for a refusal that no call raised. For `number_too_large` the
+    `place` and `end` are `None` too. A copy has all of them but the text.
 
     >>> for text in ("2021-02-29", "0000-01-01"):
     ...     try:
     ...         date(text)
     ...     except Refusal as refusal:
-    ...         refusal.name, refusal.text, refusal.place
-    ('out_of_range_day', '2021-02-29', 8)
-    ('year_zero', '0000-01-01', 0)
+    ...         refusal.name, refusal.code, refusal.text[refusal.place:refusal.end], refusal.expected
+    ('out_of_range_day', 22, '29', 'a day that the month has')
+    ('year_zero', 0, '0000-01-01', 'a year from 0001 to 9999')
     """
 
     __module__ = "speedate"
-    # What the part is found from, if a call has refused a text: that text, and a number for the call. In a copy the source is
-    # the part itself.
+    # What the part is found from, if a call has refused a text: that text, and a number for the call. In the place of the
+    # number are the place, the end and the phrase, once they are found. A copy has these alone.
     __slots__ = "_source", "_call", "__weakref__"
     name: str
-    index = None
+    index = hint = None
 
     def __init__(self, name):
         super().__init__(name)
@@ -39,35 +46,36 @@ class Refusal(ValueError):
 
     @property
     def text(self):
-        if not hasattr(self, "_call"):
-            return None
-        return self._source.tobytes() if isinstance(self._source, memoryview) else self._source
+        source = getattr(self, "_source", None)
+        return source.tobytes() if isinstance(source, memoryview) else source
 
     @property
     def place(self):
         return self._part()[0]
 
+    @property
+    def end(self):
+        return self._part()[1]
+
+    @property
+    def expected(self):
+        return self._part()[2]
+
     def _part(self):
-        """The place in the text, and where the part ends that begins there."""
-        return self._found() if hasattr(self, "_call") else getattr(self, "_source", (None, None))
-
-    def _found(self):
-        from ._speedate import _part
-
-        return _part(self._source, self._call)
+        """The place, the end and what was expected, which are found once."""
+        part = getattr(self, "_call", None)
+        if not isinstance(part, tuple):
+            part = self._call = self._found(part)
+        return part
 
     def __reduce__(self):
-        return type(self), self.args, {**vars(self), "_source": self._part()}
+        return type(self), self.args, {**vars(self), "_call": self._part()}
 
 
 class Fault(Refusal):
-    """Why the library refuses a text, or a number: the `name` of the fault, its `code` in C, and its `documentation`.
+    """Why the library refuses a text, or a number. Its attributes are those of a `Refusal`.
 
-    Its `expected` is a phrase for people: what the call expected at the place. Its `end` is where the part of the text ends
-    that begins there, counted as the place is, and the place itself if the part is missing.
-
-    Its `text`, `place` and `index` are those of a `Refusal`. Its `str` tells the index too, and its `hint`. This is `None`,
-    or says what alone refuses the text: a byte order mark, or a line ending.
+    Its `str` is the name, with the index in a column, and the `hint`.
 
     >>> try:
     ...     time("12:13:60")
@@ -91,7 +99,6 @@ class Fault(Refusal):
     code: int
     name: str
     documentation: str
-    hint = None
 
     def __init__(self, code, index=None):
         from ._speedate import _words
@@ -102,20 +109,10 @@ class Fault(Refusal):
         self.name, self.documentation = _words(self.code)
         ValueError.__init__(self, *(it for it in (self.code, self.index) if it is not None))
 
-    @property
-    def end(self):
-        return self._part()[1]
+    def _found(self, call):
+        from ._speedate import _found
 
-    @property
-    def expected(self):
-        from ._speedate import _expected
-
-        # A copy has it, and no call.
-        return vars(self).get("_expected") or _expected(self.code, getattr(self, "_call", 0))
-
-    def __reduce__(self):
-        kind, arguments, state = super().__reduce__()
-        return kind, arguments, {**state, "_expected": self.expected}
+        return _found(self.code, None, 0) if call is None else _found(self.code, self._source, call)
 
     def __str__(self):
         told = self.name if self.index is None else f"{self.name} in text {self.index}"
@@ -128,7 +125,7 @@ class Fault(Refusal):
 class Unrepresentable(Refusal):
     """A value that the library has and Python has not: its `name` is `year_zero` or `duration_too_small`.
 
-    Its `text` and `place` are those of a `Refusal`: the whole value is wrong, so the place is 0.
+    Its other attributes are those of a `Refusal`. The part that is wrong is the whole value.
 
     >>> date("0000-01-01")
     Traceback (most recent call last):
@@ -140,9 +137,12 @@ class Unrepresentable(Refusal):
 
     __module__ = "speedate"
     __slots__ = ()
+    code = 0
+    documentation = "Python has no such value"
 
-    def _found(self):
-        return 0, None
+    def _found(self, end):
+        expected = {"year_zero": "a year from 0001 to 9999", "duration_too_small": "a duration of at least -999999999 days"}
+        return (None if end is None else 0), end, expected.get(self.name, "a value that Python has")
 
 
 def _wrong(name, value, *kinds):
@@ -244,6 +244,10 @@ def _missing():
     """What stands for a missing value in pandas, if that is loaded."""
     pandas = sys.modules.get("pandas")
     return getattr(pandas, "NA", None), getattr(pandas, "NaT", None)
+
+
+def _turn():
+    """CPython lets another thread run when a function begins, if that has waited long enough."""
 
 
 def _items(texts):

@@ -2,12 +2,19 @@ from typing import Literal, Optional, Union, final
 
 class Refusal(ValueError):
     name: str
+    code: int
+    documentation: str
     index: Optional[int]
+    hint: Optional[str]
     def __init__(self, name: str) -> None: ...
     @property
     def text(self) -> Union[str, bytes, None]: ...
     @property
     def place(self) -> Optional[int]: ...
+    @property
+    def end(self) -> Optional[int]: ...
+    @property
+    def expected(self) -> str: ...
 
 class Fault(Refusal):
     name: str
@@ -15,10 +22,6 @@ class Fault(Refusal):
     documentation: str
     index: Optional[int]
     hint: Optional[str]
-    @property
-    def end(self) -> Optional[int]: ...
-    @property
-    def expected(self) -> str: ...
     def __init__(self, code: int, index: Optional[int] = None) -> None: ...
 
 class Unrepresentable(Refusal):

@@ -1,13 +1,21 @@
 """Runs the blocks of a document that have no prompt: python3 examples.py DOCUMENT, in a folder with what they read.
 
-What reads a frame of pandas runs on one that is sorted, on one that is filtered and on the partitions of Dask too. A block
-whose modules are not there is left out, and a line says so.
+What reads a frame of pandas runs on one that is sorted, on one that is filtered and on the partitions of Dask too, and on a
+file with each word that pandas takes for a missing value. A block whose modules are not there is left out, and a line says
+so. So is the table of what other calls do with some cells, for another version of pandas than the one that it names.
 """
+import array
+import datetime
 import functools
 import pathlib
 import re
+import shutil
 import sys
+import tempfile
 import types
+import warnings
+
+import speedate
 
 # Of a block that has the word: what stands before it, a value after it, and what this is.
 CASES = {
@@ -36,9 +44,18 @@ def moved(frame, block):
 
     names = {}
     exec("import datetime, numpy, speedate", names)
-    names["pandas"] = types.SimpleNamespace(**{**vars(pandas), "read_csv": lambda _: frame.copy()})
+    names["pandas"] = types.SimpleNamespace(**{**vars(pandas), "read_csv": lambda *_, **named: frame.copy()})
     exec(block, names)
+    check_refused(frame, names["refused"], [None, "", *frame["moment"][names["frame"]["moment"].notna()]])
     return names["frame"]
+
+
+def check_refused(frame, refused, accepted):
+    """The rows of a frame that are refused have their labels."""
+    wanted = frame["moment"][~frame["moment"].isin(accepted)]
+    assert refused.index.tolist() == wanted.index.tolist() and refused["text"].tolist() == wanted.tolist(), (refused, wanted)
+    parts = [(text, text[place:end]) for text, place, end in zip(refused["text"], refused["place"], refused["end"])]
+    assert all(part == "30" for text, part in parts if text.startswith("2021-02-30")), parts
 
 
 def frames():
@@ -46,7 +63,8 @@ def frames():
     import pandas
 
     texts = [f"{1700 + it * 7 % 500}-0{it % 9 + 1}-1{it % 10}T{it % 24:02}:00{('Z', '+01:00', '-05:30')[it % 3]}" for it in range(500)]
-    frame = pandas.DataFrame({"number": range(500), "moment": [None if it % 50 == 7 else text for it, text in enumerate(texts)]})
+    cells = {7: None, 8: "2021-02-30T00:00Z", 9: ""}
+    frame = pandas.DataFrame({"number": range(500), "moment": [cells.get(it % 50, text) for it, text in enumerate(texts)]})
     yield "sorted", frame.sort_values("moment"), moved
     yield "filtered", frame[frame["number"] % 3 == 1], moved
     yield "with an index of texts", frame.set_index(pandas.Index([f"row {it % 7}" for it in range(500)])), moved
@@ -64,7 +82,7 @@ def partly(frame, block):
     import dask.dataframe
     import pandas
 
-    wanted = frame.assign(moment=pandas.to_datetime(frame["moment"], utc=True))
+    wanted = frame.assign(moment=pandas.to_datetime(frame["moment"], utc=True, errors="coerce"))
     with dask.config.set(scheduler="synchronous"):
         return dask.dataframe.from_pandas(frame, npartitions=4).map_partitions(functools.partial(moved, block=block), meta=wanted.head(0)).compute()
 
@@ -73,10 +91,71 @@ def check_frames(block):
     import pandas
 
     for name, frame, run in frames():
-        told, wanted = run(frame, block)["moment"], pandas.to_datetime(frame["moment"], utc=True)
+        told, wanted = run(frame, block)["moment"], pandas.to_datetime(frame["moment"], utc=True, errors="coerce")
         assert told.index.tolist() == wanted.index.tolist(), f"a frame that is {name} has other rows after\n{block}"
         wrong = sum(here is not there and here != there for here, there in zip(told, wanted))
         assert wrong == 0, f"a frame that is {name} has {wrong} wrong moments after\n{block}"
+
+
+def check_missing_words(block):
+    """No cell of a file is missing but an empty one, whatever pandas takes its word for."""
+    from pandas._libs.parsers import STR_NA_VALUES
+
+    words = sorted(STR_NA_VALUES)
+    names, folder = {}, pathlib.Path(tempfile.mkdtemp())
+    (folder / "payments.csv").write_text("name,moment\n" + "".join(f"x,{it}\n" for it in [*words, "2026-11-01T08:00:00Z"]))
+    exec("import numpy, pandas, speedate", names)
+    exec(block.replace('"payments.csv"', repr(str(folder / "payments.csv"))), names)
+    shutil.rmtree(folder)
+    assert "" in words and names["refused"]["text"].tolist() == [it for it in words if it], names["refused"]
+    assert len(words) == 18, words
+
+
+def way(call):
+    """What a call does with a column, in a word of the table: the last cell of the column says it."""
+    import pandas
+
+    try:
+        told = call()
+    except (TypeError, ValueError):
+        return "error"
+    if getattr(told, "dtype", None) == object:
+        return "objects"
+    if isinstance(told, array.array):
+        return "NaT" if told[-1] == -(2**63) else "accepted"
+    last = list(told)[-1]
+    if last is pandas.NaT:
+        return "NaT"
+    return {(2020, 2, 29): "29 February", (2020, 1, 2): "2 January"}.get((last.year, last.month, last.day), "accepted")
+
+
+def check_ways(text):
+    """The table of what other calls do with some cells."""
+    header, rows = re.search(r"^\| Cells (\|.*)\n.*\n((?:\|.*\n)+)", text, re.M).groups()
+    calls, version = re.findall(r"`(.*?)`", header), re.search(r"by pandas ([\d.]+)", text)[1]
+    try:
+        import pandas
+    except ImportError:
+        return print("not tried: the table of other calls, since there is no pandas")
+    if pandas.__version__ != version or not sys.version_info >= (3, 11):
+        return print(f"not tried: the table of other calls, which is of pandas {version} and Python 3.11")
+    for row in rows.splitlines():
+        cells, *wanted = row.strip("| ").split(" | ")
+        column = [None if it == "a null" else it.strip("`") for it in cells.split(", ")]
+        with tempfile.TemporaryDirectory() as folder, warnings.catch_warnings():
+            warnings.simplefilter("ignore")
+            path = f"{folder}/payments.csv"
+            pandas.DataFrame({"moment": column}).to_csv(path, index=False)
+            texts = pandas.read_csv(path, dtype=str, keep_default_na=False)["moment"]
+            given = {"texts": texts.where(texts != "", None), "pandas": pandas, "datetime": datetime, **vars(speedate)}
+            given["datetime"] = datetime
+            told = [way(lambda: read_by(it.replace("payments.csv", path), given)) for it in calls]
+        assert told == wanted, f"{row} has to be {told}"
+
+
+def read_by(call, given):
+    told = eval(call, given)
+    return told["moment"] if hasattr(told, "columns") else told
 
 
 sys.path.append(str(pathlib.Path(__file__).resolve().parents[1] / "examples"))
@@ -97,3 +176,5 @@ for block in re.findall(r"^```python\n((?!>>>).*?)^```$", text, re.M | re.S):
         assert eval(value, names) == eval(wanted, names), f"{value} is {eval(value, names)} after\n{block}"
     if "pandas.read_csv" in block:
         check_frames(block)
+        check_missing_words(block)
+check_ways(text)

@@ -112,12 +112,18 @@ def _zone(offset):
 _TEXT = [ctypes.c_char_p, ctypes.c_size_t]
 _SIZE = ctypes.POINTER(ctypes.c_size_t)
 _PRINTED = [ctypes.POINTER(ctypes.c_char), ctypes.c_size_t, _SIZE]
+
+
+class _Part(ctypes.Structure):
+    _fields_ = [("place", ctypes.c_size_t), ("end", ctypes.c_size_t), ("kind", ctypes.c_int32)]
+
+
 _TO_DATE, _TO_TIME, _TO_DATE_TIME, _TO_DURATION = map(ctypes.POINTER, (_Date, _Time, _DateTime, _Duration))
 _CALLS = {
     "code_name": [ctypes.c_int, *_PRINTED],
     "code_documentation": [ctypes.c_int, *_PRINTED],
     "date_parse": [*_TEXT, _Config, _TO_DATE],
-    "date_parse_rfc3339": [*_TEXT, _TO_DATE],
+    "date_parse_text": [*_TEXT, _TO_DATE],
     "date_parse_front": [*_TEXT, _TO_DATE, _SIZE],
     "date_day_number": [_Date, ctypes.POINTER(ctypes.c_uint32)],
     "date_from_timestamp": [ctypes.c_int64, ctypes.c_uint8, _Config, _TO_DATE],
@@ -128,24 +134,22 @@ _CALLS = {
     "time_from_timestamp": [ctypes.c_uint32, ctypes.c_uint32, _Config, _TO_TIME],
     "time_to_text": [_Time, *_PRINTED],
     "datetime_parse": [*_TEXT, _Config, _TO_DATE_TIME],
-    "datetime_parse_rfc3339": [*_TEXT, _Config, _TO_DATE_TIME],
+    "datetime_parse_text": [*_TEXT, _Config, _TO_DATE_TIME],
     "datetime_parse_strict": [*_TEXT, _Config, _TO_DATE_TIME],
     "datetime_parse_front": [*_TEXT, _Config, _TO_DATE_TIME, _SIZE],
     "datetime_from_timestamp": [ctypes.c_int64, ctypes.c_uint32, _Config, _TO_DATE_TIME],
-    "datetime_timestamp_tz": [_DateTime, ctypes.POINTER(ctypes.c_int64)],
+    "datetime_unix_seconds": [_DateTime, ctypes.POINTER(ctypes.c_int64)],
     "datetime_to_text": [_DateTime, *_PRINTED],
     "duration_parse": [*_TEXT, _Config, _TO_DURATION],
     "duration_to_text": [_Duration, *_PRINTED],
 }
-_PLACES = {
-    name.replace("_parse", "_error_place"): [*_TEXT, *[_Config] * (_Config in types), _SIZE]
-    for name, types in _CALLS.items() if "_parse" in name}
+_PARTS = {name.replace("_parse", "_parse_or_part"): [*types, ctypes.POINTER(_Part)] for name, types in _CALLS.items() if "_parse" in name}
 
 
 def _load(path):
     """The library, with the types of its calls."""
     library = ctypes.PyDLL(str(path))
-    for name, types in {**_CALLS, **_PLACES}.items():
+    for name, types in {**_CALLS, **_PARTS}.items():
         call = getattr(library, f"speedate_{name}")
         call.argtypes, call.restype = types, ctypes.c_int
     return library
@@ -247,16 +251,26 @@ def _counted(text, place):
     return sum(it <= place for it in itertools.accumulate(len(it.encode("utf-8", "surrogatepass")) for it in text))
 
 
+def _outs(call):
+    """What a parser writes to."""
+    return [it._type_() for it in call.argtypes if hasattr(it, "_type_") and it not in _TEXT]
+
+
+def _parsed_or_part(call, whole, *numbers):
+    """The code for which a text is refused, and the part, which another call gives than the parser."""
+    part = _Part()
+    other = getattr(_library, call.__name__.replace("_parse", "_parse_or_part"))
+    return other(whole, len(whole), *numbers, *_outs(call), part), part
+
+
 def _fault(call, code, text, *numbers):
     """The fault of a text, with its place, and a hint if nothing but a byte order mark refuses it."""
-    fault, whole, place = Fault(code), _bytes(text), ctypes.c_size_t()
-    name = call.__name__.replace("speedate_", "").replace("_parse", "_error_place")
-    assert getattr(_library, f"speedate_{name}")(whole, len(whole), *numbers, place) == code
-    fault.place, fault.text = _counted(text, place.value), _kept(text)
+    fault, whole = Fault(code), _bytes(text)
+    told, part = _parsed_or_part(call, whole, *numbers)
+    assert told == code
+    fault.place, fault.text = _counted(text, part.place), _kept(text)
     if whole.startswith(MARK):
-        *_, out = call.argtypes[: call.argtypes.index(_SIZE) if _SIZE in call.argtypes else None]
-        more = [ctypes.c_size_t()] if name.endswith("_front") else []
-        if call(whole[3:], len(whole) - 3, *numbers, out._type_(), *more) == 0:
+        if call(whole[3:], len(whole) - 3, *numbers, *_outs(call)) == 0:
             fault.hint = HINTS[True, False]
     return fault
 
@@ -297,7 +311,7 @@ def _read_front(call, out, text, *numbers):
 def date(text, config=None, *, timestamps=False):
     if timestamps is False:
         _bytes(text), _configured(config)
-        return _read_text(_library.speedate_date_parse_rfc3339, _Date(), text)
+        return _read_text(_library.speedate_date_parse_text, _Date(), text)
     _flag("timestamps", timestamps)
     return _read(_library.speedate_date_parse, _Date(), text, config, _OF_TIMESTAMPS)
 
@@ -308,7 +322,7 @@ def time(text, config=None):
 
 def date_time(text, config=None, *, timestamps=False):
     if timestamps is False:
-        return _read(_library.speedate_datetime_parse_rfc3339, _DateTime(), text, config)
+        return _read(_library.speedate_datetime_parse_text, _DateTime(), text, config)
     _flag("timestamps", timestamps)
     return _read(_library.speedate_datetime_parse, _DateTime(), text, config, _OF_TIMESTAMPS)
 
@@ -441,9 +455,8 @@ def _give_hint(fault, read, whole, ends):
 
 def _place_in_column(call, whole, *numbers):
     """The place of an error in bytes, or the end of them if they are refused by the column alone."""
-    place = ctypes.c_size_t(len(whole))
-    call(whole, len(whole), *numbers, place)
-    return place.value
+    code, part = _parsed_or_part(call, whole, *numbers)
+    return part.place if code else len(whole)
 
 
 def _check_choices(faults, newline, empty, lines):
@@ -486,7 +499,7 @@ def date_time_offset_column(texts, config=None, *, strict=False, timestamps=Fals
 
 def _second_in_utc(out):
     second = ctypes.c_int64()
-    _check(_library.speedate_datetime_timestamp_tz(out, second))
+    _check(_library.speedate_datetime_unix_seconds(out, second))
     return second.value
 
 
@@ -503,7 +516,7 @@ def _date_times(number_of, texts, config, strict, timestamps, faults, newline, e
     numbers = _configured(config, _OF_TIMESTAMPS if timestamps else ())
     if strict and timestamps:
         raise ValueError("strict and timestamps exclude each other")
-    name = "datetime_parse_strict" if strict else "datetime_parse" if timestamps else "datetime_parse_rfc3339"
+    name = "datetime_parse_strict" if strict else "datetime_parse" if timestamps else "datetime_parse_text"
 
     def read(text):
         out = _DateTime()
@@ -516,7 +529,7 @@ def _date_times(number_of, texts, config, strict, timestamps, faults, newline, e
         return number_of(out)
 
     def place_of(text):
-        return _place_in_column(getattr(_library, f"speedate_{name.replace('_parse', '_error_place')}"), text, numbers)
+        return _place_in_column(getattr(_library, f"speedate_{name}"), text, numbers)
 
     return _column(read, place_of, texts, faults, newline, empty, lines, read_integer if timestamps else None)
 
@@ -531,7 +544,7 @@ def date_column(texts, config=None, *, timestamps=False, faults="raise", newline
         if timestamps:
             _check(_library.speedate_date_parse(text, len(text), numbers, out))
         else:
-            _check(_library.speedate_date_parse_rfc3339(text, len(text), out))
+            _check(_library.speedate_date_parse_text(text, len(text), out))
         return number_of(out)
 
     def read_integer(timestamp):
@@ -546,8 +559,8 @@ def date_column(texts, config=None, *, timestamps=False, faults="raise", newline
 
     def place_of(text):
         if timestamps:
-            return _place_in_column(_library.speedate_date_error_place, text, numbers)
-        return _place_in_column(_library.speedate_date_error_place_rfc3339, text)
+            return _place_in_column(_library.speedate_date_parse, text, numbers)
+        return _place_in_column(_library.speedate_date_parse_text, text)
 
     return _column(read, place_of, texts, faults, newline, empty, lines, read_integer if timestamps else None)
 
@@ -576,7 +589,7 @@ def _times(number_of, texts, config, strict, faults, newline, empty, lines):
         return number_of(out)
 
     def place_of(text):
-        return _place_in_column(getattr(_library, f"speedate_time_error_place{ending}"), text, numbers)
+        return _place_in_column(getattr(_library, f"speedate_time_parse{ending}"), text, numbers)
 
     return _column(read, place_of, texts, faults, newline, empty, lines)
 
@@ -594,8 +607,8 @@ def duration_column(texts, config=None, *, faults="raise", newline="\r\n", empty
         return -size if out.negative else size
 
     def place_of(text):
-        place = ctypes.c_size_t()
-        return place.value if _library.speedate_duration_error_place(text, len(text), numbers, place) else None
+        code, part = _parsed_or_part(_library.speedate_duration_parse, text, numbers)
+        return part.place if code else None
 
     return _column(read, place_of, texts, faults, newline, empty, lines)
 

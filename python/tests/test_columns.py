@@ -168,6 +168,16 @@ class Sources(unittest.TestCase):
             with self.assertRaisesRegex(TypeError, f"^text 0 has to be .*, not {kind}$"):
                 column(wrong)
 
+    @unittest.skipUnless(pandas, "pandas is not installed")
+    def test_durations_of_pandas(self):
+        """Its texts have no years. Below zero they have a sign within, and are refused."""
+        for it in (0, 1, 86_399, 400 * 86_400, 10**9):
+            self.assertEqual(speedate.duration(pandas.Timedelta(it, "s").isoformat()), datetime.timedelta(seconds=it))
+        for it in (-1, -86_401, -(10**9)):
+            with self.assertRaisesRegex(speedate.Fault, "^duration_invalid_number$"):
+                speedate.duration(pandas.Timedelta(it, "s").isoformat())
+        self.assertEqual(pandas.Timedelta(-1, "s").isoformat(), "P-1DT23H59M59S")
+
     @unittest.skipUnless(numpy, "NumPy is not installed")
     def test_timestamps_of_numpy(self):
         days, unix = numpy.arange(-40_000, 40_000), speedate.Config("s", 0)
@@ -529,6 +539,32 @@ class Interpreter(unittest.TestCase):
                 sys.setswitchinterval(before)
             self.assertEqual(set(told[0]), {1_000_000})
             self.assertGreater(count, 20, type(it))
+
+    def test_turns(self):
+        """How long another thread waits at most while a column holds the lock."""
+        def run(texts, named, took, done):
+            before = time.perf_counter()
+            speedate.date_time_column(texts, **named)
+            took.append(time.perf_counter() - before)
+            done.append(True)
+
+        def longest_wait(texts, named):
+            took, done, longest = [], [], 0
+            thread, last = threading.Thread(target=run, args=[texts, named, took, done]), time.perf_counter()
+            thread.start()
+            while not done:
+                now = time.perf_counter()
+                longest, last = max(longest, now - last), now
+            thread.join()
+            return longest, took[0]
+
+        named = {"timestamps": True, "config": speedate.Config("s", 0)}
+        for texts, options in (([SECOND] * 2_000_000, {}), (array.array("q", range(8_000_000)), named), (b"x\n" * 4_000_000, {"faults": {}})):
+            waits = []
+            # Other programs may have the processors for a while.
+            while len(waits) < 8 and not any(wait < min(0.06, took / 3) for wait, took in waits):
+                waits.append(longest_wait(texts, options))
+            self.assertLess(len(waits), 8, waits)
 
     def test_two_columns(self):
         lines = b"".join(b"1970-01-01T00:00:%02dZ\n" % (it % 60) for it in range(100_000))

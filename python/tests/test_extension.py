@@ -7,6 +7,7 @@ import datetime
 import gc
 import importlib.util
 import inspect
+import itertools
 import io
 import pathlib
 import random
@@ -497,6 +498,25 @@ class Extension(unittest.TestCase):
             gc.collect()
             self.assertIsNone(gone())
 
+    def test_found_once(self):
+        """One call finds the place, the end and what was expected, when the first of them is read."""
+        module, called = sys.modules["speedate._speedate"], []
+        found = module._found
+        try:
+            module._found = lambda *given: called.append(given) or found(*given)
+            for names in itertools.permutations(("place", "end", "expected")):
+                for make in (lambda: fault_of(speedate.time, "12:13:60"), lambda: fault_of(speedate.date_column, ["x"]), lambda: speedate.Fault(1)):
+                    fault = make()
+                    self.assertEqual(called, [])
+                    told = [getattr(fault, name) for name in names]
+                    again = copy.deepcopy(fault)
+                    self.assertEqual([getattr(again, name) for name in names], told)
+                    self.assertEqual(told, [getattr(fault, name) for name in names])
+                    self.assertEqual(len(called), 1)
+                    called.clear()
+        finally:
+            module._found = found
+
     def test_tampered_fault(self):
         for slot in ("_source", "_call"):
             for it in (None, *range(-1, 130), 2**31, 2**70, "", "12:13", speedate.Config("ms", 0), 1.5, b"x", [], memoryview(b"12345678").cast("d")):
@@ -505,12 +525,14 @@ class Extension(unittest.TestCase):
                     setattr(fault, slot, it)
                     for read in (lambda: fault.place, lambda: copy.copy(fault).place):
                         try:
-                            self.assertIsInstance(read(), int)
+                            # A call that is None or 0 is none.
+                            self.assertIsInstance(read(), int if it not in (None, 0) else (int, type(None)))
                         except (OverflowError, TypeError, ValueError):
                             pass
         fault = fault_of(speedate.time, "x")
-        with self.assertRaises(AttributeError):
-            fault.place = 5
+        for name in ("place", "end", "expected"):
+            with self.assertRaises(AttributeError):
+                setattr(fault, name, 5)
         del fault._source
         with self.assertRaises(AttributeError):
             fault.place

@@ -260,6 +260,9 @@ place(duration_column, ["P1D1Q"]), place(duration_column, b"P106751992D"), place
 refusal(date, "2020-02-30"), refusal(date, bytearray(b"2020-02-30")), refusal(date, memoryview(b"2020-02-30")) -> (('2020-02-30', 8), (b'2020-02-30', 8), (b'2020-02-30', 8))
 refusal(date, "0000-01-01"), refusal(date_time, b"0000-01-01T00:00"), refusal(date_front, memoryview(b"0000-01-01 x")) -> (('0000-01-01', 0), (b'0000-01-01T00:00', 0), (b'0000-01-01 x', 0))
 refusal(duration, "-P999999999DT1S"), refusal(date_from_timestamp, -62167219200), refusal(date_from_timestamp, 1) -> (('-P999999999DT1S', 0), (None, None), (None, None))
+whole(date, "0000-01-01"), whole(date_time, b"0000-01-01T00:00"), whole(date_front, "0000-01-01 \u00e9"), whole(duration, "-P999999999DT1S") -> (('0000-01-01', 'a year from 0001 to 9999'), (b'0000-01-01T00:00', 'a year from 0001 to 9999'), ('0000-01-01', 'a year from 0001 to 9999'), ('-P999999999DT1S', 'a duration of at least -999999999 days'))
+whole(date, "-62167219200", Config("s"), timestamps=True), whole(date_time_front, "0000-01-01T00:00\u221201:00 " + "\u00e9" * 300)[0] == "0000-01-01T00:00\u221201:00" -> (('-62167219200', 'a year from 0001 to 9999'), True)
+Unrepresentable("x").end, Unrepresentable("x").expected, Unrepresentable("x").code, Unrepresentable("x").documentation, Unrepresentable("x").hint -> (None, 'a value that Python has', 0, 'Python has no such value', None)
 refusal(date_column, ["1970-01-01", "x"]), refusal(date_column, b"1970-01-01\nx\r\n"), refusal(date_column, ["x\r\n"], lines=True) -> (('x', 1), (b'x', 1), ('x', 1))
 refusal(date_column, [bytearray(b"x")]), refusal(duration_column, ["PT1S", "P106751992D"]), refusal(date_column, bytearray(b"y")) -> ((b'x', 1), ('P106751992D', None), (b'y', 1))
 Unrepresentable.__mro__[1:3], Fault.__mro__[1:3] -> ((<class 'speedate.Refusal'>, <class 'ValueError'>), (<class 'speedate.Refusal'>, <class 'ValueError'>))
@@ -356,6 +359,17 @@ def refusal(call, *given, **named):
         for it in (copy.copy(error), pickle.loads(pickle.dumps(copy.copy(error)))):
             assert (it.text, it.place, it.index, it.name, str(it)) == (None, error.place, error.index, error.name, str(error))
         return error.text, error.place
+
+
+def whole(call, *given, **named):
+    """The part that is wrong of a value that Python has not, and what was expected. All attributes are those of a fault."""
+    try:
+        call(*given, **named)
+    except speedate.Unrepresentable as error:
+        again = pickle.loads(pickle.dumps(error))
+        names = [it for it in dir(speedate.Fault(1)) if not it.startswith("_") and it not in ("args", "with_traceback", "add_note")]
+        assert [getattr(error, it) for it in names if it != "text"] == [getattr(again, it) for it in names if it != "text"]
+        return error.text[error.place:error.end], error.expected
 
 
 def listed(texts, read=speedate.date_time_column):
@@ -534,11 +548,11 @@ def config_of(field, *names):
 
 
 def call_of(name, fields, text_of=str.encode):
-    """The call here that is one of C, with its arguments, or nothing. For one that tells a place it is the parser."""
-    name = name.replace("_error_place", "_parse").replace("_parse_or_part", "_parse")
+    """The call here that is one of C, with its arguments, or nothing. For one that gives a part it is the parser."""
+    name = name.replace("_parse_or_part", "_parse")
     kind, _, form = name.replace("datetime", "date_time").rpartition("_parse")
-    if kind in ("date", "time", "date_time", "duration") and form in ("", "_rfc3339", "_front", "_strict"):
-        call = getattr(speedate, kind + form.replace("_rfc3339", ""))
+    if kind in ("date", "time", "date_time", "duration") and form in ("", "_text", "_front", "_strict"):
+        call = getattr(speedate, kind + form.replace("_text", ""))
         config = {"config": config_of(fields[0], *READ.get(name, ("overflow_behavior",)))} if fields[1:] else {}
         timestamps = {"timestamps": True} if name in ("date_parse", "datetime_parse") else {}
         return lambda: call(text_of(fields[-1]), **config, **timestamps)
@@ -598,13 +612,12 @@ class Speedate(unittest.TestCase):
                 continue
             with self.subTest(row):
                 self.check_row(name, call, wanted, *fields[place + 1:])
-                if "_error_place" in name:
-                    self.check_places(name, fields[:place], *fields[place + 1:])
                 if "_or_part" in name and wanted != "ok":
+                    self.check_places(name, fields[:place], *fields[place + 1:])
                     self.check_ends(name, fields[:place], *fields[place + 1:])
                 ran[name] += 1
         self.assertGreater(sum(ran.values()), 190, (ran, left))
-        self.assertEqual(sum("_error_place" in name for name in ran), 11, ran)
+        self.assertEqual(sum("_or_part" in name for name in ran), 11, ran)
 
     def check_row(self, name, call, wanted, written=None, size=None):
         try:
@@ -619,7 +632,7 @@ class Speedate(unittest.TestCase):
         self.assertEqual(wanted, "ok")
         if name.startswith("code_") or name.endswith("_to_text"):
             self.assertEqual(told, written)
-        elif "_error_place" not in name:
+        else:
             self.assertEqual(repr(told), repr((value_of(written), int(size)) if size else value_of(written)))
 
     def check_ends(self, name, fields, written="None None"):
@@ -629,11 +642,12 @@ class Speedate(unittest.TestCase):
             found = part(call_of(name, fields, text_of))[1]
             self.assertEqual(str(len(fields[-1][:found].encode()) if text_of is str and found is not None else found), end)
 
-    def check_places(self, name, fields, written=None):
+    def check_places(self, name, fields, written="None None"):
         """The place that C writes, in texts of each type: in a str it is how many characters end there or before."""
         ends = [len(fields[-1][:it].encode()) for it in range(1, len(fields[-1]) + 1)]
         for text_of in (str.encode, str, lambda it: bytearray(it.encode()), lambda it: memoryview(it.encode()), lambda it: memoryview(bytearray(it.encode()))):
-            wanted = None if written is None else sum(it <= int(written) for it in ends) if text_of is str else int(written)
+            at = written.split()[0]
+            wanted = None if at == "None" else sum(it <= int(at) for it in ends) if text_of is str else int(at)
             self.assertEqual(place(call_of(name, fields, text_of)), wanted)
 
     def test_docstrings(self):

@@ -107,10 +107,7 @@ pub trait LineReader: sealed::Sealed {
     type Number: Copy;
 
     #[doc(hidden)]
-    fn column(&self, text: &[u8], config: LineConfig, out: &mut [Self::Number]) -> Result<Progress, ParseError>;
-
-    #[doc(hidden)]
-    fn column_with_errors(
+    fn column(
         &self,
         text: &[u8],
         config: LineConfig,
@@ -147,7 +144,7 @@ pub fn read_column<R: LineReader>(
     reader: &R,
     out: &mut [R::Number],
 ) -> Result<Progress, ParseError> {
-    reader.column(text, config, out)
+    reader.column(text, config, out, &mut [])
 }
 
 /// Reads the whole lines of a text as numbers, as [`read_column`] does, and writes the number of the error of each line
@@ -178,31 +175,28 @@ pub fn read_column_with_errors<R: LineReader>(
     out: &mut [R::Number],
     errors: &mut [u8],
 ) -> Result<Progress, ParseError> {
-    reader.column_with_errors(text, config, out, errors)
+    // Without places for errors C would read a column of numbers alone.
+    let room = if errors.is_empty() { 0 } else { out.len() };
+    reader.column(text, config, &mut out[..room], errors)
 }
 
-/// Defines what a reader reads, by its functions of C.
+/// Defines what a reader reads, by its function of C.
 macro_rules! reader {
-    ($name:ident by $column:ident, $column_with_errors:ident -> $number:ty) => {
+    ($name:ident by $column:ident -> $number:ty) => {
         impl sealed::Sealed for $name {}
 
         impl LineReader for $name {
             type Number = $number;
 
             #[inline]
-            fn column(&self, text: &[u8], config: LineConfig, out: &mut [$number]) -> Result<Progress, ParseError> {
-                Ok(ffi::$column(text, config, self, out)?)
-            }
-
-            #[inline]
-            fn column_with_errors(
+            fn column(
                 &self,
                 text: &[u8],
                 config: LineConfig,
                 out: &mut [$number],
                 errors: &mut [u8],
             ) -> Result<Progress, ParseError> {
-                Ok(ffi::$column_with_errors(text, config, self, out, errors)?)
+                Ok(ffi::$column(text, config, self, out, errors)?)
             }
         }
     };
@@ -225,7 +219,7 @@ pub enum DateReader {
     OrTimestamp(DateConfig),
 }
 
-reader!(DateReader by speedate_date_column, speedate_date_column_with_errors -> i32);
+reader!(DateReader by speedate_date_column -> i32);
 
 impl From<&DateReader> for Config {
     fn from(reader: &DateReader) -> Self {
@@ -277,7 +271,7 @@ pub struct DateTimeReader {
     pub assumes_utc: bool,
 }
 
-reader!(DateTimeReader by speedate_datetime_column, speedate_datetime_column_with_errors -> i64);
+reader!(DateTimeReader by speedate_datetime_column -> i64);
 
 impl From<&DateTimeReader> for Config {
     fn from(reader: &DateTimeReader) -> Self {
@@ -347,7 +341,7 @@ pub struct DateTimeClockReader {
     pub parser: DateTimeParser,
 }
 
-reader!(DateTimeClockReader by speedate_datetime_clock_column, speedate_datetime_clock_column_with_errors -> i64);
+reader!(DateTimeClockReader by speedate_datetime_clock_column -> i64);
 
 /// Reads a line as a date-time, and gives its offset from UTC in seconds, positive east of UTC.
 ///
@@ -368,7 +362,7 @@ pub struct DateTimeOffsetReader {
     pub parser: DateTimeParser,
 }
 
-reader!(DateTimeOffsetReader by speedate_datetime_offset_column, speedate_datetime_offset_column_with_errors -> i32);
+reader!(DateTimeOffsetReader by speedate_datetime_offset_column -> i32);
 
 /// How a column parses its times. [`TimeReader`] has an example.
 #[derive(Debug, Clone, PartialEq)]
@@ -413,7 +407,7 @@ pub struct TimeReader {
     pub parser: TimeParser,
 }
 
-reader!(TimeReader by speedate_time_column, speedate_time_column_with_errors -> i64);
+reader!(TimeReader by speedate_time_column -> i64);
 
 /// Reads a line as a time, and gives its offset from UTC in seconds, positive east of UTC.
 ///
@@ -433,7 +427,7 @@ pub struct TimeOffsetReader {
     pub parser: TimeParser,
 }
 
-reader!(TimeOffsetReader by speedate_time_offset_column, speedate_time_offset_column_with_errors -> i32);
+reader!(TimeOffsetReader by speedate_time_offset_column -> i32);
 
 configured!(DateTimeClockReader, DateTimeOffsetReader, TimeReader, TimeOffsetReader);
 
@@ -457,7 +451,7 @@ pub struct DurationReader {
     pub config: TimeConfig,
 }
 
-reader!(DurationReader by speedate_duration_column, speedate_duration_column_with_errors -> i64);
+reader!(DurationReader by speedate_duration_column -> i64);
 
 impl From<&DurationReader> for Config {
     fn from(reader: &DurationReader) -> Self {

@@ -1,6 +1,6 @@
 use crate::ffi::{self, Config};
 use crate::value::{value, Value};
-use crate::{DateConfig, ParseError};
+use crate::{DateConfig, ParseError, Refused};
 
 /// A day of the Gregorian calendar, from 0000-01-01 to 9999-12-31. Its text is `YYYY-MM-DD`.
 ///
@@ -64,7 +64,7 @@ impl Date {
     ///
     /// Why the text is refused.
     pub fn parse_bytes_rfc3339(bytes: &[u8]) -> Result<Self, ParseError> {
-        Ok(ffi::speedate_date_parse_rfc3339(bytes)?)
+        Ok(ffi::speedate_date_parse_text(bytes)?)
     }
 
     /// The date at the front of an input, whatever follows it, and its size in bytes. A timestamp is refused.
@@ -81,39 +81,46 @@ impl Date {
         Ok(ffi::speedate_date_parse_front(bytes)?)
     }
 
-    /// The byte offset of the error of [`parse_bytes_with_config`](Self::parse_bytes_with_config); `None` if the input
-    /// is accepted.
+    /// What [`parse_bytes_with_config`](Self::parse_bytes_with_config) gives, with the part for which an input is refused.
     ///
     /// ```
-    /// use speedate::{Date, DateConfig};
-    ///
-    /// let places = ["2020-13-01", "2020-12-01"].map(|text| Date::error_place(text.as_bytes(), &DateConfig::default()));
-    /// assert_eq!(places, [Some(5), None]);
+    /// let refused = speedate::Date::parse_or_place(b"2020-13-01", &Default::default()).unwrap_err();
+    /// assert_eq!((refused.place, refused.end), (5, 7));
     /// ```
-    #[must_use]
-    pub fn error_place(bytes: &[u8], config: &DateConfig) -> Option<usize> {
-        ffi::speedate_date_error_place(bytes, config)
+    ///
+    /// # Errors
+    ///
+    /// Those of that method.
+    pub fn parse_or_place(bytes: &[u8], config: &DateConfig) -> Result<Self, Refused> {
+        ffi::speedate_date_parse_or_part(bytes, config)
     }
 
-    /// The byte offset of the error of [`parse_bytes_rfc3339`](Self::parse_bytes_rfc3339); `None` if the input is
-    /// accepted.
+    /// What [`parse_bytes_rfc3339`](Self::parse_bytes_rfc3339) gives, with the part for which an input is refused.
     ///
     /// ```
-    /// assert_eq!(speedate::Date::error_place_rfc3339(b"2020-01-01T12:13"), Some(10));
+    /// let refused = speedate::Date::parse_or_place_rfc3339(b"2020-01-01T12:13").unwrap_err();
+    /// assert_eq!((refused.place, refused.end), (10, 16));
     /// ```
-    #[must_use]
-    pub fn error_place_rfc3339(bytes: &[u8]) -> Option<usize> {
-        ffi::speedate_date_error_place_rfc3339(bytes)
+    ///
+    /// # Errors
+    ///
+    /// Those of that method.
+    pub fn parse_or_place_rfc3339(bytes: &[u8]) -> Result<Self, Refused> {
+        ffi::speedate_date_parse_or_part_text(bytes)
     }
 
-    /// The byte offset of the error of [`parse_front`](Self::parse_front); `None` if the input is accepted.
+    /// What [`parse_front`](Self::parse_front) gives, with the part for which an input is refused.
     ///
     /// ```
-    /// assert_eq!(speedate::Date::error_place_front(b"2026-11-2"), Some(9));
+    /// let refused = speedate::Date::parse_or_place_front(b"2026-11-2").unwrap_err();
+    /// assert_eq!((refused.place, refused.end), (9, 9));
     /// ```
-    #[must_use]
-    pub fn error_place_front(bytes: &[u8]) -> Option<usize> {
-        ffi::speedate_date_error_place_front(bytes)
+    ///
+    /// # Errors
+    ///
+    /// Those of that method.
+    pub fn parse_or_place_front(bytes: &[u8]) -> Result<(Self, usize), Refused> {
+        ffi::speedate_date_parse_or_part_front(bytes)
     }
 
     /// The date of a timestamp in the unit of the configuration, which has to be a midnight if `require_exact`.
@@ -184,7 +191,7 @@ impl Date {
     #[must_use]
     #[track_caller]
     pub fn days_since(&self, earlier: &Self) -> i32 {
-        (self, earlier).total(ffi::speedate_date_days_since(self, earlier))
+        (self, earlier).total(ffi::speedate_date_days_between(earlier, self))
     }
 }
 

@@ -4,7 +4,9 @@ use std::time::SystemTime;
 
 use crate::ffi::{self, Config};
 use crate::value::{value, Value};
-use crate::{Date, DateTimeConfig, MicrosecondsPrecisionOverflowBehavior, ParseError, Time, TimeConfig, TimestampUnit};
+use crate::{
+    Date, DateTimeConfig, MicrosecondsPrecisionOverflowBehavior, ParseError, Refused, Time, TimeConfig, TimestampUnit,
+};
 
 /// A date and a time of day, as a clock at the offset of the time shows them. It is printed as the [`Date`], `T` and
 /// the [`Time`]. For the `T` the parsers also accept `t`, `_` or a space.
@@ -96,7 +98,7 @@ impl DateTime {
     ///
     /// Why the text is refused.
     pub fn parse_bytes_rfc3339_with_config(bytes: &[u8], config: &TimeConfig) -> Result<Self, ParseError> {
-        Ok(ffi::speedate_datetime_parse_rfc3339(bytes, config)?)
+        Ok(ffi::speedate_datetime_parse_text(bytes, config)?)
     }
 
     /// The date-time of an input that is RFC 3339 alone, without a second 60.
@@ -127,49 +129,65 @@ impl DateTime {
         Ok(ffi::speedate_datetime_parse_front(bytes, config)?)
     }
 
-    /// The byte offset of the error of [`parse_bytes_with_config`](Self::parse_bytes_with_config); `None` if the input
-    /// is accepted, or the configured offset is a day or more.
+    /// What [`parse_bytes_with_config`](Self::parse_bytes_with_config) gives, with the part for which an input is refused.
     ///
     /// ```
-    /// assert_eq!(speedate::DateTime::error_place(b"2020-02-29T12:13:60", &Default::default()), Some(17));
+    /// let refused = speedate::DateTime::parse_or_place(b"2020-02-29T12:13:60", &Default::default()).unwrap_err();
+    /// assert_eq!((refused.place, refused.end), (17, 19));
     /// ```
-    #[must_use]
-    pub fn error_place(bytes: &[u8], config: &DateTimeConfig) -> Option<usize> {
-        ffi::speedate_datetime_error_place(bytes, config)
+    ///
+    /// # Errors
+    ///
+    /// Those of that method.
+    pub fn parse_or_place(bytes: &[u8], config: &DateTimeConfig) -> Result<Self, Refused> {
+        ffi::speedate_datetime_parse_or_part(bytes, config)
     }
 
-    /// The byte offset of the error of [`parse_bytes_rfc3339_with_config`](Self::parse_bytes_rfc3339_with_config);
-    /// `None` if the input is accepted.
+    /// What [`parse_bytes_rfc3339_with_config`](Self::parse_bytes_rfc3339_with_config) gives, with the part for which an input is refused.
     ///
     /// ```
-    /// assert_eq!(speedate::DateTime::error_place_rfc3339(b"2020-02-29", &Default::default()), Some(10));
+    /// let refused = speedate::DateTime::parse_or_place_rfc3339(b"2020-02-29", &Default::default()).unwrap_err();
+    /// assert_eq!((refused.place, refused.end), (10, 10));
     /// ```
-    #[must_use]
-    pub fn error_place_rfc3339(bytes: &[u8], config: &TimeConfig) -> Option<usize> {
-        ffi::speedate_datetime_error_place_rfc3339(bytes, config)
+    ///
+    /// # Errors
+    ///
+    /// Those of that method.
+    pub fn parse_or_place_rfc3339(bytes: &[u8], config: &TimeConfig) -> Result<Self, Refused> {
+        ffi::speedate_datetime_parse_or_part_text(bytes, config)
     }
 
-    /// The byte offset of the error of [`parse_bytes_strict`](Self::parse_bytes_strict); `None` if the input is
-    /// accepted.
+    /// What [`parse_bytes_strict`](Self::parse_bytes_strict) gives, with the part for which an input is refused.
     ///
     /// ```
-    /// use speedate::{DateTime, MicrosecondsPrecisionOverflowBehavior::Error};
+    /// use speedate::{MicrosecondsPrecisionOverflowBehavior::Error, DateTime};
     ///
-    /// assert_eq!(DateTime::error_place_strict(b"2020-02-29T12:13:14", Error), Some(19));
+    /// let refused = DateTime::parse_or_place_strict(b"2020-02-29 12:13:14Z", Error).unwrap_err();
+    /// assert_eq!((refused.place, refused.end), (10, 11));
     /// ```
-    #[must_use]
-    pub fn error_place_strict(bytes: &[u8], behavior: MicrosecondsPrecisionOverflowBehavior) -> Option<usize> {
-        ffi::speedate_datetime_error_place_strict(bytes, Config::default().behavior(behavior))
+    ///
+    /// # Errors
+    ///
+    /// Those of that method.
+    pub fn parse_or_place_strict(
+        bytes: &[u8],
+        behavior: MicrosecondsPrecisionOverflowBehavior,
+    ) -> Result<Self, Refused> {
+        ffi::speedate_datetime_parse_or_part_strict(bytes, Config::default().behavior(behavior))
     }
 
-    /// The byte offset of the error of [`parse_front`](Self::parse_front); `None` if the input is accepted.
+    /// What [`parse_front`](Self::parse_front) gives, with the part for which an input is refused.
     ///
     /// ```
-    /// assert_eq!(speedate::DateTime::error_place_front(b"2026-11-22T12:00:00-ERROR", &Default::default()), Some(20));
+    /// let refused = speedate::DateTime::parse_or_place_front(b"2026-11-22T12:00:00-ERROR", &Default::default()).unwrap_err();
+    /// assert_eq!((refused.place, refused.end), (20, 22));
     /// ```
-    #[must_use]
-    pub fn error_place_front(bytes: &[u8], config: &TimeConfig) -> Option<usize> {
-        ffi::speedate_datetime_error_place_front(bytes, config)
+    ///
+    /// # Errors
+    ///
+    /// Those of that method.
+    pub fn parse_or_place_front(bytes: &[u8], config: &TimeConfig) -> Result<(Self, usize), Refused> {
+        ffi::speedate_datetime_parse_or_part_front(bytes, config)
     }
 
     /// [`from_timestamp`](Self::from_timestamp), in the unit and with the offset of a configuration.
@@ -273,14 +291,14 @@ impl DateTime {
     #[must_use]
     #[track_caller]
     pub fn timestamp(&self) -> i64 {
-        self.total(ffi::speedate_datetime_timestamp(self))
+        self.total(ffi::speedate_datetime_clock_seconds(self))
     }
 
     /// [`timestamp`](Self::timestamp) in milliseconds, rounded down.
     #[must_use]
     #[track_caller]
     pub fn timestamp_ms(&self) -> i64 {
-        self.total(ffi::speedate_datetime_timestamp_ms(self))
+        self.total(ffi::speedate_datetime_clock_milliseconds(self))
     }
 
     /// Unix time: the seconds since 1970-01-01T00:00:00 in UTC, where a date-time without an offset is taken to be. It
@@ -292,21 +310,21 @@ impl DateTime {
     #[must_use]
     #[track_caller]
     pub fn timestamp_tz(&self) -> i64 {
-        self.total(ffi::speedate_datetime_timestamp_tz(self))
+        self.total(ffi::speedate_datetime_unix_seconds(self))
     }
 
     /// [`timestamp_tz`](Self::timestamp_tz) in milliseconds, rounded down.
     #[must_use]
     #[track_caller]
     pub fn timestamp_tz_ms(&self) -> i64 {
-        self.total(ffi::speedate_datetime_timestamp_tz_ms(self))
+        self.total(ffi::speedate_datetime_unix_milliseconds(self))
     }
 
     /// [`timestamp_tz`](Self::timestamp_tz) in microseconds. The crate has no such call.
     #[must_use]
     #[track_caller]
     pub fn timestamp_tz_us(&self) -> i64 {
-        self.total(ffi::speedate_datetime_timestamp_tz_us(self))
+        self.total(ffi::speedate_datetime_unix_microseconds(self))
     }
 }
 

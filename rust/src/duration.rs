@@ -2,7 +2,7 @@ use core::cmp::Ordering;
 
 use crate::ffi;
 use crate::value::{value, Value};
-use crate::{DateTime, ParseError, TimeConfig};
+use crate::{DateTime, ParseError, Refused, TimeConfig};
 
 /// A length of time, with a sign, which zero has too.
 ///
@@ -103,15 +103,18 @@ impl Duration {
         ffi::speedate_duration_from_signed_microseconds(microseconds).expect("a number of 64 bits is a duration")
     }
 
-    /// The byte offset of the error of [`parse_bytes_with_config`](Self::parse_bytes_with_config); `None` if the input
-    /// is accepted.
+    /// What [`parse_bytes_with_config`](Self::parse_bytes_with_config) gives, with the part for which an input is refused.
     ///
     /// ```
-    /// assert_eq!(speedate::Duration::error_place(b"P1D1Q", &Default::default()), Some(4));
+    /// let refused = speedate::Duration::parse_or_place(b"P1D1Q", &Default::default()).unwrap_err();
+    /// assert_eq!((refused.place, refused.end), (4, 5));
     /// ```
-    #[must_use]
-    pub fn error_place(bytes: &[u8], config: &TimeConfig) -> Option<usize> {
-        ffi::speedate_duration_error_place(bytes, config)
+    ///
+    /// # Errors
+    ///
+    /// Those of that method.
+    pub fn parse_or_place(bytes: &[u8], config: &TimeConfig) -> Result<Self, Refused> {
+        ffi::speedate_duration_parse_or_part(bytes, config)
     }
 
     /// The duration from one date-time to another, by their instants, which is negative if the other is the earlier one. A

@@ -55,15 +55,11 @@ macro_rules! parse_errors {
             }
 
             /// Where the part of the input ends that the error is about, which begins at its place: so these bytes are
-            /// what a form underlines. It is at most the length of the input if the place is, and the place if the part is
-            /// missing.
+            /// what a form underlines. A [`Refused`] has it as `end`. It is at most the length of the input if the place is,
+            /// and the place if the part is missing.
             ///
             /// ```
-            /// use speedate::{Date, DateConfig, ParseError};
-            ///
-            /// let (input, config) = (b"2020-13-01", DateConfig::default());
-            /// let place = Date::error_place(input, &config).unwrap();
-            /// assert_eq!((place, ParseError::OutOfRangeMonth.part_end(input, place)), (5, 7));
+            /// assert_eq!(speedate::ParseError::OutOfRangeMonth.part_end(b"2020-13-01", 5), 7);
             /// ```
             #[must_use]
             pub fn part_end(&self, input: &[u8], place: usize) -> usize {
@@ -168,7 +164,7 @@ struct Expected {
 
 impl fmt::Display for Expected {
     fn fmt(&self, f: &mut fmt::Formatter<'_>) -> fmt::Result {
-        f.pad(Buffer::new().speedate_code_expected(self.number, self.kind as u8).map_err(|_| fmt::Error)?)
+        f.pad(Buffer::new().speedate_code_expected(self.number, self.kind).map_err(|_| fmt::Error)?)
     }
 }
 
@@ -180,6 +176,41 @@ impl fmt::Display for ParseError {
 }
 
 impl Error for ParseError {}
+
+/// Why an input is refused, and the part of it: the bytes from `place` on that come before `end`.
+///
+/// ```
+/// use speedate::{Date, ParseError, Refused};
+///
+/// let refused = Date::parse_or_place_rfc3339(b"2020-13-01").unwrap_err();
+/// assert_eq!(refused, Refused { fault: ParseError::OutOfRangeMonth, place: 5, end: 7 });
+/// assert_eq!(refused.to_string(), "out_of_range_month at byte 5");
+/// ```
+#[derive(Debug, PartialEq, Eq, Clone)]
+pub struct Refused {
+    /// The error.
+    pub fault: ParseError,
+    /// Where the part begins that the error is about, or would begin if it is missing. If the configuration is out of
+    /// range, and not the input, this and the end are 0.
+    pub place: usize,
+    /// Where the part ends: at its place if it is missing.
+    pub end: usize,
+}
+
+/// Writes the name of the error, and the place: `too_short at byte 4`.
+impl fmt::Display for Refused {
+    fn fmt(&self, f: &mut fmt::Formatter<'_>) -> fmt::Result {
+        write!(f, "{} at byte {}", self.fault.name(), self.place)
+    }
+}
+
+impl Error for Refused {}
+
+impl From<Refused> for ParseError {
+    fn from(refused: Refused) -> Self {
+        refused.fault
+    }
+}
 
 /// Why the name of a choice is refused.
 #[derive(Debug, PartialEq, Eq, Clone)]

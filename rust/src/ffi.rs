@@ -8,8 +8,8 @@ use core::slice::from_raw_parts;
 use core::str::from_utf8_unchecked;
 
 use crate::{
-    Date, DateTime, Duration, LineConfig, LineError, MicrosecondsPrecisionOverflowBehavior, ParseError, Progress, Time,
-    TimestampUnit,
+    CallKind, Date, DateTime, Duration, LineConfig, LineError, MicrosecondsPrecisionOverflowBehavior, ParseError,
+    Progress, Refused, Time, TimestampUnit,
 };
 
 /// Why a call fails.
@@ -108,6 +108,7 @@ structs! {
     struct ColumnConfig is 5 {
         more_follows: u8 = 0, drops_returns: u8 = 1, form: u8 = 2, assumes_utc: u8 = 3, goes_on: u8 = 4
     }
+    struct CPart is 24 { place: usize = 0, end: usize = 8, kind: i32 = 16 }
     struct CProgress is 24 { lines: usize = 0, bytes: usize = 8, error: i32 = 16 }
 }
 
@@ -209,6 +210,14 @@ impl From<CDuration> for Duration {
     }
 }
 
+impl CPart {
+    /// Why a text is refused, by the code of the call that has written the part.
+    #[cold]
+    fn refused(self, code: Code) -> Refused {
+        Refused { fault: code.into(), place: self.place, end: self.end }
+    }
+}
+
 impl From<CProgress> for Progress {
     fn from(CProgress { lines, bytes, error }: CProgress) -> Self {
         Self { lines, bytes, error: Code(error).into() }
@@ -268,21 +277,43 @@ macro_rules! fronts {
     )*};
 }
 
-/// Functions that write where a text is wrong, if their code is an error of it.
-macro_rules! places {
-    ($(fn $name:ident([$text:ident] $($config:ident)?);)*) => {$(
+/// The same functions with the part for which a text is refused, which each of them writes.
+macro_rules! calls_or_part {
+    ($(fn $name:ident([$text:ident] $($config:ident)?) -> $answer:ty;)*) => {$(
         #[inline]
-        pub(crate) fn $name($text: &[u8] $(, $config: impl Into<Config>)?) -> Option<usize> {
+        pub(crate) fn $name<T: From<$answer>>(
+            $text: &[u8] $(, $config: impl Into<Config>)?
+        ) -> Result<T, Refused> {
             unsafe extern "C" {
-                fn $name($text: *const u8, size: usize, $($config: Config,)? place: *mut usize) -> c_int;
+                fn $name(
+                    $text: *const u8, size: usize, $($config: Config,)? out: *mut $answer, part: *mut CPart,
+                ) -> c_int;
             }
-            let mut place = 0;
-            // SAFETY: as for the calls above; `place` is a variable's address.
-            let code = unsafe { $name($text.as_ptr(), $text.len(), $($config.into(),)? &mut place) };
-            match Code(code) {
-                Code::OK | Code::CONFIG_OUT_OF_RANGE => None,
-                _ => Some(place),
+            let mut part = CPart::default();
+            // SAFETY: as for the calls above; `part` is a variable's address too.
+            written(|out| unsafe { $name($text.as_ptr(), $text.len(), $($config.into(),)? out, &mut part) })
+                .map_err(|code| part.refused(code))
+        }
+    )*};
+}
+
+macro_rules! fronts_or_part {
+    ($(fn $name:ident([$text:ident] $($config:ident)?) -> $answer:ty;)*) => {$(
+        #[inline]
+        pub(crate) fn $name<T: From<$answer>>(
+            $text: &[u8] $(, $config: impl Into<Config>)?
+        ) -> Result<(T, usize), Refused> {
+            unsafe extern "C" {
+                fn $name(
+                    $text: *const u8, size: usize, $($config: Config,)? out: *mut $answer, taken: *mut usize,
+                    part: *mut CPart,
+                ) -> c_int;
             }
+            let (mut taken, mut part) = (0, CPart::default());
+            // SAFETY: as for the calls above.
+            written(|out| unsafe { $name($text.as_ptr(), $text.len(), $($config.into(),)? out, &mut taken, &mut part) })
+                .map(|value| (value, taken))
+                .map_err(|code| part.refused(code))
         }
     )*};
 }
@@ -304,7 +335,8 @@ macro_rules! ends {
     )*};
 }
 
-/// Functions that write the numbers of the lines of a text, and how far they came.
+/// Functions that write the numbers of the lines of a text, their errors if there is a place for one, and how far they
+/// came.
 macro_rules! columns {
     ($(
         fn $name:ident([$text:ident] $config:ident: Config, $column:ident: ColumnConfig, $([$slice:ident: $number:ty]),*);
@@ -357,6 +389,31 @@ impl Buffer {
     pub(crate) fn new() -> Self {
         Self([MaybeUninit::uninit(); 64])
     }
+
+    /// The text that a call prints, which is given the buffer, its size, and where the text's length goes.
+    #[inline]
+    fn printed(&mut self, call: impl FnOnce(*mut u8, usize, *mut usize) -> c_int) -> Result<&str, Code> {
+        let (text, size): (*mut u8, usize) = (self.0.as_mut_ptr().cast(), self.0.len());
+        let length: usize = written(|length| call(text, size, length))?;
+        // SAFETY: the call has written so many bytes into the buffer, and all are ASCII.
+        Ok(unsafe { from_utf8_unchecked(from_raw_parts(text, length)) })
+    }
+
+    pub(crate) fn speedate_code_expected(&mut self, code: u8, kind: CallKind) -> Result<&str, Code> {
+        unsafe extern "C" {
+            fn speedate_code_expected(
+                code: c_int,
+                part: *const CPart,
+                buffer: *mut u8,
+                size: usize,
+                length: *mut usize,
+            ) -> c_int;
+        }
+        // For the kind alone the part is read.
+        let part = CPart { kind: kind as i32, ..CPart::default() };
+        // SAFETY: as for the calls below; `part` is a variable's address.
+        self.printed(|text, size, length| unsafe { speedate_code_expected(code.into(), &part, text, size, length) })
+    }
 }
 
 /// Functions that print a value, or a text of numbers.
@@ -368,12 +425,8 @@ macro_rules! printers {
                 unsafe extern "C" {
                     fn $name($($value: $kind,)* buffer: *mut u8, size: usize, length: *mut usize) -> c_int;
                 }
-                let text: *mut u8 = self.0.as_mut_ptr().cast();
                 // SAFETY: the types are the header's; address and size are the buffer's, and `length` is a variable's.
-                let length: usize =
-                    written(|length| unsafe { $name($($value.into(),)* text, self.0.len(), length) })?;
-                // SAFETY: the call has written so many bytes into the buffer, and all are ASCII.
-                Ok(unsafe { from_utf8_unchecked(from_raw_parts(text, length)) })
+                self.printed(|text, size, length| unsafe { $name($($value.into(),)* text, size, length) })
             }
         )*}
     };
@@ -381,13 +434,13 @@ macro_rules! printers {
 
 calls! {
     fn speedate_date_parse([text] config: Config) -> CDate;
-    fn speedate_date_parse_rfc3339([text]) -> CDate;
+    fn speedate_date_parse_text([text]) -> CDate;
     fn speedate_date_from_timestamp(timestamp: i64, require_exact: u8, config: Config) -> CDate;
     fn speedate_date_timestamp(date: CDate) -> i64;
     fn speedate_date_timestamp_ms(date: CDate) -> i64;
     fn speedate_date_ordinal_day(date: CDate) -> u16;
     fn speedate_date_add_days(date: CDate, days: i32) -> CDate;
-    fn speedate_date_days_since(date: CDate, earlier: CDate) -> i32;
+    fn speedate_date_days_between(earlier: CDate, later: CDate) -> i32;
     fn speedate_time_parse([text] config: Config) -> CTime;
     fn speedate_time_parse_strict([text] config: Config) -> CTime;
     fn speedate_time_compare(first: CTime, second: CTime) -> i32;
@@ -396,15 +449,15 @@ calls! {
     fn speedate_time_total_ms(time: CTime) -> u32;
     fn speedate_time_in_timezone(time: CTime, offset: i32) -> CTime;
     fn speedate_datetime_parse([text] config: Config) -> CDateTime;
-    fn speedate_datetime_parse_rfc3339([text] config: Config) -> CDateTime;
+    fn speedate_datetime_parse_text([text] config: Config) -> CDateTime;
     fn speedate_datetime_parse_strict([text] config: Config) -> CDateTime;
     fn speedate_datetime_compare(first: CDateTime, second: CDateTime) -> i32;
     fn speedate_datetime_from_timestamp(timestamp: i64, microsecond: u32, config: Config) -> CDateTime;
-    fn speedate_datetime_timestamp(value: CDateTime) -> i64;
-    fn speedate_datetime_timestamp_ms(value: CDateTime) -> i64;
-    fn speedate_datetime_timestamp_tz(value: CDateTime) -> i64;
-    fn speedate_datetime_timestamp_tz_ms(value: CDateTime) -> i64;
-    fn speedate_datetime_timestamp_tz_us(value: CDateTime) -> i64;
+    fn speedate_datetime_clock_seconds(value: CDateTime) -> i64;
+    fn speedate_datetime_clock_milliseconds(value: CDateTime) -> i64;
+    fn speedate_datetime_unix_seconds(value: CDateTime) -> i64;
+    fn speedate_datetime_unix_milliseconds(value: CDateTime) -> i64;
+    fn speedate_datetime_unix_microseconds(value: CDateTime) -> i64;
     fn speedate_datetime_in_timezone(value: CDateTime, offset: i32) -> CDateTime;
     fn speedate_duration_parse([text] config: Config) -> CDuration;
     fn speedate_duration_normalize(numbers: CDuration) -> CDuration;
@@ -425,18 +478,21 @@ fronts! {
     fn speedate_datetime_parse_front([text] config) -> CDateTime;
 }
 
-places! {
-    fn speedate_date_error_place([text] config);
-    fn speedate_date_error_place_rfc3339([text]);
-    fn speedate_date_error_place_front([text]);
-    fn speedate_time_error_place([text] config);
-    fn speedate_time_error_place_strict([text] config);
-    fn speedate_time_error_place_front([text] config);
-    fn speedate_datetime_error_place([text] config);
-    fn speedate_datetime_error_place_rfc3339([text] config);
-    fn speedate_datetime_error_place_strict([text] config);
-    fn speedate_datetime_error_place_front([text] config);
-    fn speedate_duration_error_place([text] config);
+calls_or_part! {
+    fn speedate_date_parse_or_part([text] config) -> CDate;
+    fn speedate_date_parse_or_part_text([text]) -> CDate;
+    fn speedate_time_parse_or_part([text] config) -> CTime;
+    fn speedate_time_parse_or_part_strict([text] config) -> CTime;
+    fn speedate_datetime_parse_or_part([text] config) -> CDateTime;
+    fn speedate_datetime_parse_or_part_text([text] config) -> CDateTime;
+    fn speedate_datetime_parse_or_part_strict([text] config) -> CDateTime;
+    fn speedate_duration_parse_or_part([text] config) -> CDuration;
+}
+
+fronts_or_part! {
+    fn speedate_date_parse_or_part_front([text]) -> CDate;
+    fn speedate_time_parse_or_part_front([text] config) -> CTime;
+    fn speedate_datetime_parse_or_part_front([text] config) -> CDateTime;
 }
 
 ends! {
@@ -444,20 +500,13 @@ ends! {
 }
 
 columns! {
-    fn speedate_date_column([text] config: Config, column: ColumnConfig, [out: i32]);
-    fn speedate_date_column_with_errors([text] config: Config, column: ColumnConfig, [out: i32], [errors: u8]);
-    fn speedate_datetime_column([text] config: Config, column: ColumnConfig, [out: i64]);
-    fn speedate_datetime_column_with_errors([text] config: Config, column: ColumnConfig, [out: i64], [errors: u8]);
-    fn speedate_datetime_clock_column([text] config: Config, column: ColumnConfig, [out: i64]);
-    fn speedate_datetime_clock_column_with_errors([text] config: Config, column: ColumnConfig, [out: i64], [errors: u8]);
-    fn speedate_datetime_offset_column([text] config: Config, column: ColumnConfig, [out: i32]);
-    fn speedate_datetime_offset_column_with_errors([text] config: Config, column: ColumnConfig, [out: i32], [errors: u8]);
-    fn speedate_time_column([text] config: Config, column: ColumnConfig, [out: i64]);
-    fn speedate_time_column_with_errors([text] config: Config, column: ColumnConfig, [out: i64], [errors: u8]);
-    fn speedate_time_offset_column([text] config: Config, column: ColumnConfig, [out: i32]);
-    fn speedate_time_offset_column_with_errors([text] config: Config, column: ColumnConfig, [out: i32], [errors: u8]);
-    fn speedate_duration_column([text] config: Config, column: ColumnConfig, [out: i64]);
-    fn speedate_duration_column_with_errors([text] config: Config, column: ColumnConfig, [out: i64], [errors: u8]);
+    fn speedate_date_column([text] config: Config, column: ColumnConfig, [out: i32], [errors: u8]);
+    fn speedate_datetime_column([text] config: Config, column: ColumnConfig, [out: i64], [errors: u8]);
+    fn speedate_datetime_clock_column([text] config: Config, column: ColumnConfig, [out: i64], [errors: u8]);
+    fn speedate_datetime_offset_column([text] config: Config, column: ColumnConfig, [out: i32], [errors: u8]);
+    fn speedate_time_column([text] config: Config, column: ColumnConfig, [out: i64], [errors: u8]);
+    fn speedate_time_offset_column([text] config: Config, column: ColumnConfig, [out: i32], [errors: u8]);
+    fn speedate_duration_column([text] config: Config, column: ColumnConfig, [out: i64], [errors: u8]);
 }
 
 checks! {
@@ -472,7 +521,6 @@ printers! {
     fn speedate_time_to_text(time: CTime);
     fn speedate_datetime_to_text(value: CDateTime);
     fn speedate_duration_to_text(duration: CDuration);
-    fn speedate_code_expected(code: c_int, kind: c_int);
 }
 
 #[cfg(test)]

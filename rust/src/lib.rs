@@ -48,6 +48,6 @@ pub use config::{
 pub use date::Date;
 pub use datetime::DateTime;
 pub use duration::Duration;
-pub use error::{CallKind, ConfigError, ParseError};
+pub use error::{CallKind, ConfigError, ParseError, Refused};
 pub use numbers::{float_parse_bytes, float_parse_str, int_parse_bytes, int_parse_str, IntFloat};
 pub use time::{MicrosecondsPrecisionOverflowBehavior, Time};

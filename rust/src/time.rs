@@ -3,7 +3,7 @@ use core::str::FromStr;
 
 use crate::ffi::{self, Config};
 use crate::value::{value, Value};
-use crate::{ConfigError, ParseError, TimeConfig};
+use crate::{ConfigError, ParseError, Refused, TimeConfig};
 
 /// A time of day, with an offset from UTC or without one.
 ///
@@ -91,38 +91,51 @@ impl Time {
         Ok(ffi::speedate_time_parse_front(bytes, config)?)
     }
 
-    /// The byte offset of the error of [`parse_bytes_with_config`](Self::parse_bytes_with_config); `None` if the input
-    /// is accepted.
+    /// What [`parse_bytes_with_config`](Self::parse_bytes_with_config) gives, with the part for which an input is refused.
     ///
     /// ```
-    /// assert_eq!(speedate::Time::error_place(b"12:13:60", &Default::default()), Some(6));
+    /// let refused = speedate::Time::parse_or_place(b"12:13:60", &Default::default()).unwrap_err();
+    /// assert_eq!((refused.place, refused.end), (6, 8));
     /// ```
-    #[must_use]
-    pub fn error_place(bytes: &[u8], config: &TimeConfig) -> Option<usize> {
-        ffi::speedate_time_error_place(bytes, config)
+    ///
+    /// # Errors
+    ///
+    /// Those of that method.
+    pub fn parse_or_place(bytes: &[u8], config: &TimeConfig) -> Result<Self, Refused> {
+        ffi::speedate_time_parse_or_part(bytes, config)
     }
 
-    /// The byte offset of the error of [`parse_bytes_strict`](Self::parse_bytes_strict); `None` if the input is
-    /// accepted.
+    /// What [`parse_bytes_strict`](Self::parse_bytes_strict) gives, with the part for which an input is refused.
     ///
     /// ```
     /// use speedate::{MicrosecondsPrecisionOverflowBehavior::Error, Time};
     ///
-    /// assert_eq!(Time::error_place_strict(b"12:13", Error), Some(5));
+    /// let refused = Time::parse_or_place_strict(b"12:13+01:00", Error).unwrap_err();
+    /// assert_eq!((refused.place, refused.end), (5, 6));
     /// ```
-    #[must_use]
-    pub fn error_place_strict(bytes: &[u8], behavior: MicrosecondsPrecisionOverflowBehavior) -> Option<usize> {
-        ffi::speedate_time_error_place_strict(bytes, Config::default().behavior(behavior))
+    ///
+    /// # Errors
+    ///
+    /// Those of that method.
+    pub fn parse_or_place_strict(
+        bytes: &[u8],
+        behavior: MicrosecondsPrecisionOverflowBehavior,
+    ) -> Result<Self, Refused> {
+        ffi::speedate_time_parse_or_part_strict(bytes, Config::default().behavior(behavior))
     }
 
-    /// The byte offset of the error of [`parse_front`](Self::parse_front); `None` if the input is accepted.
+    /// What [`parse_front`](Self::parse_front) gives, with the part for which an input is refused.
     ///
     /// ```
-    /// assert_eq!(speedate::Time::error_place_front(b"12:00:00-ERROR", &Default::default()), Some(9));
+    /// let refused = speedate::Time::parse_or_place_front(b"12:00:00-ERROR", &Default::default()).unwrap_err();
+    /// assert_eq!((refused.place, refused.end), (9, 11));
     /// ```
-    #[must_use]
-    pub fn error_place_front(bytes: &[u8], config: &TimeConfig) -> Option<usize> {
-        ffi::speedate_time_error_place_front(bytes, config)
+    ///
+    /// # Errors
+    ///
+    /// Those of that method.
+    pub fn parse_or_place_front(bytes: &[u8], config: &TimeConfig) -> Result<(Self, usize), Refused> {
+        ffi::speedate_time_parse_or_part_front(bytes, config)
     }
 
     /// The time so many seconds and microseconds after midnight, on the same day.

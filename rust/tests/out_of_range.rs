@@ -6,7 +6,7 @@ use std::sync::Once;
 
 use speedate::{
     read_column, read_column_with_errors, Date, DateTime, DateTimeConfig, DateTimeParser, DateTimeReader, Duration,
-    DurationReader, LineConfig, ParseError, Time, TimeConfig,
+    DurationReader, LineConfig, ParseError, Refused, Time, TimeConfig,
 };
 
 const DATE: Date = Date { year: 2020, month: 2, day: 29 };
@@ -151,10 +151,13 @@ fn configured_offsets() {
         assert_eq!(DateTime::from_timestamp_with_config(1, 0, &config), Err(ParseError::OutOfRangeTz));
         assert_eq!(DateTime::from_float_with_config(1.5, &config), Err(ParseError::OutOfRangeTz));
         assert_eq!(DateTime::parse_str_with_config("1", &config), Err(ParseError::OutOfRangeTz));
-        assert_eq!(["x", "2020-02-29T12:13"].map(|it| DateTime::error_place(it.as_bytes(), &config)), [None; 2]);
-        assert_eq!(DateTime::error_place_rfc3339(b"x", &time_config), Some(1));
-        assert_eq!(Time::error_place(b"24:00", &time_config), Some(0));
-        assert_eq!(Duration::error_place(b"P1D1Q", &time_config), Some(4));
+        for text in ["x", "2020-02-29T12:13"] {
+            let refused = Refused { fault: ParseError::OutOfRangeTz, place: 0, end: 0 };
+            assert_eq!(DateTime::parse_or_place(text.as_bytes(), &config), Err(refused));
+        }
+        assert_eq!(DateTime::parse_or_place_rfc3339(b"x", &time_config).unwrap_err().place, 1);
+        assert_eq!(Time::parse_or_place(b"24:00", &time_config).unwrap_err().end, 2);
+        assert_eq!(Duration::parse_or_place(b"P1D1Q", &time_config).unwrap_err().place, 4);
         assert_eq!(Time::parse_bytes_with_config(b"12:13:14Z", &time_config), Ok(TIME));
         assert_eq!(Time::parse_front(b"12:13:14Z x", &time_config), Ok((TIME, 9)));
         assert!(DateTime::parse_bytes_rfc3339_with_config(b"2020-02-29T12:13", &time_config).is_ok());

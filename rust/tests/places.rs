@@ -3,7 +3,9 @@
 
 use std::fmt::Debug;
 
-use speedate::{Date, DateTime, Duration, MicrosecondsPrecisionOverflowBehavior, ParseError, Time, TimeConfig};
+use speedate::{
+    Date, DateTime, Duration, MicrosecondsPrecisionOverflowBehavior, ParseError, Refused, Time, TimeConfig,
+};
 use MicrosecondsPrecisionOverflowBehavior::{Error, Truncate};
 
 /// Bytes that a text may have in place of one or two of its own, and in place of three.
@@ -24,8 +26,8 @@ type Front = Result<(usize, ParseError), (ParseError, usize)>;
 fn dates() {
     for template in ["2020-02-29", "1999-12-31x", "2021-06-30T1"] {
         each_text(template, BYTES, FEW_BYTES, |text| {
-            same(text, Date::parse_bytes_rfc3339(text), Date::error_place_rfc3339(text), whole_date(text));
-            same(text, Date::parse_front(text), Date::error_place_front(text), date(text));
+            same(text, Date::parse_bytes_rfc3339(text), Date::parse_or_place_rfc3339(text), whole_date(text));
+            same(text, Date::parse_front(text), Date::parse_or_place_front(text), date(text));
         });
     }
 }
@@ -39,11 +41,16 @@ fn times() {
         for template in templates {
             each_text(template, BYTES, FEW_BYTES, |text| {
                 let whole = whole_time(text, behavior);
-                same(text, Time::parse_bytes_with_config(text, &config), Time::error_place(text, &config), whole);
+                same(text, Time::parse_bytes_with_config(text, &config), Time::parse_or_place(text, &config), whole);
                 let strict = whole_time(text, behavior).and_then(|_| strict_time(text));
-                same(text, Time::parse_bytes_strict(text, behavior), Time::error_place_strict(text, behavior), strict);
+                same(
+                    text,
+                    Time::parse_bytes_strict(text, behavior),
+                    Time::parse_or_place_strict(text, behavior),
+                    strict,
+                );
                 let front = time(text, behavior).map(|(size, _)| size);
-                same(text, Time::parse_front(text, &config), Time::error_place_front(text, &config), front);
+                same(text, Time::parse_front(text, &config), Time::parse_or_place_front(text, &config), front);
             });
         }
     }
@@ -56,12 +63,12 @@ fn date_times() {
         ["2020-02-29T12:13", "2020-02-29 12:13:14.5Z", "2020-02-29T12:13:14+01:30", "2020-02-29t12:13:14−0130"]
     {
         each_text(template, BYTES, FEW_BYTES, |text| {
-            let place = DateTime::error_place_rfc3339(text, &config);
+            let place = DateTime::parse_or_place_rfc3339(text, &config);
             same(text, DateTime::parse_bytes_rfc3339_with_config(text, &config), place, whole_date_time(text));
             let strict = whole_date_time(text).and_then(|_| strict_date_time(text));
-            same(text, DateTime::parse_bytes_strict(text, Error), DateTime::error_place_strict(text, Error), strict);
+            same(text, DateTime::parse_bytes_strict(text, Error), DateTime::parse_or_place_strict(text, Error), strict);
             let front = date_time(text).map(|(size, _)| size);
-            same(text, DateTime::parse_front(text, &config), DateTime::error_place_front(text, &config), front);
+            same(text, DateTime::parse_front(text, &config), DateTime::parse_or_place_front(text, &config), front);
         });
     }
 }
@@ -71,7 +78,7 @@ fn durations() {
     let try_text = |text: &[u8]| {
         for behavior in [Error, Truncate] {
             let config = TimeConfig { microseconds_precision_overflow_behavior: behavior, ..TimeConfig::default() };
-            let place = Duration::error_place(text, &config);
+            let place = Duration::parse_or_place(text, &config);
             same(text, Duration::parse_bytes_with_config(text, &config), place, duration(text, behavior));
         }
     };
@@ -93,13 +100,15 @@ fn durations() {
     }
 }
 
-/// The error and the place are to be those of the tables.
-fn same<T: Debug>(text: &[u8], answer: Result<T, ParseError>, place: Option<usize>, taken: Taken) {
-    let found = answer.err().map(|error| (error, place));
-    let wanted = taken.err().map(|(error, place)| (error, Some(place)));
-    assert_eq!(found, wanted, "{}", String::from_utf8_lossy(text));
-    assert_eq!(place.is_some(), wanted.is_some(), "{}", String::from_utf8_lossy(text));
-    assert!(place.unwrap_or_default() <= text.len());
+/// The error and the place are to be those of the tables, and with the place the answer is to be the same.
+fn same<T: Debug + PartialEq>(text: &[u8], answer: Result<T, ParseError>, placed: Result<T, Refused>, taken: Taken) {
+    let found = placed.as_ref().err().map(|refused| (refused.fault.clone(), refused.place));
+    assert_eq!(found, taken.err(), "{}", String::from_utf8_lossy(text));
+    if let Err(Refused { fault, place, end }) = &placed {
+        assert!(place <= end && *end <= text.len(), "{}", String::from_utf8_lossy(text));
+        assert_eq!(fault.part_end(text, *place), *end, "{}", String::from_utf8_lossy(text));
+    }
+    assert_eq!(placed.map_err(ParseError::from), answer, "{}", String::from_utf8_lossy(text));
 }
 
 /// A template cut anywhere, with two of its bytes changed in each way, and with three changed to few others.

@@ -5,8 +5,8 @@ use std::panic::{catch_unwind, set_hook, take_hook};
 use speedate::{
     int_parse_str, read_column, read_column_with_errors, Date, DateConfig, DateReader, DateTime, DateTimeClockReader,
     DateTimeConfig, DateTimeOffsetReader, DateTimeParser, DateTimeReader, Duration, DurationReader, LineConfig,
-    LineReader, MicrosecondsPrecisionOverflowBehavior, ParseError, Time, TimeConfig, TimeOffsetReader, TimeParser,
-    TimeReader, TimestampUnit,
+    LineReader, MicrosecondsPrecisionOverflowBehavior, ParseError, Refused, Time, TimeConfig, TimeOffsetReader,
+    TimeParser, TimeReader, TimestampUnit,
 };
 
 const ROWS: &str = include_str!("../../c/tests/rows.txt");
@@ -22,8 +22,8 @@ fn rows() {
     assert!(tried.len() > 200, "only {} rows", tried.len());
     let columns = tried.iter().filter(|(row, _)| row.contains("_column")).count();
     assert!(columns > 40, "only {columns} rows of columns");
-    let places = tried.iter().filter(|(row, _)| row.contains("_error_place")).count();
-    assert!(places > 90, "only {places} rows of places");
+    let places = tried.iter().filter(|(row, _)| row.contains("_or_part")).count();
+    assert!(places > 70, "only {places} rows of places");
 }
 
 /// Whether a row tells what its call answers, if the API has the call. One that panics has a value out of range.
@@ -44,11 +44,11 @@ impl Row<'_> {
         Some(match self.0[0] {
             "int_parse" => self.has(2, int_parse_str(self.0[1]).ok_or("invalid_integer")),
             "date_parse" => self.has(3, Date::parse_bytes_with_config(text(2), &self.get(1)?)),
-            "date_parse_rfc3339" => self.has(2, Date::parse_bytes_rfc3339(text(1))),
+            "date_parse_text" => self.has(2, Date::parse_bytes_rfc3339(text(1))),
             "date_parse_front" => self.has_front(2, Date::parse_front(text(1))),
-            "date_error_place" => self.has_place(2, Date::error_place(text(2), &self.get(1)?)),
-            "date_error_place_rfc3339" => self.has_place(1, Date::error_place_rfc3339(text(1))),
-            "date_error_place_front" => self.has_place(1, Date::error_place_front(text(1))),
+            "date_parse_or_part" => self.has_or_part(3, Date::parse_or_place(text(2), &self.get(1)?)),
+            "date_parse_or_part_text" => self.has_or_part(2, Date::parse_or_place_rfc3339(text(1))),
+            "date_parse_or_part_front" => self.has_front_or_part(2, Date::parse_or_place_front(text(1))),
             "date_to_text" => self.has_text(2, self.get::<Date>(1)?),
             "date_from_timestamp" => {
                 let is_exact = *[false, true].get(self.get::<i64>(2)? as usize)?;
@@ -61,13 +61,15 @@ impl Row<'_> {
                 None => matches!(self.0[3], "no_such_date" | "value_out_of_range"),
                 date => self.get(4) == date,
             },
-            "date_days_since" => self.get(4) == Some(self.get::<Date>(1)?.days_since(&self.get(2)?)),
+            "date_days_between" => self.get(4) == Some(self.get::<Date>(2)?.days_since(&self.get(1)?)),
             "time_parse" => self.has(3, Time::parse_bytes_with_config(text(2), &time_config(1)?)),
             "time_parse_strict" => self.has(3, Time::parse_bytes_strict(text(2), behavior(1)?)),
             "time_parse_front" => self.has_front(3, Time::parse_front(text(2), &time_config(1)?)),
-            "time_error_place" => self.has_place(2, Time::error_place(text(2), &time_config(1)?)),
-            "time_error_place_strict" => self.has_place(2, Time::error_place_strict(text(2), behavior(1)?)),
-            "time_error_place_front" => self.has_place(2, Time::error_place_front(text(2), &time_config(1)?)),
+            "time_parse_or_part" => self.has_or_part(3, Time::parse_or_place(text(2), &time_config(1)?)),
+            "time_parse_or_part_strict" => self.has_or_part(3, Time::parse_or_place_strict(text(2), behavior(1)?)),
+            "time_parse_or_part_front" => {
+                self.has_front_or_part(3, Time::parse_or_place_front(text(2), &time_config(1)?))
+            }
             "time_to_text" => self.has_text(2, self.get::<Time>(1)?),
             "time_compare" => self.has_order::<Time>()?,
             "time_from_timestamp" => {
@@ -77,30 +79,32 @@ impl Row<'_> {
             "time_total_ms" => self.has_total(self.get::<Time>(1)?.total_ms()),
             "time_in_timezone" => self.has(3, self.get::<Time>(1)?.in_timezone(self.get(2)?)),
             "datetime_parse" => self.has(3, DateTime::parse_bytes_with_config(text(2), &config(1)?)),
-            "datetime_parse_rfc3339" => {
-                self.has(3, DateTime::parse_bytes_rfc3339_with_config(text(2), &time_config(1)?))
-            }
+            "datetime_parse_text" => self.has(3, DateTime::parse_bytes_rfc3339_with_config(text(2), &time_config(1)?)),
             "datetime_parse_strict" => self.has(3, DateTime::parse_bytes_strict(text(2), behavior(1)?)),
             "datetime_parse_front" => self.has_front(3, DateTime::parse_front(text(2), &time_config(1)?)),
-            "datetime_error_place" => self.has_place(2, DateTime::error_place(text(2), &config(1)?)),
-            "datetime_error_place_rfc3339" => {
-                self.has_place(2, DateTime::error_place_rfc3339(text(2), &time_config(1)?))
+            "datetime_parse_or_part" => self.has_or_part(3, DateTime::parse_or_place(text(2), &config(1)?)),
+            "datetime_parse_or_part_text" => {
+                self.has_or_part(3, DateTime::parse_or_place_rfc3339(text(2), &time_config(1)?))
             }
-            "datetime_error_place_strict" => self.has_place(2, DateTime::error_place_strict(text(2), behavior(1)?)),
-            "datetime_error_place_front" => self.has_place(2, DateTime::error_place_front(text(2), &time_config(1)?)),
+            "datetime_parse_or_part_strict" => {
+                self.has_or_part(3, DateTime::parse_or_place_strict(text(2), behavior(1)?))
+            }
+            "datetime_parse_or_part_front" => {
+                self.has_front_or_part(3, DateTime::parse_or_place_front(text(2), &time_config(1)?))
+            }
             "datetime_to_text" => self.has_text(2, self.get::<DateTime>(1)?),
             "datetime_compare" => self.has_order::<DateTime>()?,
             "datetime_from_timestamp" => {
                 self.has(4, DateTime::from_timestamp_with_config(self.get(1)?, self.get(2)?, &config(3)?))
             }
-            "datetime_timestamp" => self.has_total(self.get::<DateTime>(1)?.timestamp()),
-            "datetime_timestamp_ms" => self.has_total(self.get::<DateTime>(1)?.timestamp_ms()),
-            "datetime_timestamp_tz" => self.has_total(self.get::<DateTime>(1)?.timestamp_tz()),
-            "datetime_timestamp_tz_ms" => self.has_total(self.get::<DateTime>(1)?.timestamp_tz_ms()),
-            "datetime_timestamp_tz_us" => self.has_total(self.get::<DateTime>(1)?.timestamp_tz_us()),
+            "datetime_clock_seconds" => self.has_total(self.get::<DateTime>(1)?.timestamp()),
+            "datetime_clock_milliseconds" => self.has_total(self.get::<DateTime>(1)?.timestamp_ms()),
+            "datetime_unix_seconds" => self.has_total(self.get::<DateTime>(1)?.timestamp_tz()),
+            "datetime_unix_milliseconds" => self.has_total(self.get::<DateTime>(1)?.timestamp_tz_ms()),
+            "datetime_unix_microseconds" => self.has_total(self.get::<DateTime>(1)?.timestamp_tz_us()),
             "datetime_in_timezone" => self.has(3, self.get::<DateTime>(1)?.in_timezone(self.get(2)?)),
             "duration_parse" => self.has(3, Duration::parse_bytes_with_config(text(2), &time_config(1)?)),
-            "duration_error_place" => self.has_place(2, Duration::error_place(text(2), &time_config(1)?)),
+            "duration_parse_or_part" => self.has_or_part(3, Duration::parse_or_place(text(2), &time_config(1)?)),
             "duration_normalize" => {
                 let Duration { positive, day, second, microsecond } = self.get(1)?;
                 self.has(2, Duration::new(positive, day, second, microsecond))
@@ -118,30 +122,20 @@ impl Row<'_> {
             "duration_between" => self.get(4) == Some(Duration::between(&self.get(1)?, &self.get(2)?)),
             "duration_after" => self.has(3, self.get::<Duration>(1)?.after(&self.get(2)?)),
             "duration_before" => self.has(3, self.get::<Duration>(1)?.before(&self.get(2)?)),
-            "date_column" | "date_column_with_errors" => {
+            "date_column" => {
                 let config: DateConfig = self.get(1)?;
                 let readers = [DateReader::Rfc3339, DateReader::OrTimestamp(config)];
                 self.has_column(readers.get(usize::from(self.get::<Column>(2)?.form))?)?
             }
-            "datetime_column" | "datetime_column_with_errors" => {
+            "datetime_column" => {
                 let assumes_utc = self.get::<Column>(2)?.assumes_utc;
                 self.has_column(&DateTimeReader { parser: self.get_parser()?, assumes_utc })?
             }
-            "datetime_clock_column" | "datetime_clock_column_with_errors" => {
-                self.has_column(&DateTimeClockReader { parser: self.get_parser()? })?
-            }
-            "datetime_offset_column" | "datetime_offset_column_with_errors" => {
-                self.has_column(&DateTimeOffsetReader { parser: self.get_parser()? })?
-            }
-            "time_column" | "time_column_with_errors" => {
-                self.has_column(&TimeReader { parser: self.get_time_parser()? })?
-            }
-            "time_offset_column" | "time_offset_column_with_errors" => {
-                self.has_column(&TimeOffsetReader { parser: self.get_time_parser()? })?
-            }
-            "duration_column" | "duration_column_with_errors" => {
-                self.has_column(&DurationReader { config: time_config(1)? })?
-            }
+            "datetime_clock_column" => self.has_column(&DateTimeClockReader { parser: self.get_parser()? })?,
+            "datetime_offset_column" => self.has_column(&DateTimeOffsetReader { parser: self.get_parser()? })?,
+            "time_column" => self.has_column(&TimeReader { parser: self.get_time_parser()? })?,
+            "time_offset_column" => self.has_column(&TimeOffsetReader { parser: self.get_time_parser()? })?,
+            "duration_column" => self.has_column(&DurationReader { config: time_config(1)? })?,
             _ => return None,
         })
     }
@@ -173,8 +167,8 @@ impl Row<'_> {
         let rooms: Vec<usize> = self.0[3].split(' ').map(|room| room.parse().unwrap()).collect();
         let mut out = vec![R::Number::default(); rooms[0]];
         let (progress, errors) = match rooms[..] {
-            [_] if goes_on => return None,
-            [_] => (read_column(text.as_bytes(), lines, reader, &mut out), None),
+            [_] | [_, 0] if goes_on => return None,
+            [_] | [_, 0] => (read_column(text.as_bytes(), lines, reader, &mut out), None),
             _ => {
                 let mut errors = vec![0; rooms[1]];
                 let progress = read_column_with_errors(text.as_bytes(), lines, reader, &mut out, &mut errors);
@@ -212,9 +206,23 @@ impl Row<'_> {
         self.has(place, answer.map(|front| front.0)) && self.get::<i64>(place + 2).unwrap_or(0) == size as i64
     }
 
-    /// Whether the place of an error follows the text and the name of the code, if there is one.
-    fn has_place(&self, text: usize, found: Option<usize>) -> bool {
-        self.get(text + 2) == found
+    /// Whether a part is this one, if the input is refused.
+    fn has_or_part<T: Field + PartialEq>(&self, place: usize, answer: Result<T, Refused>) -> bool {
+        let part = answer.as_ref().err().map(|refused| format!("{} {} ", refused.place, refused.end));
+        match self.0[place] {
+            "config_out_of_range" => {
+                matches!(answer, Err(Refused { fault: ParseError::OutOfRangeTz, place: 0, end: 0 }))
+            }
+            _ => {
+                self.has(place, answer.map_err(|refused| refused.fault))
+                    && part.is_none_or(|part| self.0[place + 1].starts_with(&part))
+            }
+        }
+    }
+
+    fn has_front_or_part<T: Field + PartialEq>(&self, place: usize, answer: Result<(T, usize), Refused>) -> bool {
+        let size = answer.as_ref().ok().map(|front| front.1 as i64);
+        self.has_or_part(place, answer.map(|front| front.0)) && (size.is_none() || self.get::<i64>(place + 2) == size)
     }
 
     fn has_text(&self, place: usize, value: impl ToString) -> bool {

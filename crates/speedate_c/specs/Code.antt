@@ -58,7 +58,9 @@ fault_of code = if int_le (pos 1) code then slice_get faults (unsigned_abs code 
 -- the name and the documentation text of a code that is no fault
 abbrev pub refusal_row : ℤ → Option (List ℕ × List ℕ)
 refusal_row code =
-    if int_eq code number_too_large
+    if int_eq code success
+    then Some (codes "ok", codes "success")
+    else (if int_eq code number_too_large
     then Some (codes "number_too_large", codes "the number of a line does not fit 64 bits")
     else (if int_eq code invalid_integer
     then Some (codes "invalid_integer", codes "no whole number, or one that does not fit 64 bits")
@@ -73,7 +75,7 @@ refusal_row code =
     )
     else (if int_eq code buffer_too_small
     then Some (codes "buffer_too_small", codes "the buffer is too small for the text")
-    else None)))))
+    else None))))))
 
 -- the name and the documentation text of a code
 abbrev pub code_row : ℤ → Option (List ℕ × List ℕ)
@@ -99,6 +101,18 @@ call_kinds =
 abbrev pub call_kind_of : ℤ → Option CallKind
 call_kind_of number =
     if int_le (pos 0) number then slice_get call_kinds (unsigned_abs number) else None
+
+-- the number of a kind of calls
+abbrev pub kind_number : CallKind → ℤ
+kind_number CallKind.Values = pos 0
+kind_number CallKind.Date = pos 1
+kind_number CallKind.DateOrTimestamp = pos 2
+kind_number CallKind.Time = pos 3
+kind_number CallKind.TimeStrict = pos 4
+kind_number CallKind.DateTime = pos 5
+kind_number CallKind.DateTimeOrTimestamp = pos 6
+kind_number CallKind.DateTimeStrict = pos 7
+kind_number CallKind.Duration = pos 8
 
 -- what was expected, of a code that is no fault
 abbrev pub refusal_expected : ℤ → Option (List ℕ)

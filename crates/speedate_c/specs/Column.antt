@@ -1,19 +1,18 @@
 -- Columns from outside: what their configuration says, which number a line has, and what a call
 -- leaves.
-use Rattle.std.specs.Prelude.{◌≡◌, ℕ, ◌≤◌, ◌++◌, ℤ, negsuc, pos, Bool, false, not, List, [], ◌∷◌, length, min, drop, slice_get, Option, Some, None, Result, if◌then◌else◌}
+use Rattle.std.specs.Prelude.{◌≡◌, ◌≢◌, ℕ, ◌≤◌, ◌++◌, ℤ, negsuc, pos, Bool, false, not, List, [], ◌∷◌, length, min, drop, slice_get, Option, Some, None, Result, if◌then◌else◌}
 use Rattle.std.specs.Option.{option_and_then, option_map}
 use Rattle.speedate.specs.Base.{ParseError, TimestampUnit}
-use Rattle.speedate.specs.Calendar.{days_between}
 use Rattle.speedate.specs.Config.{Choices}
-use Rattle.speedate.specs.Date.{date_answer, date_or_timestamp}
 use Rattle.speedate.specs.DateTime.{DateAndTime, date_time_answer, date_time_or_timestamp}
 use Rattle.speedate.specs.DateTime.{local_microsecond, utc_microsecond}
 use Rattle.speedate.specs.Strict.{strict_date_time_answer, strict_time_answer}
 use Rattle.speedate.specs.Time.{TimeOfDay, microsecond_of_day, time_answer}
 use Rattle.speedate.specs.Requirement.{result_and_then}
 use Rattle.speedate.specs.Duration.{duration_answer}
-use Rattle.speedate.specs.Column.{as_number, epoch, number_of_duration, offset_as_number}
+use Rattle.speedate.specs.Column.{as_number, date_number, number_of_duration, offset_as_number}
 use Rattle.speedate.specs.Column.{text_column, with_offset}
+use Rattle.speedate.specs.declared.column.date.DateReader.{DateReader}
 use Rattle.speedate.specs.declared.LineConfig.{LineConfig}
 use Rattle.speedate.specs.declared.LineError.{LineError}
 use Rattle.speedate.specs.Lines.{unfinished_line, whole_lines}
@@ -27,7 +26,7 @@ use Rattle.speedate_c.specs.declared.column.SpeedateProgress.{SpeedateProgress}
 
 -- the forms in the order of their numbers, the default first
 abbrev pub forms : List LineForm
-forms = LineForm.Text ∷ LineForm.Timestamp ∷ LineForm.Strict ∷ []
+forms = LineForm.Text ∷ LineForm.OrTimestamp ∷ LineForm.Strict ∷ []
 
 -- what a configuration of columns from outside chooses, where each of its numbers has a value
 abbrev pub column_choices_of : SpeedateColumnConfig → Option ColumnChoices
@@ -63,7 +62,7 @@ least_of_64_bits = negsuc 9223372036854775807
 -- the date-time of a line, or the error
 abbrev pub date_time_of_form : LineForm → Choices → List ℕ → Result DateAndTime ParseError
 date_time_of_form LineForm.Text chosen line = date_time_answer chosen.behavior line
-date_time_of_form LineForm.Timestamp chosen line =
+date_time_of_form LineForm.OrTimestamp chosen line =
     date_time_or_timestamp chosen.unit chosen.behavior chosen.offset line
 date_time_of_form LineForm.Strict chosen line = strict_date_time_answer chosen.behavior line
 
@@ -86,7 +85,7 @@ date_time_offset_number_by chosen form line =
 -- the time of a line, or the error, where the form is one of times
 abbrev pub time_of_form : LineForm → Choices → Option (List ℕ → Result TimeOfDay ParseError)
 time_of_form LineForm.Text chosen = Some (λ line. time_answer chosen.behavior line)
-time_of_form LineForm.Timestamp chosen = None
+time_of_form LineForm.OrTimestamp chosen = None
 time_of_form LineForm.Strict chosen = Some (λ line. strict_time_answer chosen.behavior line)
 
 -- the number of a line in a column of times, where the form is one of times: the microseconds after
@@ -104,14 +103,12 @@ time_offset_number_by chosen form =
     option_map (λ time_of_line line. offset_as_number (λ time. time.offset) (time_of_line line))
     (time_of_form form chosen)
 
--- the number of a line in a column of dates, where the form is one of dates: the days since
--- 1970-01-01
-abbrev pub date_number_by : TimestampUnit → LineForm → Option (List ℕ → Result ℤ LineError)
-date_number_by unit LineForm.Text =
-    Some (λ line. as_number (days_between epoch) (date_answer line))
-date_number_by unit LineForm.Timestamp =
-    Some (λ line. as_number (days_between epoch) (date_or_timestamp unit line))
-date_number_by unit LineForm.Strict = None
+-- the reader of a column of dates, where the form is one of dates
+abbrev pub date_reader : TimestampUnit → LineForm → Option DateReader
+date_reader unit LineForm.Text = Some DateReader.Rfc3339
+date_reader unit LineForm.OrTimestamp =
+    Some (DateReader.OrTimestamp (record { timestamp_unit = unit }))
+date_reader unit LineForm.Strict = None
 
 -- the number of a line in a column of durations: its microseconds, with the sign
 abbrev pub duration_number_by : Choices → List ℕ → Result ℤ LineError
@@ -149,7 +146,8 @@ chosen_for_date_time_offsets =
 -- for a column of dates
 abbrev pub chosen_for_dates : SpeedateConfig → SpeedateColumnConfig
     → Option (ColumnChoices × (List ℕ → Result ℤ LineError))
-chosen_for_dates = chosen_by (λ chosen column. date_number_by chosen.unit column.form)
+chosen_for_dates =
+    chosen_by (λ chosen column. option_map date_number (date_reader chosen.unit column.form))
 
 -- for a column of times
 abbrev pub chosen_for_times : SpeedateConfig → SpeedateColumnConfig
@@ -184,9 +182,9 @@ pub record IsProgress {N : Type 0} (config : LineConfig) (text : List ℕ) (entr
   pub unfinished : config.at_end ≡ false
       → unfinished_line (drop progress.bytes text) ≡ unfinished_line text
 
--- what a call leaves: the numbers of the first lines, of as many as there is room for, before what
--- stood after them, and how far the column has come
-pub record IsColumn {N : Type 0} (answer : List ℕ → Result N LineError) (config : LineConfig)
+-- what a call without errors leaves: the numbers of the first lines, of as many as there is room
+-- for, before what stood after them, and how far the column has come
+pub record IsNumberColumn {N : Type 0} (answer : List ℕ → Result N LineError) (config : LineConfig)
     (refused : Option N) (text : List ℕ) (before after : List N) (progress : SpeedateProgress)
     : Type 0 where
   pub numbers : after
@@ -196,8 +194,8 @@ pub record IsColumn {N : Type 0} (answer : List ℕ → Result N LineError) (con
       (text_column answer config refused (length before) text).numbers
       (ended_code (text_column answer config refused (length before) text).fault) progress
 
--- what a call leaves that writes errors too, and ends at none: as many lines are read as there is
--- room for in both
+-- what a call with errors leaves, which no line ends: as many lines are read as there is room
+-- for in both
 pub record IsColumnWithErrors {N : Type 0} (answer : List ℕ → Result N LineError)
     (config : LineConfig) (least : N) (text : List ℕ) (before after : List N)
     (errors_before errors_after : List ℕ) (progress : SpeedateProgress) : Type 0 where
@@ -210,3 +208,12 @@ pub record IsColumnWithErrors {N : Type 0} (answer : List ℕ → Result N LineE
   pub reached : IsProgress config text
       (text_column answer config (Some least) (min (length before) (length errors_before))
       text).numbers success progress
+
+-- what a call leaves: it writes errors too where there is a place for one
+pub record IsColumn {N : Type 0} (answer : List ℕ → Result N LineError) (column : ColumnChoices)
+    (least : N) (text : List ℕ) (before after : List N) (errors_before errors_after : List ℕ)
+    (progress : SpeedateProgress) : Type 0 where
+  pub numbers : length errors_before ≡ 0 → IsNumberColumn answer column.lines
+      (on_refusal column.goes_on least) text before after progress
+  pub errors : length errors_before ≢ 0 → IsColumnWithErrors answer column.lines least text before
+      after errors_before errors_after progress

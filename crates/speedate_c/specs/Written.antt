@@ -1,11 +1,10 @@
 -- What a call leaves: its code, and then what stands where it writes. A call that refuses leaves
 -- what stood there.
-use Rattle.std.specs.Prelude.{ℕ, ◌+◌, ℤ, List, ◌∷◌, ◌++◌, length, drop, nat_lt, Option, Some, None, Result, Ok, Err, if◌then◌else◌}
-use Rattle.std.specs.Option.{unwrap_or}
-use Rattle.speedate.specs.Base.{ParseError}
+use Rattle.std.specs.Prelude.{ℕ, ◌+◌, ℤ, pos, List, ◌∷◌, ◌++◌, length, drop, nat_lt, Option, Some, None, Result, Ok, Err, if◌then◌else◌}
+use Rattle.speedate.specs.Base.{CallKind, ParseError}
 use Rattle.speedate.specs.Part.{part_end}
-use Rattle.speedate_c.specs.Code.{answer_code, success, fault_code, fault_of, buffer_too_small}
-use Rattle.speedate_c.specs.Code.{no_such_date}
+use Rattle.speedate_c.specs.Code.{buffer_too_small, fault_code, fault_of, kind_number, no_such_date}
+use Rattle.speedate_c.specs.Code.{success}
 use Rattle.speedate_c.specs.declared.part.SpeedatePart.{SpeedatePart}
 
 -- what follows from a value that is in its ranges; what is left where it is not
@@ -32,20 +31,21 @@ abbrev pub written_front : {A B : Type 0} → (A → B) → B → ℕ → Result
 written_front shown before size (Ok front) = (success, shown front.0, front.1)
 written_front shown before size (Err fault) = (fault_code fault, before, size)
 
--- written of an answer to a text and the place of its fault, where there is one: the answer's code,
--- and the place
-abbrev pub written_place : {A : Type 0} → Result A ParseError → Option ℕ → ℕ → ℤ × ℕ
-written_place answer found before = (answer_code answer, unwrap_or found before)
+-- the part where no text is refused
+abbrev pub no_part : SpeedatePart
+no_part = record { place = 0; end = 0; kind = pos 0 }
 
--- the part of a text that a fault at a place is about
-abbrev pub part_at : ParseError → List ℕ → ℕ → SpeedatePart
-part_at fault text place = record { place = place; end = part_end fault text place }
+-- the part of a text that a fault at a place is about, from a call of a kind
+abbrev pub part_at : ParseError → CallKind → List ℕ → ℕ → SpeedatePart
+part_at fault kind text place =
+    record { place = place; end = part_end fault text place; kind = kind_number kind }
 
--- written of a code that a call gave for a text: if it is that of a fault, the part that the fault
--- is about, which begins at its place
-abbrev pub written_part : ℤ → Option ℕ → List ℕ → SpeedatePart → SpeedatePart
-written_part code place text before =
-    with_option (fault_of code) before (λ fault. with_option place before (part_at fault text))
+-- written of a code that a call of a kind gave for a text: if it is that of a fault, the part that
+-- the fault is about, which begins at its place
+abbrev pub written_part : ℤ → CallKind → Option ℕ → List ℕ → SpeedatePart
+written_part code kind place text =
+    with_option (fault_of code) no_part
+    (λ fault. with_option place no_part (part_at fault kind text))
 
 -- written of a date, where there is one
 abbrev pub written_optional_date : {A B : Type 0} → (A → B) → B → Option A → ℤ × B

@@ -3,8 +3,8 @@
 ghost use Rattle.std.specs.Option.{option_map};
 ghost use Rattle.std.specs.Prelude.{◌≡◌, ◌≤◌, IfSome, Some, length, slice_get};
 ghost use Rattle.speedate_c.specs.Code.{call_kind_of, code_expected, code_row, fault_code};
-ghost use Rattle.speedate_c.specs.Code.{fault_of, line_error_code, order_number, refusal_expected};
-ghost use Rattle.speedate_c.specs.Code.{refusal_row};
+ghost use Rattle.speedate_c.specs.Code.{fault_of, kind_number, line_error_code, order_number};
+ghost use Rattle.speedate_c.specs.Code.{refusal_expected, refusal_row};
 
 use speedate::{CallKind, LineError, ParseError};
 use std::cmp::Ordering;
@@ -101,6 +101,7 @@ fn refusal_row(code: i32) -> Option<(&'static str, &'static str)>
     ensures short { IfSome result (λ row. (length row.0.now ≤ 63) × (length row.1.now ≤ 63)) }
 {
     Some(match code {
+        SUCCESS => ("ok", "success"),
         NUMBER_TOO_LARGE => (
             "number_too_large",
             "the number of a line does not fit 64 bits",
@@ -141,6 +142,24 @@ pub(crate) fn call_kind_of(number: i32) -> Option<CallKind>
         return None;
     }
     call_kind_at(&CALL_KINDS, number.unsigned_abs() as usize)
+}
+
+/// The number of a kind of calls.
+pub(crate) fn kind_number(kind: CallKind) -> i32
+    ensures number { result ≡ kind_number kind }
+    ensures reads_back { call_kind_of result ≡ Some kind }
+{
+    match kind {
+        CallKind::Values => 0,
+        CallKind::Date => 1,
+        CallKind::DateOrTimestamp => 2,
+        CallKind::Time => 3,
+        CallKind::TimeStrict => 4,
+        CallKind::DateTime => 5,
+        CallKind::DateTimeOrTimestamp => 6,
+        CallKind::DateTimeStrict => 7,
+        CallKind::Duration => 8,
+    }
 }
 
 /// The kind at a place of a list.

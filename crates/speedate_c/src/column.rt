@@ -2,8 +2,7 @@
 
 ghost use Rattle.std.specs.Prelude.{◌≡◌, slice_get};
 ghost use Rattle.speedate_c.specs.Code.{success};
-ghost use Rattle.speedate_c.specs.Column.{IsColumn, IsColumnWithErrors, column_choices_of};
-ghost use Rattle.speedate_c.specs.Column.{ended_code, forms, on_refusal};
+ghost use Rattle.speedate_c.specs.Column.{IsColumn, column_choices_of, ended_code, forms};
 
 mod date;
 mod date_time;
@@ -29,7 +28,7 @@ pub struct SpeedateColumnConfig {
     /// of instants uses it.
     pub assumes_utc: u8,
     /// What is done after a line that is refused: 0 if it ends the column, 1 if it gets the smallest
-    /// number, and the column goes on, as each column with errors does.
+    /// number, and the column goes on, as it does if errors are written.
     pub goes_on: u8,
 }
 
@@ -51,7 +50,7 @@ enum LineForm {
     /// No timestamps.
     Text,
     /// Timestamps too.
-    Timestamp,
+    OrTimestamp,
     /// Times and date-times of RFC 3339 alone.
     Strict,
 }
@@ -94,7 +93,7 @@ fn form(number: u8) -> Option<LineForm>
 {
     match number {
         0 => Some(LineForm::Text),
-        1 => Some(LineForm::Timestamp),
+        1 => Some(LineForm::OrTimestamp),
         2 => Some(LineForm::Strict),
         _ => None,
     }
@@ -118,31 +117,10 @@ impl SpeedateProgress {
     }
 }
 
-/// Reads a column, writes how far it has come, and gives the code. The number `least` is that of a line
-/// that is refused.
+/// Reads a column, and writes how far it has come, and the number of each line's error too if there is a
+/// place for one, and gives the code. The number `least` is that of a line that is refused.
 #[inline(always)]
 fn write_column<R: LineReader>(
-    text: &[u8],
-    choices: &ColumnChoices,
-    reader: &R,
-    least: R::Number,
-    out: &mut [R::Number],
-    progress: &mut SpeedateProgress,
-) -> i32
-    ensures success { result ≡ success }
-    ensures column { IsColumn (R.answer reader.now) choices.now.lines
-        (on_refusal choices.now.goes_on least) text.now out.old out.new progress.new }
-{
-    let refused = choices.goes_on.then_some(least);
-    let read = read_column(text, choices.lines, reader, refused, out);
-    *progress = SpeedateProgress::from_progress(read);
-    SUCCESS
-}
-
-/// Reads a column, and writes the number of each line's error and how far the column has come, and gives
-/// the code. The number `least` is that of a line that is refused.
-#[inline(always)]
-fn write_column_with_errors<R: LineReader>(
     text: &[u8],
     choices: &ColumnChoices,
     reader: &R,
@@ -152,10 +130,15 @@ fn write_column_with_errors<R: LineReader>(
     progress: &mut SpeedateProgress,
 ) -> i32
     ensures success { result ≡ success }
-    ensures column { IsColumnWithErrors (R.answer reader.now) choices.now.lines least text.now
+    ensures column { IsColumn (R.answer reader.now) choices.now least text.now
         out.old out.new errors.old errors.new progress.new }
 {
-    let read = read_column_with_errors(text, choices.lines, reader, least, out, errors);
+    let read = if errors.is_empty() {
+        let refused = choices.goes_on.then_some(least);
+        read_column(text, choices.lines, reader, refused, out)
+    } else {
+        read_column_with_errors(text, choices.lines, reader, least, out, errors)
+    };
     *progress = SpeedateProgress::from_progress(read);
     SUCCESS
 }

@@ -14,7 +14,7 @@ ghost use Rattle.speedate_c.specs.Code.{order_number, success, value_out_of_rang
 ghost use Rattle.speedate_c.specs.Config.{choices_of};
 ghost use Rattle.speedate_c.specs.Date.{date_of, shown_date};
 
-mod error_place;
+mod part;
 mod timestamp;
 
 use crate::code::{NO_SUCH_DATE, SUCCESS, order_number};
@@ -108,7 +108,7 @@ pub extern "C" fn speedate_date_parse(
 /// Parses a date from a text, and no timestamp, as [`Date::parse_bytes_rfc3339`] does: 2020-02-29
 /// from `2020-02-29`.
 #[unsafe(no_mangle)]
-pub extern "C" fn speedate_date_parse_rfc3339(text: &[u8], out: &mut SpeedateDate) -> i32
+pub extern "C" fn speedate_date_parse_text(text: &[u8], out: &mut SpeedateDate) -> i32
     ensures answer { (result, out.new) ≡ written_answer shown_date out.old (date_answer text.now) }
 {
     write_date(Date::parse_bytes_rfc3339(text), out)
@@ -217,17 +217,17 @@ pub extern "C" fn speedate_date_add_days(
     write_some(date.checked_add_days(days), out)
 }
 
-/// The days from an earlier date to a date, as [`Date::days_since`] gives them: 2 for 2020-03-01
-/// and the earlier 2020-02-28. They are negative if `earlier` is the later one.
+/// The days from one date to another, as [`Date::days_since`] gives them: 2 from 2020-02-28 to
+/// 2020-03-01. They are negative if `later` is the earlier one.
 #[unsafe(no_mangle)]
-pub extern "C" fn speedate_date_days_since(
-    date: SpeedateDate,
+pub extern "C" fn speedate_date_days_between(
     earlier: SpeedateDate,
+    later: SpeedateDate,
     out: &mut i32,
 ) -> i32
-    ensures answer { (result, out.new) ≡ with_value (date_of date) (value_out_of_range, out.old)
-        (λ date. with_value (date_of earlier) (value_out_of_range, out.old)
-        (λ earlier. written_value (days_between earlier date))) }
+    ensures answer { (result, out.new) ≡ with_value (date_of earlier) (value_out_of_range, out.old)
+        (λ earlier. with_value (date_of later) (value_out_of_range, out.old)
+        (λ later. written_value (days_between earlier later))) }
 {
-    write_of!(date, earlier => *out = date.days_since(&earlier))
+    write_of!(earlier, later => *out = later.days_since(&earlier))
 }

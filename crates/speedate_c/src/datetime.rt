@@ -13,7 +13,7 @@ ghost use Rattle.speedate_c.specs.Code.{order_number, success, value_out_of_rang
 ghost use Rattle.speedate_c.specs.Config.{choices_of};
 ghost use Rattle.speedate_c.specs.DateTime.{date_time_of, shown_date_time};
 
-mod error_place;
+mod part;
 mod timestamp;
 
 use crate::code::{SUCCESS, order_number};
@@ -97,7 +97,7 @@ pub extern "C" fn speedate_datetime_parse(
 /// [`DateTime::parse_bytes_rfc3339_with_config`] does: 12:13 on 1 January 2020 from
 /// `2020-01-01_12:13`. `CONFIG_OUT_OF_RANGE` comes first.
 #[unsafe(no_mangle)]
-pub extern "C" fn speedate_datetime_parse_rfc3339(
+pub extern "C" fn speedate_datetime_parse_text(
     text: &[u8],
     config: SpeedateConfig,
     out: &mut SpeedateDateTime,

@@ -14,7 +14,7 @@ ghost use Rattle.speedate_c.specs.Code.{order_number, value_out_of_range};
 ghost use Rattle.speedate_c.specs.Config.{choices_of};
 ghost use Rattle.speedate_c.specs.Duration.{duration_of, numbers_of, shown_duration};
 
-mod error_place;
+mod part;
 
 use crate::code::{SUCCESS, VALUE_OUT_OF_RANGE, order_number};
 use crate::config::SpeedateConfig;

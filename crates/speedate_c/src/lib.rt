@@ -34,13 +34,13 @@ macro_rules! answer_or_return {
     };
 }
 
-/// The value of an answer. If there is none the call writes the part for which the text is refused, and ends
-/// with the code of the error.
+/// The value of an answer. If there is none the call, which is of a kind, writes the part for which the text
+/// is refused, and ends with the code of the error.
 macro_rules! value_or_part {
-    ($answer:expr, $text:expr => $part:expr) => {
+    ($answer:expr, $kind:expr, $text:expr => $part:expr) => {
         match $answer {
             Ok(value) => value,
-            Err(refused) => return $crate::part::write_part(refused, $text, $part),
+            Err(refused) => return $crate::part::write_part(refused, $kind, $text, $part),
         }
     };
 }
@@ -93,20 +93,11 @@ mod part;
 mod text;
 mod time;
 
-/// The version of the interface, the macro `SPEEDATE_VERSION` of `c/speedate.h`: 1, which is not a
-/// code.
+/// The version of the library, the macro `SPEEDATE_VERSION_NUMBER` of `c/speedate.h`: a million times the
+/// major number, a thousand times the minor one and the patch, which is not a code.
 #[unsafe(no_mangle)]
 pub extern "C" fn speedate_version() -> i32
-    ensures version { result ≡ pos 1 }
+    ensures version { result ≡ pos 1000000 }
 {
-    1
-}
-
-/// The minor version of the interface, the macro `SPEEDATE_VERSION_MINOR` of `c/speedate.h`: 0,
-/// which is not a code.
-#[unsafe(no_mangle)]
-pub extern "C" fn speedate_version_minor() -> i32
-    ensures version { result ≡ pos 0 }
-{
-    0
+    1_000_000
 }

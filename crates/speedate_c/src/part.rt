@@ -1,11 +1,11 @@
 //! Parts of texts that are refused, as C sees them.
 
 ghost use Rattle.std.specs.Prelude.{◌≡◌, Some};
-ghost use Rattle.speedate_c.specs.Code.{fault_code, fault_of};
+ghost use Rattle.speedate_c.specs.Code.{fault_code, fault_of, kind_number};
 ghost use Rattle.speedate_c.specs.Written.{part_at};
 
-use crate::code::fault_code;
-use speedate::Refused;
+use crate::code::{fault_code, kind_number};
+use speedate::{CallKind, Refused};
 
 /// The part of a text for which it is refused.
 #[repr(C)]
@@ -15,17 +15,32 @@ pub struct SpeedatePart {
     pub place: usize,
     /// The byte at which it ends: the place itself if nothing is there.
     pub end: usize,
+    /// The number of the kind of the call that refused the text: 0 if no text is refused.
+    pub kind: i32,
 }
 
-/// Writes the part for which a text is refused, and gives the code.
-pub(crate) fn write_part(refused: Refused, text: &[u8], part: &mut SpeedatePart) -> i32
+/// What a call writes if it refuses no text.
+pub(crate) const NO_PART: SpeedatePart = SpeedatePart {
+    place: 0,
+    end: 0,
+    kind: 0,
+};
+
+/// Writes the part for which a call of a kind refuses a text, and gives the code.
+pub(crate) fn write_part(
+    refused: Refused,
+    kind: CallKind,
+    text: &[u8],
+    part: &mut SpeedatePart,
+) -> i32
     ensures code { result ≡ fault_code refused.fault }
-    ensures part { part.new ≡ part_at refused.fault text.now refused.place }
+    ensures part { part.new ≡ part_at refused.fault kind text.now refused.place }
     ensures reads_back { fault_of result ≡ Some refused.fault }
 {
     *part = SpeedatePart {
         place: refused.place,
         end: refused.fault.part_end(text, refused.place),
+        kind: kind_number(kind),
     };
     fault_code(refused.fault)
 }

@@ -1,6 +1,5 @@
-//! Texts in buffers of the caller's, and places of texts.
+//! Texts in buffers of the caller's, and what is said of codes.
 
-ghost use Rattle.std.specs.Option.{unwrap_or};
 ghost use Rattle.std.specs.Prelude.{◌≡◌, ◌≢◌, ◌+◌, ◌<◌, ◌≤◌, ◌∷◌, ◌++◌, drop, length};
 ghost use Rattle.speedate.specs.Part.{part_end};
 ghost use Rattle.speedate_c.specs.Written.{written_text, written_value, with_option};
@@ -10,6 +9,7 @@ ghost use Rattle.speedate_c.specs.Code.{fault_of, success, value_out_of_range};
 use crate::code::{
     BUFFER_TOO_SMALL, SUCCESS, VALUE_OUT_OF_RANGE, call_kind_of, code_expected, code_row, fault_of,
 };
+use crate::part::SpeedatePart;
 
 /// Writes a text and a zero byte after it into a buffer, and its length beside it, and gives the
 /// code.
@@ -39,19 +39,9 @@ fn fill(text: &str, buffer: &mut [u8])
     buffer[size] = 0;
 }
 
-/// Writes the place of a text's error, if there is one.
-#[inline(always)]
-pub(crate) fn write_place(found: Option<usize>, place: &mut usize)
-    ensures after { place.new ≡ unwrap_or found place.old }
-{
-    if let Some(found) = found {
-        *place = found;
-    }
-}
-
-/// Prints the name of a code: `too_short` for 1.
+/// Prints the name of a code: `too_short` for 1, `ok` for 0.
 ///
-/// `VALUE_OUT_OF_RANGE` for 0 and for a number that is no code, `BUFFER_TOO_SMALL` if the buffer
+/// `VALUE_OUT_OF_RANGE` for a number that is no code, `BUFFER_TOO_SMALL` if the buffer
 /// has no room for the name and a zero byte.
 #[unsafe(no_mangle)]
 pub extern "C" fn speedate_code_name(code: i32, buffer: &mut [u8], text_length: &mut usize) -> i32
@@ -86,25 +76,25 @@ pub extern "C" fn speedate_code_documentation(
     write_text(documentation, buffer, text_length)
 }
 
-/// Prints what a call expected where it refused, for people: `month, 01 to 12` for 21. The kind of the
-/// call is a number, 0 to 8.
+/// Prints what a call expected that gave a code and wrote a part, for people: `month, 01 to 12` for 21. The
+/// part has the kind of the call; its place and its end do not matter.
 ///
-/// The refusals are those of [`speedate_code_name`], and `VALUE_OUT_OF_RANGE` for another kind.
+/// The refusals are those of [`speedate_code_name`], and `VALUE_OUT_OF_RANGE` for 0 and for another kind.
 #[unsafe(no_mangle)]
 pub extern "C" fn speedate_code_expected(
     code: i32,
-    kind: i32,
+    part: &SpeedatePart,
     buffer: &mut [u8],
     text_length: &mut usize,
 ) -> i32
     ensures answer { (result, buffer.new, text_length.new)
-        ≡ with_option (call_kind_of kind) (value_out_of_range, buffer.old, text_length.old)
+        ≡ with_option (call_kind_of part.now.kind) (value_out_of_range, buffer.old, text_length.old)
         (λ kind. with_option (code_expected code kind)
         (value_out_of_range, buffer.old, text_length.old)
         (λ text. written_text text buffer.old text_length.old)) }
     ensures room { 64 ≤ length buffer.old → result ≢ buffer_too_small }
 {
-    let Some(kind) = call_kind_of(kind) else {
+    let Some(kind) = call_kind_of(part.kind) else {
         return VALUE_OUT_OF_RANGE;
     };
     let Some(text) = code_expected(code, kind) else {

@@ -15,7 +15,7 @@ ghost use Rattle.speedate_c.specs.Code.{order_number, success, value_out_of_rang
 ghost use Rattle.speedate_c.specs.Config.{choices_of};
 ghost use Rattle.speedate_c.specs.Time.{shown_time, time_of};
 
-mod error_place;
+mod part;
 mod timestamp;
 
 use crate::code::{SUCCESS, order_number};

@@ -1,16 +1,11 @@
 //! Columns of dates as C sees them.
 
-ghost use Rattle.std.specs.Option.{option_map};
 ghost use Rattle.std.specs.Prelude.{◌≡◌, MatchOption};
-ghost use Rattle.speedate.specs.Column.{date_number};
 ghost use Rattle.speedate_c.specs.Code.{config_out_of_range, success};
-ghost use Rattle.speedate_c.specs.Column.{IsColumn, IsColumnWithErrors, chosen_for_dates};
-ghost use Rattle.speedate_c.specs.Column.{date_number_by, least_of_32_bits, on_refusal};
+ghost use Rattle.speedate_c.specs.Column.{IsColumn, chosen_for_dates};
+ghost use Rattle.speedate_c.specs.Column.{date_reader, least_of_32_bits};
 
-use super::{
-    ColumnChoices, LineForm, SpeedateColumnConfig, SpeedateProgress, write_column,
-    write_column_with_errors,
-};
+use super::{ColumnChoices, LineForm, SpeedateColumnConfig, SpeedateProgress, write_column};
 use crate::config::SpeedateConfig;
 use speedate::{DateConfig, DateReader};
 
@@ -18,12 +13,11 @@ impl ColumnChoices {
     /// The reader of dates, if the form is one of dates.
     #[inline(always)]
     fn date_reader(&self, config: DateConfig) -> Option<DateReader>
-        ensures reads { option_map date_number result
-            ≡ date_number_by config.timestamp_unit self.now.form }
+        ensures reader { result ≡ date_reader config.timestamp_unit self.now.form }
     {
         match self.form {
             LineForm::Text => Some(DateReader::Rfc3339),
-            LineForm::Timestamp => Some(DateReader::OrTimestamp(config)),
+            LineForm::OrTimestamp => Some(DateReader::OrTimestamp(config)),
             LineForm::Strict => None,
         }
     }
@@ -40,39 +34,17 @@ pub extern "C" fn speedate_date_column(
     config: SpeedateConfig,
     column: SpeedateColumnConfig,
     out: &mut [i32],
-    progress: &mut SpeedateProgress,
-) -> i32
-    ensures answer { MatchOption (chosen_for_dates config column)
-        ((result ≡ config_out_of_range) × (out.new ≡ out.old) × (progress.new ≡ progress.old))
-        (λ chosen. (result ≡ success) × IsColumn chosen.1 chosen.0.lines
-        (on_refusal chosen.0.goes_on least_of_32_bits) text.now out.old out.new progress.new) }
-{
-    let config = config_or_return!(config.to_date_config());
-    let choices = config_or_return!(column.to_choices());
-    let reader = config_or_return!(choices.date_reader(config));
-    write_column(text, &choices, &reader, i32::MIN, out, progress)
-}
-
-/// Reads a column as [`speedate_date_column`] does, and writes the number of the error of each line too,
-/// or 0 for none, as [`read_column_with_errors`] does. No line ends the column: one that is refused has
-/// the smallest number.
-#[unsafe(no_mangle)]
-pub extern "C" fn speedate_date_column_with_errors(
-    text: &[u8],
-    config: SpeedateConfig,
-    column: SpeedateColumnConfig,
-    out: &mut [i32],
     errors: &mut [u8],
     progress: &mut SpeedateProgress,
 ) -> i32
     ensures answer { MatchOption (chosen_for_dates config column)
         ((result ≡ config_out_of_range) × (out.new ≡ out.old) × (errors.new ≡ errors.old)
         × (progress.new ≡ progress.old))
-        (λ chosen. (result ≡ success) × IsColumnWithErrors chosen.1 chosen.0.lines
-        least_of_32_bits text.now out.old out.new errors.old errors.new progress.new) }
+        (λ chosen. (result ≡ success) × IsColumn chosen.1 chosen.0 least_of_32_bits text.now
+        out.old out.new errors.old errors.new progress.new) }
 {
     let config = config_or_return!(config.to_date_config());
     let choices = config_or_return!(column.to_choices());
     let reader = config_or_return!(choices.date_reader(config));
-    write_column_with_errors(text, &choices, &reader, i32::MIN, out, errors, progress)
+    write_column(text, &choices, &reader, i32::MIN, out, errors, progress)
 }

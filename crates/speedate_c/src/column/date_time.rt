@@ -4,16 +4,13 @@ ghost use Rattle.std.specs.Prelude.{◌≡◌, MatchOption};
 ghost use Rattle.speedate.specs.Column.{clock_number, date_time_number, date_time_offset_number};
 ghost use Rattle.speedate.specs.Config.{choices};
 ghost use Rattle.speedate_c.specs.Code.{config_out_of_range, success};
-ghost use Rattle.speedate_c.specs.Column.{IsColumn, IsColumnWithErrors, chosen_for_clocks};
+ghost use Rattle.speedate_c.specs.Column.{IsColumn, chosen_for_clocks};
 ghost use Rattle.speedate_c.specs.Column.{chosen_for_date_time_offsets, chosen_for_date_times};
 ghost use Rattle.speedate_c.specs.Column.{clock_number_by, date_time_number_by};
 ghost use Rattle.speedate_c.specs.Column.{date_time_offset_number_by, least_of_32_bits};
-ghost use Rattle.speedate_c.specs.Column.{least_of_64_bits, on_refusal};
+ghost use Rattle.speedate_c.specs.Column.{least_of_64_bits};
 
-use super::{
-    ColumnChoices, LineForm, SpeedateColumnConfig, SpeedateProgress, write_column,
-    write_column_with_errors,
-};
+use super::{ColumnChoices, LineForm, SpeedateColumnConfig, SpeedateProgress, write_column};
 use crate::config::SpeedateConfig;
 use speedate::{
     DateTimeClockReader, DateTimeConfig, DateTimeOffsetReader, DateTimeParser, DateTimeReader,
@@ -34,7 +31,7 @@ impl ColumnChoices {
         let time_config = config.time_config;
         match self.form {
             LineForm::Text => DateTimeParser::Text(time_config),
-            LineForm::Timestamp => DateTimeParser::OrTimestamp(*config),
+            LineForm::OrTimestamp => DateTimeParser::OrTimestamp(*config),
             LineForm::Strict => {
                 DateTimeParser::Strict(time_config.microseconds_precision_overflow_behavior)
             }
@@ -65,41 +62,19 @@ pub extern "C" fn speedate_datetime_column(
     config: SpeedateConfig,
     column: SpeedateColumnConfig,
     out: &mut [i64],
-    progress: &mut SpeedateProgress,
-) -> i32
-    ensures answer { MatchOption (chosen_for_date_times config column)
-        ((result ≡ config_out_of_range) × (out.new ≡ out.old) × (progress.new ≡ progress.old))
-        (λ chosen. (result ≡ success) × IsColumn chosen.1 chosen.0.lines
-        (on_refusal chosen.0.goes_on least_of_64_bits) text.now out.old out.new progress.new) }
-{
-    let config = config_or_return!(config.to_config());
-    let choices = config_or_return!(column.to_choices());
-    let reader = choices.date_time_reader(&config);
-    write_column(text, &choices, &reader, i64::MIN, out, progress)
-}
-
-/// Reads a column as [`speedate_datetime_column`] does, and writes the number of the error of each line too,
-/// or 0 for none, as [`read_column_with_errors`] does. No line ends the column: one that is refused has
-/// the smallest number.
-#[unsafe(no_mangle)]
-pub extern "C" fn speedate_datetime_column_with_errors(
-    text: &[u8],
-    config: SpeedateConfig,
-    column: SpeedateColumnConfig,
-    out: &mut [i64],
     errors: &mut [u8],
     progress: &mut SpeedateProgress,
 ) -> i32
     ensures answer { MatchOption (chosen_for_date_times config column)
         ((result ≡ config_out_of_range) × (out.new ≡ out.old) × (errors.new ≡ errors.old)
         × (progress.new ≡ progress.old))
-        (λ chosen. (result ≡ success) × IsColumnWithErrors chosen.1 chosen.0.lines
-        least_of_64_bits text.now out.old out.new errors.old errors.new progress.new) }
+        (λ chosen. (result ≡ success) × IsColumn chosen.1 chosen.0 least_of_64_bits text.now
+        out.old out.new errors.old errors.new progress.new) }
 {
     let config = config_or_return!(config.to_config());
     let choices = config_or_return!(column.to_choices());
     let reader = choices.date_time_reader(&config);
-    write_column_with_errors(text, &choices, &reader, i64::MIN, out, errors, progress)
+    write_column(text, &choices, &reader, i64::MIN, out, errors, progress)
 }
 
 /// Reads the lines of a text as date-times, and writes the microseconds since 1970-01-01T00:00:00 that
@@ -113,43 +88,20 @@ pub extern "C" fn speedate_datetime_clock_column(
     config: SpeedateConfig,
     column: SpeedateColumnConfig,
     out: &mut [i64],
-    progress: &mut SpeedateProgress,
-) -> i32
-    ensures answer { MatchOption (chosen_for_clocks config column)
-        ((result ≡ config_out_of_range) × (out.new ≡ out.old) × (progress.new ≡ progress.old))
-        (λ chosen. (result ≡ success) × IsColumn chosen.1 chosen.0.lines
-        (on_refusal chosen.0.goes_on least_of_64_bits) text.now out.old out.new progress.new) }
-{
-    let config = config_or_return!(config.to_config());
-    let choices = config_or_return!(column.to_choices());
-    let parser = choices.date_time_parser(&config);
-    let reader = DateTimeClockReader { parser };
-    write_column(text, &choices, &reader, i64::MIN, out, progress)
-}
-
-/// Reads a column as [`speedate_datetime_clock_column`] does, and writes the number of the error of each line
-/// too, or 0 for none, as [`read_column_with_errors`] does. No line ends the column: one that is refused has
-/// the smallest number.
-#[unsafe(no_mangle)]
-pub extern "C" fn speedate_datetime_clock_column_with_errors(
-    text: &[u8],
-    config: SpeedateConfig,
-    column: SpeedateColumnConfig,
-    out: &mut [i64],
     errors: &mut [u8],
     progress: &mut SpeedateProgress,
 ) -> i32
     ensures answer { MatchOption (chosen_for_clocks config column)
         ((result ≡ config_out_of_range) × (out.new ≡ out.old) × (errors.new ≡ errors.old)
         × (progress.new ≡ progress.old))
-        (λ chosen. (result ≡ success) × IsColumnWithErrors chosen.1 chosen.0.lines
-        least_of_64_bits text.now out.old out.new errors.old errors.new progress.new) }
+        (λ chosen. (result ≡ success) × IsColumn chosen.1 chosen.0 least_of_64_bits text.now
+        out.old out.new errors.old errors.new progress.new) }
 {
     let config = config_or_return!(config.to_config());
     let choices = config_or_return!(column.to_choices());
     let parser = choices.date_time_parser(&config);
     let reader = DateTimeClockReader { parser };
-    write_column_with_errors(text, &choices, &reader, i64::MIN, out, errors, progress)
+    write_column(text, &choices, &reader, i64::MIN, out, errors, progress)
 }
 
 /// Reads the lines of a text as date-times, and writes the seconds of their offsets, as [`read_column`] does
@@ -163,41 +115,18 @@ pub extern "C" fn speedate_datetime_offset_column(
     config: SpeedateConfig,
     column: SpeedateColumnConfig,
     out: &mut [i32],
-    progress: &mut SpeedateProgress,
-) -> i32
-    ensures answer { MatchOption (chosen_for_date_time_offsets config column)
-        ((result ≡ config_out_of_range) × (out.new ≡ out.old) × (progress.new ≡ progress.old))
-        (λ chosen. (result ≡ success) × IsColumn chosen.1 chosen.0.lines
-        (on_refusal chosen.0.goes_on least_of_32_bits) text.now out.old out.new progress.new) }
-{
-    let config = config_or_return!(config.to_config());
-    let choices = config_or_return!(column.to_choices());
-    let parser = choices.date_time_parser(&config);
-    let reader = DateTimeOffsetReader { parser };
-    write_column(text, &choices, &reader, i32::MIN, out, progress)
-}
-
-/// Reads a column as [`speedate_datetime_offset_column`] does, and writes the number of the error of each line
-/// too, or 0 for none, as [`read_column_with_errors`] does. No line ends the column: one that is refused has
-/// the smallest number.
-#[unsafe(no_mangle)]
-pub extern "C" fn speedate_datetime_offset_column_with_errors(
-    text: &[u8],
-    config: SpeedateConfig,
-    column: SpeedateColumnConfig,
-    out: &mut [i32],
     errors: &mut [u8],
     progress: &mut SpeedateProgress,
 ) -> i32
     ensures answer { MatchOption (chosen_for_date_time_offsets config column)
         ((result ≡ config_out_of_range) × (out.new ≡ out.old) × (errors.new ≡ errors.old)
         × (progress.new ≡ progress.old))
-        (λ chosen. (result ≡ success) × IsColumnWithErrors chosen.1 chosen.0.lines
-        least_of_32_bits text.now out.old out.new errors.old errors.new progress.new) }
+        (λ chosen. (result ≡ success) × IsColumn chosen.1 chosen.0 least_of_32_bits text.now
+        out.old out.new errors.old errors.new progress.new) }
 {
     let config = config_or_return!(config.to_config());
     let choices = config_or_return!(column.to_choices());
     let parser = choices.date_time_parser(&config);
     let reader = DateTimeOffsetReader { parser };
-    write_column_with_errors(text, &choices, &reader, i32::MIN, out, errors, progress)
+    write_column(text, &choices, &reader, i32::MIN, out, errors, progress)
 }

@@ -4,10 +4,10 @@ ghost use Rattle.std.specs.Prelude.{◌≡◌, MatchOption};
 ghost use Rattle.speedate.specs.Column.{duration_number};
 ghost use Rattle.speedate.specs.Config.{choices};
 ghost use Rattle.speedate_c.specs.Code.{config_out_of_range, success};
-ghost use Rattle.speedate_c.specs.Column.{IsColumn, IsColumnWithErrors, chosen_for_durations};
-ghost use Rattle.speedate_c.specs.Column.{duration_number_by, least_of_64_bits, on_refusal};
+ghost use Rattle.speedate_c.specs.Column.{IsColumn, chosen_for_durations};
+ghost use Rattle.speedate_c.specs.Column.{duration_number_by, least_of_64_bits};
 
-use super::{SpeedateColumnConfig, SpeedateProgress, write_column, write_column_with_errors};
+use super::{SpeedateColumnConfig, SpeedateProgress, write_column};
 use crate::config::SpeedateConfig;
 use speedate::{DateTimeConfig, DurationReader};
 
@@ -31,39 +31,17 @@ pub extern "C" fn speedate_duration_column(
     config: SpeedateConfig,
     column: SpeedateColumnConfig,
     out: &mut [i64],
-    progress: &mut SpeedateProgress,
-) -> i32
-    ensures answer { MatchOption (chosen_for_durations config column)
-        ((result ≡ config_out_of_range) × (out.new ≡ out.old) × (progress.new ≡ progress.old))
-        (λ chosen. (result ≡ success) × IsColumn chosen.1 chosen.0.lines
-        (on_refusal chosen.0.goes_on least_of_64_bits) text.now out.old out.new progress.new) }
-{
-    let config = config_or_return!(config.to_config());
-    let choices = config_or_return!(column.to_choices());
-    let reader = duration_reader(&config);
-    write_column(text, &choices, &reader, i64::MIN, out, progress)
-}
-
-/// Reads a column as [`speedate_duration_column`] does, and writes the number of the error of each line too,
-/// or 0 for none, as [`read_column_with_errors`] does. No line ends the column: one that is refused has
-/// the smallest number.
-#[unsafe(no_mangle)]
-pub extern "C" fn speedate_duration_column_with_errors(
-    text: &[u8],
-    config: SpeedateConfig,
-    column: SpeedateColumnConfig,
-    out: &mut [i64],
     errors: &mut [u8],
     progress: &mut SpeedateProgress,
 ) -> i32
     ensures answer { MatchOption (chosen_for_durations config column)
         ((result ≡ config_out_of_range) × (out.new ≡ out.old) × (errors.new ≡ errors.old)
         × (progress.new ≡ progress.old))
-        (λ chosen. (result ≡ success) × IsColumnWithErrors chosen.1 chosen.0.lines
-        least_of_64_bits text.now out.old out.new errors.old errors.new progress.new) }
+        (λ chosen. (result ≡ success) × IsColumn chosen.1 chosen.0 least_of_64_bits text.now
+        out.old out.new errors.old errors.new progress.new) }
 {
     let config = config_or_return!(config.to_config());
     let choices = config_or_return!(column.to_choices());
     let reader = duration_reader(&config);
-    write_column_with_errors(text, &choices, &reader, i64::MIN, out, errors, progress)
+    write_column(text, &choices, &reader, i64::MIN, out, errors, progress)
 }

@@ -5,14 +5,11 @@ ghost use Rattle.std.specs.Prelude.{◌≡◌, MatchOption};
 ghost use Rattle.speedate.specs.Column.{time_of_line};
 ghost use Rattle.speedate.specs.Config.{choices};
 ghost use Rattle.speedate_c.specs.Code.{config_out_of_range, success};
-ghost use Rattle.speedate_c.specs.Column.{IsColumn, IsColumnWithErrors, chosen_for_time_offsets};
+ghost use Rattle.speedate_c.specs.Column.{IsColumn, chosen_for_time_offsets};
 ghost use Rattle.speedate_c.specs.Column.{chosen_for_times, least_of_32_bits, least_of_64_bits};
-ghost use Rattle.speedate_c.specs.Column.{on_refusal, time_of_form};
+ghost use Rattle.speedate_c.specs.Column.{time_of_form};
 
-use super::{
-    ColumnChoices, LineForm, SpeedateColumnConfig, SpeedateProgress, write_column,
-    write_column_with_errors,
-};
+use super::{ColumnChoices, LineForm, SpeedateColumnConfig, SpeedateProgress, write_column};
 use crate::config::SpeedateConfig;
 use speedate::{DateTimeConfig, TimeOffsetReader, TimeParser, TimeReader};
 
@@ -26,7 +23,7 @@ impl ColumnChoices {
         let time_config = config.time_config;
         match self.form {
             LineForm::Text => Some(TimeParser::Text(time_config)),
-            LineForm::Timestamp => None,
+            LineForm::OrTimestamp => None,
             LineForm::Strict => {
                 let behavior = time_config.microseconds_precision_overflow_behavior;
                 Some(TimeParser::Strict(behavior))
@@ -46,43 +43,20 @@ pub extern "C" fn speedate_time_column(
     config: SpeedateConfig,
     column: SpeedateColumnConfig,
     out: &mut [i64],
-    progress: &mut SpeedateProgress,
-) -> i32
-    ensures answer { MatchOption (chosen_for_times config column)
-        ((result ≡ config_out_of_range) × (out.new ≡ out.old) × (progress.new ≡ progress.old))
-        (λ chosen. (result ≡ success) × IsColumn chosen.1 chosen.0.lines
-        (on_refusal chosen.0.goes_on least_of_64_bits) text.now out.old out.new progress.new) }
-{
-    let config = config_or_return!(config.to_config());
-    let choices = config_or_return!(column.to_choices());
-    let parser = config_or_return!(choices.time_parser(&config));
-    let reader = TimeReader { parser };
-    write_column(text, &choices, &reader, i64::MIN, out, progress)
-}
-
-/// Reads a column as [`speedate_time_column`] does, and writes the number of the error of each line
-/// too, or 0 for none, as [`read_column_with_errors`] does. No line ends the column: one that is refused has
-/// the smallest number.
-#[unsafe(no_mangle)]
-pub extern "C" fn speedate_time_column_with_errors(
-    text: &[u8],
-    config: SpeedateConfig,
-    column: SpeedateColumnConfig,
-    out: &mut [i64],
     errors: &mut [u8],
     progress: &mut SpeedateProgress,
 ) -> i32
     ensures answer { MatchOption (chosen_for_times config column)
         ((result ≡ config_out_of_range) × (out.new ≡ out.old) × (errors.new ≡ errors.old)
         × (progress.new ≡ progress.old))
-        (λ chosen. (result ≡ success) × IsColumnWithErrors chosen.1 chosen.0.lines
-        least_of_64_bits text.now out.old out.new errors.old errors.new progress.new) }
+        (λ chosen. (result ≡ success) × IsColumn chosen.1 chosen.0 least_of_64_bits text.now
+        out.old out.new errors.old errors.new progress.new) }
 {
     let config = config_or_return!(config.to_config());
     let choices = config_or_return!(column.to_choices());
     let parser = config_or_return!(choices.time_parser(&config));
     let reader = TimeReader { parser };
-    write_column_with_errors(text, &choices, &reader, i64::MIN, out, errors, progress)
+    write_column(text, &choices, &reader, i64::MIN, out, errors, progress)
 }
 
 /// Reads the lines of a text as times, and writes the seconds of their offsets, as [`read_column`] does by a
@@ -97,41 +71,18 @@ pub extern "C" fn speedate_time_offset_column(
     config: SpeedateConfig,
     column: SpeedateColumnConfig,
     out: &mut [i32],
-    progress: &mut SpeedateProgress,
-) -> i32
-    ensures answer { MatchOption (chosen_for_time_offsets config column)
-        ((result ≡ config_out_of_range) × (out.new ≡ out.old) × (progress.new ≡ progress.old))
-        (λ chosen. (result ≡ success) × IsColumn chosen.1 chosen.0.lines
-        (on_refusal chosen.0.goes_on least_of_32_bits) text.now out.old out.new progress.new) }
-{
-    let config = config_or_return!(config.to_config());
-    let choices = config_or_return!(column.to_choices());
-    let parser = config_or_return!(choices.time_parser(&config));
-    let reader = TimeOffsetReader { parser };
-    write_column(text, &choices, &reader, i32::MIN, out, progress)
-}
-
-/// Reads a column as [`speedate_time_offset_column`] does, and writes the number of the error of each line
-/// too, or 0 for none, as [`read_column_with_errors`] does. No line ends the column: one that is refused has
-/// the smallest number.
-#[unsafe(no_mangle)]
-pub extern "C" fn speedate_time_offset_column_with_errors(
-    text: &[u8],
-    config: SpeedateConfig,
-    column: SpeedateColumnConfig,
-    out: &mut [i32],
     errors: &mut [u8],
     progress: &mut SpeedateProgress,
 ) -> i32
     ensures answer { MatchOption (chosen_for_time_offsets config column)
         ((result ≡ config_out_of_range) × (out.new ≡ out.old) × (errors.new ≡ errors.old)
         × (progress.new ≡ progress.old))
-        (λ chosen. (result ≡ success) × IsColumnWithErrors chosen.1 chosen.0.lines
-        least_of_32_bits text.now out.old out.new errors.old errors.new progress.new) }
+        (λ chosen. (result ≡ success) × IsColumn chosen.1 chosen.0 least_of_32_bits text.now
+        out.old out.new errors.old errors.new progress.new) }
 {
     let config = config_or_return!(config.to_config());
     let choices = config_or_return!(column.to_choices());
     let parser = config_or_return!(choices.time_parser(&config));
     let reader = TimeOffsetReader { parser };
-    write_column_with_errors(text, &choices, &reader, i32::MIN, out, errors, progress)
+    write_column(text, &choices, &reader, i32::MIN, out, errors, progress)
 }

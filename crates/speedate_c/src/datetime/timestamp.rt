@@ -41,7 +41,7 @@ pub extern "C" fn speedate_datetime_from_timestamp(
 ///
 /// The errors are those of that call; `CONFIG_OUT_OF_RANGE` comes first.
 #[unsafe(no_mangle)]
-pub extern "C" fn speedate_timestamp_microseconds(
+pub extern "C" fn speedate_datetime_timestamp_microseconds(
     timestamp: i64,
     config: SpeedateConfig,
     out: &mut i64,
@@ -64,7 +64,7 @@ pub extern "C" fn speedate_timestamp_microseconds(
 /// The second since 1970-01-01T00:00:00 that a clock at the offset shows, as
 /// [`DateTime::timestamp`] gives it: 86,400 for 1970-01-02T00:00:00+01:00.
 #[unsafe(no_mangle)]
-pub extern "C" fn speedate_datetime_timestamp(value: SpeedateDateTime, out: &mut i64) -> i32
+pub extern "C" fn speedate_datetime_clock_seconds(value: SpeedateDateTime, out: &mut i64) -> i32
     ensures answer { (result, out.new)
         ≡ with_value (date_time_of value) (value_out_of_range, out.old)
         (λ value. written_value (local_second value)) }
@@ -75,7 +75,10 @@ pub extern "C" fn speedate_datetime_timestamp(value: SpeedateDateTime, out: &mut
 /// The millisecond since 1970-01-01T00:00:00 that a clock at the offset shows, as
 /// [`DateTime::timestamp_ms`] gives it: 86,400,123 for 1970-01-02T00:00:00.123+01:00.
 #[unsafe(no_mangle)]
-pub extern "C" fn speedate_datetime_timestamp_ms(value: SpeedateDateTime, out: &mut i64) -> i32
+pub extern "C" fn speedate_datetime_clock_milliseconds(
+    value: SpeedateDateTime,
+    out: &mut i64,
+) -> i32
     ensures answer { (result, out.new)
         ≡ with_value (date_time_of value) (value_out_of_range, out.old)
         (λ value. written_value (local_millisecond value)) }
@@ -86,7 +89,7 @@ pub extern "C" fn speedate_datetime_timestamp_ms(value: SpeedateDateTime, out: &
 /// The second since 1970-01-01T00:00:00 in UTC, as [`DateTime::timestamp_tz`] gives it: 82,800 for
 /// 1970-01-02T00:00:00+01:00.
 #[unsafe(no_mangle)]
-pub extern "C" fn speedate_datetime_timestamp_tz(value: SpeedateDateTime, out: &mut i64) -> i32
+pub extern "C" fn speedate_datetime_unix_seconds(value: SpeedateDateTime, out: &mut i64) -> i32
     ensures answer { (result, out.new)
         ≡ with_value (date_time_of value) (value_out_of_range, out.old)
         (λ value. written_value (utc_second value)) }
@@ -97,7 +100,7 @@ pub extern "C" fn speedate_datetime_timestamp_tz(value: SpeedateDateTime, out: &
 /// The millisecond since 1970-01-01T00:00:00 in UTC, as [`DateTime::timestamp_tz_ms`] gives it:
 /// 82,800,123 for 1970-01-02T00:00:00.123+01:00.
 #[unsafe(no_mangle)]
-pub extern "C" fn speedate_datetime_timestamp_tz_ms(value: SpeedateDateTime, out: &mut i64) -> i32
+pub extern "C" fn speedate_datetime_unix_milliseconds(value: SpeedateDateTime, out: &mut i64) -> i32
     ensures answer { (result, out.new)
         ≡ with_value (date_time_of value) (value_out_of_range, out.old)
         (λ value. written_value (utc_millisecond value)) }
@@ -108,7 +111,7 @@ pub extern "C" fn speedate_datetime_timestamp_tz_ms(value: SpeedateDateTime, out
 /// The microsecond since 1970-01-01T00:00:00 in UTC, as [`DateTime::timestamp_tz_us`] gives it:
 /// 82,800,123,456 for 1970-01-02T00:00:00.123456+01:00.
 #[unsafe(no_mangle)]
-pub extern "C" fn speedate_datetime_timestamp_tz_us(value: SpeedateDateTime, out: &mut i64) -> i32
+pub extern "C" fn speedate_datetime_unix_microseconds(value: SpeedateDateTime, out: &mut i64) -> i32
     ensures answer { (result, out.new)
         ≡ with_value (date_time_of value) (value_out_of_range, out.old)
         (λ value. written_value (utc_microsecond value)) }
