@@ -1,11 +1,11 @@
-use Rattle.std.proofs.Common.{rules, ◌≡◌, ◌≢◌, ◌∙◌, ap, ap₂, sym, refl, add-zero, ℕ, ℤ, pos, ◌==◌, ◌||◌, Bool, true, false, List, drop, slice_index, Option, Some, None, Ok, IfSome, drop-drop, get_or-drop, arith, ◌+◌}
+use Rattle.std.proofs.Common.{rules, ◌≡◌, ◌≢◌, ◌∙◌, ap, sym, refl, add-zero, ℕ, ℤ, pos, ◌==◌, ◌||◌, Bool, true, false, List, drop, slice_index, Option, Some, None, Ok, IfSome, drop-drop, get_or-drop, arith, ◌+◌}
 use Rattle.std.proofs.lemmas.Bool.Decides.{nat_tests}
 use Rattle.std.proofs.lemmas.List.{take_rest}
 use Rattle.speedate_base.specs.Ascii.{colon, hyphen}
 use Rattle.speedate_base.specs.Digits.{eight_at}
 use Rattle.speedate_base.specs.Offset.{IsOffset}
 use Rattle.speedate_civil.specs.ParserParts.{IsOffsetOrUtc}
-use Rattle.speedate_civil.specs.Time.{has_minus_sign, is_plus_or_minus, is_utc, offset_front}
+use Rattle.speedate_civil.specs.Time.{is_plus_or_minus, is_utc, offset_front}
 use Rattle.speedate_civil.specs.Time.{signed_front}
 use Rattle.speedate_civil.proofs.time.offset.offset_or_utc.Goals as goal
 
