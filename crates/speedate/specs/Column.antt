@@ -1,6 +1,6 @@
 -- Columns: the lines of a text as numbers.
 use Rattle.std.specs.Prelude.{◌≡◌, ◌≢◌, ℕ, ◌-◌, ◌^◌, ◌<◌, ◌≤◌, Bool, false, ◌||◌, List, [], ◌∷◌, length, slice_index, take, drop, nat_lt, Option, Some, None, is_some, Result, Ok, Err, ℤ, pos, unsigned_abs, if◌then◌else◌}
-use Rattle.speedate_civil.specs.Base.{Behavior, ParseError}
+use Rattle.speedate_civil.specs.Base.{ParseError}
 use Rattle.speedate_base.specs.Ascii.{carriage_return}
 use Rattle.speedate_base.specs.Config.{time_choices}
 use Rattle.speedate_base.specs.Fault.{fault_number}
