@@ -1250,7 +1250,7 @@ static int add_some_lines(Column *column, Text *text, bool is_last) {
     int code = read_lines(column, text, lines, &read);
     if (thread)
         PyEval_RestoreThread(thread);
-    /* Where most lines are refused, the lock would be back before another thread has woken up. */
+    /* Where many lines are refused, little is read at once: to wait for the lock each time would take the column longer. */
     column->keeps_lock = read.count == REFUSED;
     for (size_t i = 0; i < read.count; i++) {
         const Refused *it = &read.refused[i];
