@@ -173,8 +173,8 @@ def csv_rows(folder):
             return [datetime.datetime.fromisoformat(it) for it in texts(file)]
 
     def frame(_):
-        table = pandas.read_csv(path)
-        moments = numpy.frombuffer(speedate.date_time_column(table["moment"]), "datetime64[us]")
+        table = pandas.read_csv(path, dtype=str, keep_default_na=False)
+        moments = numpy.frombuffer(speedate.date_time_column(table["moment"], empty="nat"), "datetime64[us]")
         return pandas.Series(moments, index=table.index).dt.tz_localize("UTC")
 
     def to_datetime(_):

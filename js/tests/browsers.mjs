@@ -132,7 +132,7 @@ async function visit({ SAID, MARKED, OFFERED, GUESSED }) {
   /** Whether what each refusal says is seen whole: in a line each, its text and the lines of its reason. */
   const isSaid = (name) => {
     for (const it of all(".why > span:not(.spoken)", (it) => it)) has(it.scrollWidth <= it.clientWidth && it.clientHeight > 0, `${name}: ${it.textContent}`);
-    for (const it of all("details", (it) => it)) has(it.getBoundingClientRect().height < 90, `${name}: a refusal of ${it.getBoundingClientRect().height} points`);
+    for (const it of all("details", (it) => it)) has(it.getBoundingClientRect().height < (innerWidth < 360 ? 110 : 90), `${name}: a refusal of ${it.getBoundingClientRect().height} points`);
   };
   for (const it of ["x", "2020-02-29".padEnd(300, "x"), `12:13:14.${"1".repeat(300)}x`, "\u200b".repeat(300)]) {
     type(it);
@@ -361,7 +361,7 @@ files["all.html"] = `<!DOCTYPE html>${reporting}
   <script type="module">(${readAll})()</script>`;
 writeFileSync("try.html", `${source("out/try.html")}${reporting}<script type="module">(${visit})(${JSON.stringify({ SAID: Object.keys(SAID), MARKED: Object.keys(MARKED), OFFERED, GUESSED })})</script>`);
 writeFileSync("frames.html", `<!DOCTYPE html><body><script>
-  const frames = [[360, "try.html#text=2021-02-29"], [1280, "try.html#text=2021-02-29"], [100, "http://127.0.0.1:${port}/all.html"], [100, "http://127.0.0.1:${port}/served.html#text=secret"]];
+  const frames = [[320, "try.html#text=2021-02-29"], [360, "try.html#text=2021-02-29"], [1280, "try.html#text=2021-02-29"], [100, "http://127.0.0.1:${port}/all.html"], [100, "http://127.0.0.1:${port}/served.html#text=secret"]];
   const add = ([width, src]) => document.body.append(Object.assign(document.createElement("iframe"), { width, src, height: 800 }));
   onmessage = () => frames.length && add(frames.shift());
   onmessage();
@@ -372,7 +372,7 @@ const told = async (seconds, what) => {
   assert.ok(!it.error, `${engine}, ${what}: ${it.error}`);
   return it;
 };
-const visits = [await told(120, "the page, narrow"), await told(120, "the page, wide")];
+const visits = [await told(120, "the page, narrowest"), await told(120, "the page, narrow"), await told(120, "the page, wide")];
 const all = await told(240, "the rows and the drawn texts");
 const served = await told(60, "the page, from a server");
 assert.deepEqual(served.asked, ["/asked"], "a visitor who types asks for nothing");
@@ -383,7 +383,7 @@ for (const { url, referer } of server.asked)
 assert.deepEqual(all.drawn, { ...readDrawn(), wrong: [] });
 assert.deepEqual(all.without, WITHOUT);
 assert.equal(all.handedOver, "PT1H30M");
-for (const [i, width] of [360, 1280].entries()) {
+for (const [i, width] of [320, 360, 1280].entries()) {
   const { calls, least, ...others } = visits[i];
   assert.deepEqual(others, { width, steps: STEPS, marks: Object.values(MARKED), offers: OFFERED, guesses: GUESSED, wrong: [] });
   assert.ok(least < 16, `what is typed is shown after ${least} milliseconds`);
@@ -392,7 +392,7 @@ for (const [i, width] of [360, 1280].entries()) {
 // ---- The calls that the page shows: those of JavaScript give the value, those of C are compiled, the others have names that are there ----
 
 const { calls } = visits[0];
-assert.deepEqual(calls, visits[1].calls);
+for (const it of visits) assert.deepEqual(calls, it.calls);
 const of = (language) => calls.filter(([it]) => it === language).map(([, value, code]) => [code, value]);
 assert.ok(["Rust", "Python", "C", "JavaScript"].every((it) => of(it).length > 8));
 for (const [code, value] of of("JavaScript"))

@@ -25,14 +25,14 @@ from ._speedate import (
     date_time_strict, duration, duration_column, text, time as time, time_column, time_from_timestamp, time_front,
     time_offset_column, time_strict)
 
-# `time` is left out: `from speedate import *` would hide the module of that name.
+# `date` and `time` are left out: `from speedate import *` would hide the class, and the module, of that name.
 __all__ = [
-    "Config", "Fault", "Refusal", "Unrepresentable", "__version__", "date", "date_column", "date_from_timestamp", "date_front",
+    "Config", "Fault", "Refusal", "Unrepresentable", "__version__", "date_column", "date_from_timestamp", "date_front",
     "date_time", "date_time_clock_column", "date_time_column", "date_time_from_timestamp", "date_time_front",
     "date_time_offset_column", "date_time_strict", "duration", "duration_column", "text", "time_column",
     "time_from_timestamp", "time_front", "time_offset_column", "time_strict"]
 
-for _call in (time, *map(globals().get, __all__)):
+for _call in (date, time, *map(globals().get, __all__)):
     if isinstance(_call, type(text)):
         _call.__module__ = __name__
 del _call

@@ -28,7 +28,7 @@ static const char *const hint_words[BOTH_HINTS + 1] = {
 /* The places of the objects that are held from the import on. Nothing is added afterwards. */
 enum {
     /* what is imported */
-    DATETIME, ARRAY, CONFIG, FAULT, UNREPRESENTABLE, REFUSAL, INTEGER, CHOICE, PLAIN, MISSING, ITEMS, TURN,
+    DATETIME, ARRAY, CONFIG, FAULT, UNREPRESENTABLE, REFUSAL, INTEGER, CHOICE, PLAIN, MISSING, ITEMS, TURN, CLAMPED,
     NUMBERS, INDEX, HINT, UTCOFFSET, FROMBYTES,       /* names of attributes */
     HINTS,                                            /* the words of each hint */
     ARGUMENTS = HINTS + BOTH_HINTS + 1,               /* of the fault of each code */
@@ -62,6 +62,7 @@ static const struct {
     [MISSING] = {"speedate._types", "_missing"},
     [ITEMS] = {"speedate._types", "_items"},
     [TURN] = {"speedate._types", "_turn"},
+    [CLAMPED] = {"speedate._types", "_clamped"},
 };
 
 /* ---- Errors ---- */
@@ -1249,7 +1250,7 @@ static int add_some_lines(Column *column, Text *text, bool is_last) {
     int code = read_lines(column, text, lines, &read);
     if (thread)
         PyEval_RestoreThread(thread);
-    /* Where most lines are refused, the lock would be back before another thread has woken up. */
+    /* Where many lines are refused, little is read at once: to wait for the lock each time would take the column longer. */
     column->keeps_lock = read.count == REFUSED;
     for (size_t i = 0; i < read.count; i++) {
         const Refused *it = &read.refused[i];
@@ -1355,8 +1356,17 @@ static int view_memory(PyObject *texts, bool (*has)(const Py_buffer *), PyObject
     return none ? 0 : -1;
 }
 
+/* Whether an item is not equal to itself, as NaN of any type is, and NaT. What cannot be asked is. */
+static bool differs_from_itself(PyObject *item) {
+    PyObject *differs = PyObject_RichCompare(item, item, Py_NE);
+    bool told = differs && PyObject_IsTrue(differs) == 1;
+    Py_XDECREF(differs);
+    PyErr_Clear();
+    return told;
+}
+
 static int is_missing(Column *column, PyObject *item) {
-    if (item == Py_None || (PyFloat_Check(item) && isnan(PyFloat_AS_DOUBLE(item))))
+    if (item == Py_None || (PyFloat_Check(item) ? isnan(PyFloat_AS_DOUBLE(item)) : differs_from_itself(item)))
         return 1;
     if (!column->missing && !(column->missing = PyObject_CallObject(column->state->held[MISSING], NULL)))
         return -1;
@@ -1375,17 +1385,23 @@ static inline int add_timestamp(Column *column, int64_t timestamp, int64_t *numb
     return refuse_text(column, code, next_index(column), NULL, NULL, 0, false);
 }
 
-/* The same of an integer, or of an object that stands for one. */
+/* The same of an integer. One over 64 bits is refused as the largest or the smallest of 64 is, which no unit has. */
+static int read_plain_integer(Column *column, PyObject *item, int64_t *number) {
+    int overflow = 0;
+    int64_t timestamp = PyLong_AsLongLongAndOverflow(item, &overflow);
+    return add_timestamp(column, overflow > 0 ? INT64_MAX : overflow < 0 ? INT64_MIN : timestamp, number);
+}
+
+/* The same of an object that stands for an integer. */
 static int read_integer(Column *column, PyObject *item, int64_t *number) {
-    int overflow = 1;
-    int64_t timestamp = PyLong_CheckExact(item) ? PyLong_AsLongLongAndOverflow(item, &overflow) : 0;
-    if (overflow) {
-        char name[32];
-        PyOS_snprintf(name, sizeof name, "text %zd", next_index(column));
-        if (take_integer(column->state, name, item, INT64_MIN, INT64_MAX, &timestamp) < 0)
-            return -1;
-    }
-    return add_timestamp(column, timestamp, number);
+    char name[32];
+    if (PyLong_CheckExact(item))
+        return read_plain_integer(column, item, number);
+    PyOS_snprintf(name, sizeof name, "text %zd", next_index(column));
+    PyObject *plain = PyObject_CallFunction(column->state->held[CLAMPED], "sO", name, item);
+    int status = plain ? read_plain_integer(column, plain, number) : -1;
+    Py_XDECREF(plain);
+    return status;
 }
 
 /* The number of an item, which may be a line with its end. */
@@ -1412,9 +1428,8 @@ static int read_item(Column *column, PyObject *item, bool is_line, int64_t *numb
     return status;
 }
 
-/* An integer of a buffer. One that is too large has no other answer than as an object. */
+/* An integer of a buffer. One that is too large is refused as it is as an object. */
 static int add_integer(Column *column, const Py_buffer *buffer, const char *at, int64_t *number) {
-    uint64_t wide;
 #define INTEGER_OF(letter, type) \
     case letter: { \
         type it; \
@@ -1425,8 +1440,7 @@ static int add_integer(Column *column, const Py_buffer *buffer, const char *at, 
     case letter: { \
         type it; \
         memcpy(&it, at, sizeof it); \
-        wide = it; \
-        break; \
+        return add_timestamp(column, it > INT64_MAX ? INT64_MAX : (int64_t)it, number); \
     }
     switch (*buffer->format) {
         INTEGER_OF('h', short)
@@ -1440,12 +1454,6 @@ static int add_integer(Column *column, const Py_buffer *buffer, const char *at, 
     default:
         Py_UNREACHABLE(); /* has_integers takes none */
     }
-    if (wide <= INT64_MAX)
-        return add_timestamp(column, (int64_t)wide, number);
-    PyObject *item = PyLong_FromUnsignedLongLong(wide);
-    int status = item ? read_integer(column, item, number) : -1;
-    Py_XDECREF(item);
-    return status;
 }
 
 static int add_integers(Column *column, const Py_buffer *buffer) {
@@ -1985,7 +1993,7 @@ static PyMethodDef methods[] = {
            "is `frame.iloc[fault.index]`, whatever the labels are. With `faults=\"nat\"` each such text gives the smallest\n"
            "number, which is NaT in NumPy. If `faults` is a list, their faults are appended to it too. If it is a dict, it gets\n"
            "arrays with the `index`, the `code` and the `place` of each fault instead, which cost little; a place of -1 is none,\n"
-           "and a call that fails leaves it as it was. `None`, NaN, `pandas.NA` and `pandas.NaT` are NaT, and no fault. So is an\n"
+           "and a call that fails leaves it as it was. What `pandas.isna` calls missing is NaT, and no fault. So is an\n"
            "empty text with `empty=\"nat\"`.\n\n"
            ">>> date_time_column([\"1970-01-01T00:00:01Z\", \"1970-01-01T01:00+01:00\"])\n"
            "array('q', [1000000, 0])\n"

@@ -3,6 +3,7 @@
 They stand apart from the package, so that a package that is loaded once more has the classes that the extension raises and takes.
 """
 import datetime
+import math
 import operator
 import struct
 import sys
@@ -157,6 +158,12 @@ def _integer(name, value, low, high):
     if not low <= number <= high:
         raise ValueError(f"{name} has to be from {low} to {high}")
     return number
+
+
+def _clamped(name, value):
+    """An integer, or that of 64 bits which is nearest to it."""
+    low, high = -(2**63), 2**63 - 1
+    return max(low, min(_integer(name, value, -math.inf, math.inf), high))
 
 
 def _choice(name, value, *choices):

@@ -19,10 +19,14 @@ import speedate
 
 # Of a block that has the word: what stands before it, a value after it, and what this is.
 CASES = {
-    "pandas": (
+    "pandas": ("import pandas", "True", "True"),
+    "numpy.frombuffer(column, \"datetime64[us]\")\nframe": (
         "import numpy, pandas", "frame['moment'].tolist()",
         "[pandas.Timestamp('2026-11-01T08:00Z'), pandas.NaT, pandas.Timestamp('2026-11-02T08:30Z')]"),
-    "csv.DictReader": ("import csv", "list(column)", "[1793520000000000, -2**63, 1793608200000000]"),
+    "chunksize": (
+        "pathlib.Path('payments.csv').write_text(pathlib.Path('payments.csv').read_text() + 'x,29.2.2020\\nx,2020-02-29T00:00Z\\nx,never\\n')",
+        "rows", "[3, 5]"),
+    "csv.DictReader": ("import csv; file = pathlib.Path('payments.csv'); file.write_text('\\ufeff' + ''.join(file.open().readlines()[:4]))", "list(column)", "[1793520000000000, -2**63, 1793608200000000]"),
     ".read()": ("import numpy", "[str(it) for it in moments]", "['1970-01-01T00:00:01.000000', *['NaT'] * 2, '1970-01-01T00:00:02.000000', *['NaT'] * 3]"),
     "shown": (
         "import numpy; opens = ['2026-11-27T09:00:00+05:30', '2026-11-27T08:30:00.5Z', '2026-11-27T10:00']; "
@@ -162,7 +166,7 @@ sys.path.append(str(pathlib.Path(__file__).resolve().parents[1] / "examples"))
 text = pathlib.Path(sys.argv[1]).read_text(encoding="utf-8")
 for block in re.findall(r"^```python\n((?!>>>).*?)^```$", text, re.M | re.S):
     names = {}
-    exec("import datetime, speedate", names)
+    exec("import datetime, pathlib, speedate", names)
     cases = [case for word, case in CASES.items() if word in block]
     try:
         for before, _, _ in cases:
@@ -174,7 +178,7 @@ for block in re.findall(r"^```python\n((?!>>>).*?)^```$", text, re.M | re.S):
     exec(block, names)
     for _, value, wanted in cases:
         assert eval(value, names) == eval(wanted, names), f"{value} is {eval(value, names)} after\n{block}"
-    if "pandas.read_csv" in block:
+    if "frame = pandas.read_csv" in block:
         check_frames(block)
         check_missing_words(block)
 check_ways(text)

@@ -13,7 +13,7 @@ import itertools
 import pathlib
 import struct
 
-from speedate._types import _FIELDS, _choice, _integer, _items, _missing, _plain, _wrong
+from speedate._types import _FIELDS, _choice, _clamped, _integer, _items, _missing, _plain, _wrong
 
 
 HINTS = {
@@ -401,7 +401,12 @@ def _lines(texts, ends, lines):
 
 
 def _is_missing(text):
-    return text is None or isinstance(text, float) and text != text or any(text is it for it in _missing())
+    if text is None or any(text is it for it in _missing()):
+        return True
+    try:
+        return not isinstance(text, (str, bytes, bytearray, memoryview)) and bool(text != text)
+    except Exception:
+        return False
 
 
 def _is_integer(text):
@@ -417,7 +422,7 @@ def _column(read, place_of, texts, faults, newline, empty, lines, read_integer=N
             column.append(-(2**63))
             continue
         is_integer = read_integer is not None and _is_integer(text)
-        whole = _integer(f"text {index}", text, -(2**63), 2**63 - 1) if is_integer else _bytes(text, f"text {index}")
+        whole = _clamped(f"text {index}", text) if is_integer else _bytes(text, f"text {index}")
         if whole == b"" and empty == "nat":
             column.append(-(2**63))
             continue

@@ -2,6 +2,7 @@
 import array
 import ctypes
 import datetime
+import decimal
 import functools
 import gc
 import gzip
@@ -164,6 +165,11 @@ class Sources(unittest.TestCase):
             self.assertEqual(column(numpy.array([SECOND, "", SECOND], dtype=kind)), [1_000_000, NAT, 1_000_000])
         self.assertEqual(column(numpy.array(["\u2212" * 3, SECOND.replace("Z", "\u221200:00")])), [NAT, 1_000_000])
         self.assertEqual(column(numpy.array([SECOND, None, numpy.nan, numpy.float64("nan")], dtype=object)), [1_000_000, NAT, NAT, NAT])
+        # What pandas.isna says is missing, of each type.
+        missing = [numpy.float32("nan"), numpy.float16("nan"), numpy.datetime64("NaT"), numpy.timedelta64("NaT"), decimal.Decimal("nan"), *([pandas.NA, pandas.NaT] if pandas else [])]
+        self.assertEqual(column([*missing, SECOND]), [NAT] * len(missing) + [1_000_000])
+        if pandas:
+            self.assertEqual([it for it in missing if not pandas.isna(it)], [])
         for wrong, kind in ((numpy.zeros(2), "float64"), (moments, "datetime64"), (numpy.zeros((2, 2), "U1"), "ndarray")):
             with self.assertRaisesRegex(TypeError, f"^text 0 has to be .*, not {kind}$"):
                 column(wrong)
@@ -191,6 +197,11 @@ class Sources(unittest.TestCase):
             self.assertEqual(column(numpy.array([0, 20_000], kind), config=unix, timestamps=True), [0, 20_000_000_000])
         if pandas:
             self.assertEqual(column(pandas.Series([1, None], dtype="Int64"), config=unix, timestamps=True), [1_000_000, NAT])
+        # A number that is too large is refused, and no error of an argument, wherever it is.
+        for make in (list, iter, lambda it: numpy.array(it, "u8"), lambda it: array.array("Q", it), lambda it: numpy.array(it, "O")):
+            faults = []
+            self.assertEqual(column(make([0, 2**63, 2**64 - 1, 1]), config=unix, timestamps=True, faults=faults), [0, NAT, NAT, 1_000_000])
+            self.assertEqual([(it.index, it.name, it.place) for it in faults], [(1, "date_too_large", None), (2, "date_too_large", None)])
         for wrong, kind in ((numpy.array([True]), "bool_?"), (numpy.zeros(2), "float64"), (days.astype("M8[D]"), "datetime64")):
             with self.assertRaisesRegex(TypeError, f"^text 0 has to be .*, not {kind}$"):
                 column(wrong, config=unix, timestamps=True)
@@ -562,7 +573,7 @@ class Interpreter(unittest.TestCase):
         for texts, options in (([SECOND] * 2_000_000, {}), (array.array("q", range(8_000_000)), named), (b"x\n" * 4_000_000, {"faults": {}})):
             waits = []
             # Other programs may have the processors for a while.
-            while len(waits) < 8 and not any(wait < min(0.06, took / 3) for wait, took in waits):
+            while len(waits) < 8 and not any(wait < min(took / 3, max(0.06, took / 8)) for wait, took in waits):
                 waits.append(longest_wait(texts, options))
             self.assertLess(len(waits), 8, waits)
 

@@ -24,7 +24,7 @@ from speedate import _speedate
 
 COUNT = 100_000
 SIDES = (speedate, oracle)
-CALLS = [name for name in ("time", *speedate.__all__) if inspect.isbuiltin(getattr(speedate, name))]
+CALLS = [name for name in ("date", "time", *speedate.__all__) if inspect.isbuiltin(getattr(speedate, name))]
 DAY = datetime.date(2020, 2, 29)
 # A good text of each call on columns.
 COLUMNS = {

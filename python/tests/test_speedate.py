@@ -5,6 +5,7 @@ import ast
 import collections
 import copy
 import datetime
+import decimal
 import doctest
 import importlib.metadata
 import importlib.util
@@ -150,8 +151,13 @@ date_column(array.array("q", [0, 1]), timestamps=True) -> Fault: date_not_exact 
 refusal(date_column, [1], timestamps=True), expected(date_column, [1], timestamps=True) -> ((None, None), 'a whole number of days')
 numbered(date_column, [0, 1, 86400, 2**60]), numbered(date_time_column, [0, 2**60]) -> ((4, [1, 3], [5, 39], [-1, -1]), (2, [0, 1], [19, 39], [-1, -1]))
 date_time_column([True], timestamps=True) -> TypeError: text 0 has to be int, not bool
-date_time_column([1, 2**63], timestamps=True, naive="utc") -> ValueError: text 1 has to be from -9223372036854775808 to 9223372036854775807
-date_time_column(array.array("Q", [1, 2**63]), timestamps=True, naive="utc") -> ValueError: text 1 has to be from -9223372036854775808 to 9223372036854775807
+date_time_column([1, 2**63], timestamps=True, naive="utc") -> Fault: date_too_large in text 1
+date_time_column(array.array("Q", [1, 2**63]), timestamps=True, naive="utc") -> Fault: date_too_large in text 1
+date_column([-(2**63) - 1, 10**5000, numbers(-10**30), numbers(86400), 5.5 - 5.5 + float("nan")], timestamps=True, faults="nat") -> array('q', [-9223372036854775808, -9223372036854775808, -9223372036854775808, 1, -9223372036854775808])
+date_column([-(2**63) - 1], timestamps=True), date_column([numbers(10**30)], Config("us"), timestamps=True) -> Fault: date_too_small in text 0
+date_time_clock_column([numbers(10**30)], Config("us"), timestamps=True) -> Fault: date_too_large in text 0
+date_column([decimal.Decimal("nan"), None], faults="raise") -> array('q', [-9223372036854775808, -9223372036854775808])
+date_column([decimal.Decimal("1")]) -> TypeError: text 0 has to be str or bytes or bytearray or memoryview, not Decimal
 date_time_column([1.5], timestamps=True) -> TypeError: text 0 has to be str or bytes or bytearray or memoryview, not float
 date_time_column([1]), date_time_column(array.array("q", [1])) -> TypeError: text 0 has to be str or bytes or bytearray or memoryview, not int
 len(date_time_column(array.array("q", [1]) * 100000, timestamps=True, naive="utc")) -> 100000
@@ -435,7 +441,7 @@ def subclass(kind, **members):
     return type("Other", (kind,), members)
 
 
-CALLS = [getattr(speedate, name) for name in ("time", *speedate.__all__) if name not in ("Refusal", "Unrepresentable", "__version__")]
+CALLS = [getattr(speedate, name) for name in ("date", "time", *speedate.__all__) if name not in ("Refusal", "Unrepresentable", "__version__")]
 # Of each argument one that is right, and its types among the wrong ones.
 NUMBER, FLAG, NAME = (1, int), (True, bool), ("us", str)
 ARGUMENTS = {
@@ -656,15 +662,17 @@ class Speedate(unittest.TestCase):
 
     def test_names(self):
         functions = [name for name, it in vars(_speedate).items() if inspect.isbuiltin(it) and not name.startswith("_")]
-        self.assertEqual(sorted(["time", *speedate.__all__]), sorted([*functions, "Config", "Fault", "Refusal", "Unrepresentable", "__version__"]))
+        self.assertEqual(sorted(["date", "time", *speedate.__all__]), sorted([*functions, "Config", "Fault", "Refusal", "Unrepresentable", "__version__"]))
         self.assertEqual([name for name in speedate.__all__ if not hasattr(speedate, name)], [])
         # No other name is public, nor is a module, and a module that was imported before keeps its name.
-        self.assertEqual({name for name in vars(speedate) if not name.startswith("_")}, {"time", *speedate.__all__} - {"__version__"})
+        self.assertEqual({name for name in vars(speedate) if not name.startswith("_")}, {"date", "time", *speedate.__all__} - {"__version__"})
         if sys.version_info >= (3, 10):
             run = subprocess.run([sys.executable, "-c", "import speedate; speedate.datetime('2020-02-29T12:13')"], stderr=subprocess.PIPE, universal_newlines=True)
             self.assertIn("Did you mean: 'date_time'?", run.stderr)
         names = {}
-        exec("import time, datetime; from speedate import *; time.sleep(0); datetime.date; date('2020-02-29')", names)
+        exec("import time; from datetime import date, datetime; from speedate import *; time.sleep(0); date(2020, 2, 29); datetime(2020, 2, 29); date_time('2020-02-29T12:13')", names)
+        # No name that a star import gives is one of these modules, or of what they have.
+        self.assertEqual({*speedate.__all__} & {"datetime", "time", "zoneinfo", "calendar", *vars(datetime), *vars(sys.modules["time"])} - {"__version__"}, set())
 
     def test_types(self):
         package = pathlib.Path(speedate.__file__).parent
