@@ -118,26 +118,26 @@ impl SpeedateProgress {
 }
 
 /// Reads a column, and writes how far it has come, and the number of each line's error too if there is a
-/// place for one, and gives the code. The number `least` is that of a line that is refused.
+/// place for one, and gives the code. A refused line has the number `refused_number`.
 #[inline(always)]
 fn write_column<R: LineReader>(
     text: &[u8],
     choices: &ColumnChoices,
     reader: &R,
-    least: R::Number,
+    refused_number: R::Number,
     out: &mut [R::Number],
     errors: &mut [u8],
     progress: &mut SpeedateProgress,
 ) -> i32
     ensures success { result ≡ success }
-    ensures column { IsColumn (R.answer reader.now) choices.now least text.now
+    ensures column { IsColumn (R.answer reader.now) choices.now refused_number text.now
         out.old out.new errors.old errors.new progress.new }
 {
     let read = if errors.is_empty() {
-        let refused = choices.goes_on.then_some(least);
+        let refused = choices.goes_on.then_some(refused_number);
         read_column(text, choices.lines, reader, refused, out)
     } else {
-        read_column_with_errors(text, choices.lines, reader, least, out, errors)
+        read_column_with_errors(text, choices.lines, reader, refused_number, out, errors)
     };
     *progress = SpeedateProgress::from_progress(read);
     SUCCESS
