@@ -28,7 +28,8 @@ pub trait Refusal: Copy {
         ensures fault { result ≡ fault_of self };
 
     // A refusal keeps the error that it was made of.
-    ghost keeps_fault: { (fault : ParseError) (place : ℕ) → fault_of (refusal fault place) ≡ fault };
+    ghost keeps_fault: { (fault : ParseError) (place : ℕ)
+        → fault_of (refusal fault place) ≡ fault };
 }
 
 impl Refusal for ParseError {

@@ -57,7 +57,8 @@ pub extern "C" fn speedate_date_parse_or_part_text(
 ) -> i32
     ensures answer { (result, out.new) ≡ written_answer shown_date out.old (date_answer text.now) }
     ensures part { part.new
-        ≡ written_part result CallKind.Date (refused_place (date_answer_or placed text.now)) text.now }
+        ≡ written_part result CallKind.Date (refused_place (date_answer_or placed text.now))
+        text.now }
 {
     *part = NO_PART;
     let answer = Date::parse_or_place_rfc3339(text);
@@ -78,7 +79,8 @@ pub extern "C" fn speedate_date_parse_or_part_front(
     ensures answer { (result, out.new, size.new) ≡ written_front shown_date out.old size.old
         (date_front text.now) }
     ensures part { part.new
-        ≡ written_part result CallKind.Date (refused_place (date_front_or placed text.now)) text.now }
+        ≡ written_part result CallKind.Date (refused_place (date_front_or placed text.now))
+        text.now }
 {
     *part = NO_PART;
     let answer = Date::parse_or_place_front(text);
