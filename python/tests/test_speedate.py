@@ -148,7 +148,7 @@ date_time_column(array.array("q", [1]), timestamps=True), date_time_column([1], 
 date_time_column(array.array("q", [0, 253402300800000, -(2**63)]), timestamps=True, naive="utc", faults="nat") -> array('q', [0, -9223372036854775808, -9223372036854775808])
 date_column(array.array("q", [0, 86400, -86400]), timestamps=True), date_column([172800], timestamps=True) -> (array('q', [0, 1, -1]), array('q', [2]))
 date_column(array.array("q", [0, 1]), timestamps=True) -> Fault: date_not_exact in text 1
-refusal(date_column, [1], timestamps=True), expected(date_column, [1], timestamps=True) -> ((None, None), 'a whole number of days')
+refusal(date_column, [1], timestamps=True), expected(date_column, [1], timestamps=True) -> ((None, None), 'a timestamp at midnight, or a duration of whole days')
 numbered(date_column, [0, 1, 86400, 2**60]), numbered(date_time_column, [0, 2**60]) -> ((4, [1, 3], [5, 39], [-1, -1]), (2, [0, 1], [19, 39], [-1, -1]))
 date_time_column([True], timestamps=True) -> TypeError: text 0 has to be int, not bool
 date_time_column([1, 2**63], timestamps=True, naive="utc") -> Fault: date_too_large in text 1
@@ -280,7 +280,7 @@ expected(time, "1:30"), expected(time, b"12:00 PM"), expected(time_front, "1:30"
 expected(time_strict, "12:13"), expected(date_time_strict, "2020-02-29 12:13:14Z"), expected(date_time, "2020-02-29x12:13") -> ('a colon, as in HH:MM:SS', 'T or t, then a time', 'T, t, _ or a space, then a time')
 expected(duration, "1 day, 24:00"), expected(date_front, "x"), expected(date_time_front, "x") -> ('hours: up to 23 after days, or 10 digits up to 2,400,000,000', 'a date: YYYY-MM-DD', 'a date-time: YYYY-MM-DDTHH:MM or YYYY-MM-DDTHH:MM:SS')
 expected(date_time, "x"), expected(date_time, "x", timestamps=True), expected(date_time_strict, "x") -> ('a date-time: YYYY-MM-DDTHH:MM or YYYY-MM-DDTHH:MM:SS', 'a date-time, as YYYY-MM-DDTHH:MM:SS, or a number', 'a date-time with an offset, as YYYY-MM-DDTHH:MM:SSZ')
-expected(date_from_timestamp, 1), expected(time_from_timestamp, 86_400) -> ('a whole number of days', 'a time within the day: 00:00:00 to 23:59:59.999999')
+expected(date_from_timestamp, 1), expected(time_from_timestamp, 86_400) -> ('a timestamp at midnight, or a duration of whole days', 'a time within the day: 00:00:00 to 23:59:59.999999')
 expected(date_time_column, ["1970-01-01T00:00"]), expected(date_column, ["x"], timestamps=True), expected(duration_column, ["P106751992D"]) -> ('an offset: Z or +01:00', 'a date, YYYY-MM-DD, or a whole number', 'a duration of less than 2^63 microseconds')
 Fault(19).expected, Fault(22, 5).expected, Fault(103).expected -> ('a value that has an offset', 'a day that the month has', 'a buffer with room for the text and a zero byte')
 speedate.datetime -> AttributeError: module 'speedate' has no attribute 'datetime'

@@ -43,7 +43,10 @@ expected_text ParseError.InvalidCharDateTimeSep kind =
     then codes "T or t, then a time"
     else codes "T, t, _ or a space, then a time"
 expected_text ParseError.InvalidCharDateSep kind = codes "a hyphen, as in YYYY-MM-DD"
-expected_text ParseError.DateNotExact kind = codes "a whole number of days"
+expected_text ParseError.DateNotExact kind =
+    if is_of_texts kind
+    then codes "a date, or a timestamp at midnight"
+    else codes "a timestamp at midnight, or a duration of whole days"
 expected_text ParseError.InvalidCharYear kind = codes "four digits of the year"
 expected_text ParseError.InvalidCharMonth kind = codes "two digits of the month"
 expected_text ParseError.InvalidCharDay kind = codes "two digits of the day"
@@ -81,7 +84,7 @@ expected_text ParseError.OutOfRangeMinute kind = codes "minute, 00 to 59"
 expected_text ParseError.OutOfRangeSecond kind = codes "second, 00 to 59"
 expected_text ParseError.SecondFractionTooLong kind =
     if is_duration kind
-    then codes "at most 12 bytes after the first colon"
+    then codes "after the hours at most MM:SS.ffffff, as in 01:30:00.123456"
     else codes "at most six digits of a second's fraction"
 expected_text ParseError.SecondFractionMissing kind = codes "a digit of the second's fraction"
 expected_text ParseError.MillisecondFractionTooLong kind =

@@ -107,7 +107,7 @@ a date-time: YYYY-MM-DDTHH:MM or YYYY-MM-DDTHH:MM:SS\n\
 nothing more\n\
 T, t, _ or a space, then a time\n\
 a hyphen, as in YYYY-MM-DD\n\
-a whole number of days\n\
+a date, or a timestamp at midnight\n\
 four digits of the year\n\
 two digits of the month\n\
 two digits of the day\n\
@@ -147,7 +147,7 @@ each unit once, in the order Y, M, W, D, T, H, M, S\n\
 no digit of a microsecond's fraction";
 
 /// What calls of another kind expect.
-const EXPECTED_BY: [(ParseError, CallKind, &str); 25] = [
+const EXPECTED_BY: [(ParseError, CallKind, &str); 26] = [
     (TooShort, CallKind::Values, "a longer text"),
     (TooShort, CallKind::Date, "a date: YYYY-MM-DD"),
     (
@@ -175,6 +175,11 @@ const EXPECTED_BY: [(ParseError, CallKind, &str); 25] = [
         TooShort,
         CallKind::Duration,
         "more of a duration, as in P1DT2H, 01:30:00 or 2 days, 10:20",
+    ),
+    (
+        DateNotExact,
+        CallKind::Values,
+        "a timestamp at midnight, or a duration of whole days",
     ),
     (
         InvalidCharDateTimeSep,
@@ -218,7 +223,7 @@ const EXPECTED_BY: [(ParseError, CallKind, &str); 25] = [
     (
         SecondFractionTooLong,
         CallKind::Duration,
-        "at most 12 bytes after the first colon",
+        "after the hours at most MM:SS.ffffff, as in 01:30:00.123456",
     ),
     (
         SecondFractionTooLong,

@@ -83,7 +83,8 @@ impl ParseError {
             ParseError::InvalidCharDateTimeSep if kind.is_strict() => "T or t, then a time",
             ParseError::InvalidCharDateTimeSep => "T, t, _ or a space, then a time",
             ParseError::InvalidCharDateSep => "a hyphen, as in YYYY-MM-DD",
-            ParseError::DateNotExact => "a whole number of days",
+            ParseError::DateNotExact if kind.is_of_texts() => "a date, or a timestamp at midnight",
+            ParseError::DateNotExact => "a timestamp at midnight, or a duration of whole days",
             ParseError::InvalidCharYear => "four digits of the year",
             ParseError::InvalidCharMonth => "two digits of the month",
             ParseError::InvalidCharDay => "two digits of the day",
@@ -113,7 +114,7 @@ impl ParseError {
             ParseError::OutOfRangeMinute => "minute, 00 to 59",
             ParseError::OutOfRangeSecond => "second, 00 to 59",
             ParseError::SecondFractionTooLong if kind.is_duration() =>
-                "at most 12 bytes after the first colon",
+                "after the hours at most MM:SS.ffffff, as in 01:30:00.123456",
             ParseError::SecondFractionTooLong => "at most six digits of a second's fraction",
             ParseError::SecondFractionMissing => "a digit of the second's fraction",
             ParseError::MillisecondFractionTooLong =>
