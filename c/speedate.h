@@ -616,17 +616,17 @@ SPEEDATE_NODISCARD int speedate_duration_before_date(SpeedateDuration duration, 
 /* A column is the numbers of the lines of a text, one for each. A line is ended by a line feed, or by the end of the
  * text. An empty line is a line. "Columns" in GRAMMAR.md has the rules. */
 
-/* How a column is read. In each field 0 is the default. A field that a call does not use has to be in range too. What
- * is said of later versions at SpeedateConfig holds here too. */
+/* How a column is read. In each field but at_end 0 is the default. A field that a call does not use has to be in range
+ * too. What is said of later versions at SpeedateConfig holds here too. */
 typedef struct SpeedateColumnConfig {
-    /* 0 if the end of the text ends its last line. 1 if more text may follow: what stands after the last line feed is
-     * then left for a further call. */
-    uint8_t more_follows;
+    /* 1, the default, if the end of the text ends its last line. 0 if more text may follow: what stands after the last
+     * line feed is then left for a further call, so that half a line is never read as a whole one. */
+    uint8_t at_end;
     /* 1 if a carriage return at the end of a line is dropped, as files of Windows have one; 0 if it is part of the
      * line, which is then refused. */
     uint8_t drops_returns;
-    /* What a line of dates, times or date-times may be: SPEEDATE_FORM_TEXT, _OR_TIMESTAMP or _STRICT. */
-    uint8_t form;
+    /* How a line of dates, times or date-times is parsed: SPEEDATE_PARSER_TEXT, _OR_TIMESTAMP or _STRICT. */
+    uint8_t parser;
     /* 1 if a date-time without an offset is taken to be in UTC; 0 if it is refused, with SPEEDATE_TZ_REQUIRED. Only
      * speedate_datetime_column uses it. */
     uint8_t assumes_utc;
@@ -637,14 +637,14 @@ typedef struct SpeedateColumnConfig {
 } SpeedateColumnConfig;
 
 /* The default: SpeedateColumnConfig column = SPEEDATE_COLUMN_CONFIG_DEFAULT; */
-#define SPEEDATE_COLUMN_CONFIG_DEFAULT {0, 0, 0, 0, 0}
+#define SPEEDATE_COLUMN_CONFIG_DEFAULT {1, 0, 0, 0, 0}
 
 /* No timestamps, as speedate_date_parse_text, speedate_time_parse and speedate_datetime_parse_text parse. */
-#define SPEEDATE_FORM_TEXT 0
+#define SPEEDATE_PARSER_TEXT 0
 /* Timestamps too, as speedate_date_parse and speedate_datetime_parse parse. For times it is out of range. */
-#define SPEEDATE_FORM_OR_TIMESTAMP 1
+#define SPEEDATE_PARSER_OR_TIMESTAMP 1
 /* As speedate_time_parse_strict and speedate_datetime_parse_strict parse. For dates it is out of range. */
-#define SPEEDATE_FORM_STRICT 2
+#define SPEEDATE_PARSER_STRICT 2
 
 /* How far a column has come. */
 typedef struct SpeedateProgress {
@@ -682,20 +682,20 @@ SPEEDATE_NODISCARD int speedate_datetime_offset_column(const char *text, size_t 
                                                        SpeedateColumnConfig column, int32_t *out, size_t room,
                                                        uint8_t *errors, size_t error_room, SpeedateProgress *progress);
 
-/* The days of dates since 1970-01-01: 1 and -1 from "1970-01-02\n1969-12-31\n". Here SPEEDATE_FORM_STRICT is out of
+/* The days of dates since 1970-01-01: 1 and -1 from "1970-01-02\n1969-12-31\n". Here SPEEDATE_PARSER_STRICT is out of
  * range. */
 SPEEDATE_NODISCARD int speedate_date_column(const char *text, size_t size, SpeedateConfig config,
                                             SpeedateColumnConfig column, int32_t *out, size_t room,
                                             uint8_t *errors, size_t error_room, SpeedateProgress *progress);
 
 /* The microseconds after midnight that the clocks of times show, whatever the offset: 43994500000 and 0 from
- * "12:13:14.5\n00:00+01:00\n". They are 0 to 86399999999. Here SPEEDATE_FORM_OR_TIMESTAMP is out of range. */
+ * "12:13:14.5\n00:00+01:00\n". They are 0 to 86399999999. Here SPEEDATE_PARSER_OR_TIMESTAMP is out of range. */
 SPEEDATE_NODISCARD int speedate_time_column(const char *text, size_t size, SpeedateConfig config,
                                             SpeedateColumnConfig column, int64_t *out, size_t room,
                                             uint8_t *errors, size_t error_room, SpeedateProgress *progress);
 
 /* The offsets of times in seconds, positive east of UTC: 0 and 3600 from "12:13:14.5Z\n00:00+01:00\n". A time without
- * an offset is refused with SPEEDATE_TZ_REQUIRED. Here too SPEEDATE_FORM_OR_TIMESTAMP is out of range. */
+ * an offset is refused with SPEEDATE_TZ_REQUIRED. Here too SPEEDATE_PARSER_OR_TIMESTAMP is out of range. */
 SPEEDATE_NODISCARD int speedate_time_offset_column(const char *text, size_t size, SpeedateConfig config,
                                                    SpeedateColumnConfig column, int32_t *out, size_t room,
                                                    uint8_t *errors, size_t error_room, SpeedateProgress *progress);

@@ -174,11 +174,11 @@ enum class Overflow : std::uint8_t { Error = SPEEDATE_OVERFLOW_ERROR, Truncate =
 /* The order of the components of an ISO 8601 duration: SPEEDATE_ORDER_LAX and so on. */
 enum class Order : std::uint8_t { Lax = SPEEDATE_ORDER_LAX, Strict = SPEEDATE_ORDER_STRICT };
 
-/* What a line of a column may be: SPEEDATE_FORM_TEXT and so on. */
-enum class Form : std::uint8_t {
-    Text = SPEEDATE_FORM_TEXT,
-    OrTimestamp = SPEEDATE_FORM_OR_TIMESTAMP,
-    Strict = SPEEDATE_FORM_STRICT
+/* How a line of a column is parsed: SPEEDATE_PARSER_TEXT and so on. */
+enum class Parser : std::uint8_t {
+    Text = SPEEDATE_PARSER_TEXT,
+    OrTimestamp = SPEEDATE_PARSER_OR_TIMESTAMP,
+    Strict = SPEEDATE_PARSER_STRICT
 };
 
 /* How texts and timestamps are parsed, as SpeedateConfig says. Config() is the default. */
@@ -201,17 +201,17 @@ struct Config {
 
 /* How a column is read, as SpeedateColumnConfig says. ColumnConfig() is the default. */
 struct ColumnConfig {
-    bool more_follows = false;
+    bool at_end = true;
     bool drops_returns = false;
-    Form form = Form::Text;
+    Parser parser = Parser::Text;
     bool assumes_utc = false;
     bool goes_on = false;
 
     SpeedateColumnConfig c() const noexcept {
         SpeedateColumnConfig to = SPEEDATE_COLUMN_CONFIG_DEFAULT;
-        to.more_follows = more_follows;
+        to.at_end = at_end;
         to.drops_returns = drops_returns;
-        to.form = static_cast<std::uint8_t>(form);
+        to.parser = static_cast<std::uint8_t>(parser);
         to.assumes_utc = assumes_utc;
         to.goes_on = goes_on;
         return to;

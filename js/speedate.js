@@ -766,7 +766,7 @@ function bytesOfPiece(column, text, isEnd) {
 
 /** Writes how a column is read into the memory of a library, and gives its address: returns are dropped, and a refused line ends it. */
 function putColumnConfig({ start, view }, { timestamps, strict, missingOffset = MISSING.error }, isEnd) {
-  view.setUint8(COLUMN.config, isEnd ? 0 : 1);
+  view.setUint8(COLUMN.config, isEnd ? 1 : 0);
   view.setUint8(COLUMN.config + 1, 1);
   view.setUint8(COLUMN.config + 2, timestamps !== undefined ? 1 : strict === 1 ? 2 : 0);
   view.setUint8(COLUMN.config + 3, missingOffset);

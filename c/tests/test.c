@@ -82,9 +82,9 @@ static SpeedateColumnConfig column_config(void) {
         return it;
     }
     numbers(n, 5);
-    it.more_follows = (uint8_t)n[0];
+    it.at_end = (uint8_t)n[0];
     it.drops_returns = (uint8_t)n[1];
-    it.form = (uint8_t)n[2];
+    it.parser = (uint8_t)n[2];
     it.assumes_utc = (uint8_t)n[3];
     it.goes_on = (uint8_t)n[4];
     return it;

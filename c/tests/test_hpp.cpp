@@ -233,9 +233,9 @@ static void columns() {
     read = datetime_column(moments, numbers, {}, column).value();
     CHECK(read.lines == 3 && !read.error && numbers[2] == INT64_MIN);
     column = ColumnConfig();
-    column.more_follows = true;
+    column.at_end = false;
     column.drops_returns = true;
-    column.form = Form::OrTimestamp;
+    column.parser = Parser::OrTimestamp;
     read = date_column("86400\r\n1970-01-0", days, {}, column).value();
     CHECK(read.lines == 1 && read.bytes == 7 && !read.error && days[0] == 1 && days[1] == 7);
     read = duration_column("PT1.5S\n-00:01:00\n", numbers).value();
@@ -251,7 +251,7 @@ static void columns() {
     column = ColumnConfig();
     column.assumes_utc = true;
     CHECK(datetime_column("1970-01-01T00:00:02", numbers, {}, column).value().lines == 1 && numbers[0] == 2000000);
-    column.form = Form::Strict;
+    column.parser = Parser::Strict;
     CHECK(said(date_column("", days, {}, column).has_value()
                    ? Result<Date>(date("2020-02-29"))
                    : Error(SPEEDATE_CONFIG_OUT_OF_RANGE)) == "config_out_of_range");
@@ -275,7 +275,7 @@ static void columns() {
     // Each call hands on both configurations: by the first the line is read, or refused, and by the second it is cut.
     const Config config = with(Unit::Microsecond, Overflow::Error, Order::Strict);
     column = ColumnConfig();
-    column.form = Form::OrTimestamp;
+    column.parser = Parser::OrTimestamp;
     column.drops_returns = true;
     column.assumes_utc = true;
     CHECK(date_column("86400000000\r\n", days, config, column).value().lines == 1 && days[0] == 1);

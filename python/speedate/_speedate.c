@@ -917,7 +917,7 @@ static int number_of_line(const ColumnReader *reader, const Text *text, const Va
     SpeedateColumnConfig one = SPEEDATE_COLUMN_CONFIG_DEFAULT;
     (void)value;
     SpeedateProgress progress;
-    one.form = reader->lines.form;
+    one.parser = reader->lines.parser;
     int code = reader->read(text, reader->config, one, number, 1, &progress);
     return code == SPEEDATE_OK ? progress.error : code;
 }
@@ -1245,7 +1245,7 @@ static int add_some_lines(Column *column, Text *text, bool is_last) {
     SpeedateColumnConfig lines = column->reader.lines;
     Read read;
     read.count = read.lines = 0;
-    lines.more_follows = !is_last;
+    lines.at_end = is_last;
     PyThreadState *thread = text->size >= LONG_BYTES && !column->keeps_lock ? PyEval_SaveThread() : NULL;
     int code = read_lines(column, text, lines, &read);
     if (thread)
@@ -1552,7 +1552,7 @@ static int take_naive(const State *state, PyObject *value, bool *out) {
     return *out ? 0 : take_choice(state, "naive", value, "error", "utc", out);
 }
 
-/* A call on columns. The parameters that all have stand first, and its parsers in the order of the forms. */
+/* A call on columns. The parameters that all have stand first, and its parsers in the order of SPEEDATE_PARSER_TEXT and so on. */
 enum { TEXTS, CONFIGURATION, FAULTS, NEWLINE, EMPTY, LINES };
 #define OTHERS "config", "faults", "newline", "empty", "lines"
 typedef struct {
@@ -1560,7 +1560,7 @@ typedef struct {
     ReadLines *read;
     NumberOf *number_of;
     OfTimestamp *of_timestamp;
-    int parser[SPEEDATE_FORM_STRICT + 1];
+    int parser[SPEEDATE_PARSER_STRICT + 1];
 } ColumnCall;
 
 /* The argument of a parameter that not all have. */
@@ -1590,14 +1590,16 @@ static PyObject *read_column(const ColumnCall *call, GIVEN) {
         PyErr_SetString(PyExc_ValueError, "strict and timestamps exclude each other");
         return NULL;
     }
-    reader->lines.form = strict ? SPEEDATE_FORM_STRICT : timestamps ? SPEEDATE_FORM_OR_TIMESTAMP : SPEEDATE_FORM_TEXT;
+    reader->lines.parser = strict       ? SPEEDATE_PARSER_STRICT
+                           : timestamps ? SPEEDATE_PARSER_OR_TIMESTAMP
+                                        : SPEEDATE_PARSER_TEXT;
     reader->lines.assumes_utc = naive_is_utc;
     reader->lines.drops_returns = !return_is_text;
     reader->lines.goes_on = nat;
     reader->read = call->read;
     reader->number_of = call->number_of;
     reader->of_timestamp = timestamps ? call->of_timestamp : NULL;
-    reader->parser = call->parser[reader->lines.form];
+    reader->parser = call->parser[reader->lines.parser];
     return column_of(&column, bound[TEXTS]);
 }
 

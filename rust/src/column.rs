@@ -11,8 +11,8 @@ use crate::{DateConfig, DateTimeConfig, MicrosecondsPrecisionOverflowBehavior, P
 ///
 /// let text = b"1970-01-02\r\n1970-01-03";
 /// let lines = |at_end| LineConfig { at_end, drops_returns: true };
-/// assert_eq!(read_column(text, lines(true), &DateReader::Rfc3339, &mut [0; 8]).unwrap().lines, 2);
-/// assert_eq!(read_column(text, lines(false), &DateReader::Rfc3339, &mut [0; 8]).unwrap().lines, 1);
+/// assert_eq!(read_column(text, lines(true), &DateReader::Text, &mut [0; 8]).unwrap().lines, 2);
+/// assert_eq!(read_column(text, lines(false), &DateReader::Text, &mut [0; 8]).unwrap().lines, 1);
 /// ```
 #[derive(Debug, PartialEq, Eq, Clone, Copy)]
 pub struct LineConfig {
@@ -99,7 +99,7 @@ mod sealed {
 ///     out[0]
 /// }
 ///
-/// assert_eq!(first("1970-01-02", &DateReader::Rfc3339), 1);
+/// assert_eq!(first("1970-01-02", &DateReader::Text), 1);
 /// assert_eq!(first("PT1.5S", &DurationReader { config: TimeConfig::default() }), 1_500_000);
 /// ```
 pub trait LineReader: sealed::Sealed {
@@ -126,7 +126,7 @@ pub trait LineReader: sealed::Sealed {
 /// use speedate::{read_column, DateReader, LineConfig, LineError, ParseError, Progress};
 ///
 /// let (config, mut out) = (LineConfig { at_end: true, drops_returns: false }, [0; 8]);
-/// let progress = read_column(b"1970-01-02\n1969-12-31\n2021-02-29\n", config, &DateReader::Rfc3339, &mut out)?;
+/// let progress = read_column(b"1970-01-02\n1969-12-31\n2021-02-29\n", config, &DateReader::Text, &mut out)?;
 /// let error = Some(LineError::Parse(ParseError::OutOfRangeDay));
 /// assert_eq!(progress, Progress { lines: 2, bytes: 22, error });
 /// assert_eq!(out[..progress.lines], [1, -1]);
@@ -158,7 +158,7 @@ pub fn read_column<R: LineReader>(
 ///
 /// let config = LineConfig { at_end: true, drops_returns: false };
 /// let (mut out, mut errors) = ([0; 2], [0; 2]);
-/// read_column_with_errors(b"1970-01-02\nnever-ever\n", config, &DateReader::Rfc3339, &mut out, &mut errors)?;
+/// read_column_with_errors(b"1970-01-02\nnever-ever\n", config, &DateReader::Text, &mut out, &mut errors)?;
 /// assert_eq!(out, [1, i32::MIN]);
 /// assert_eq!(errors.map(LineError::numbered), [None, Some(LineError::Parse(ParseError::InvalidCharYear))]);
 /// # Ok::<(), ParseError>(())
@@ -214,7 +214,7 @@ macro_rules! reader {
 #[derive(Debug, Clone, PartialEq)]
 pub enum DateReader {
     /// Parses dates alone, as [`Date::parse_bytes_rfc3339`](crate::Date::parse_bytes_rfc3339) does.
-    Rfc3339,
+    Text,
     /// Parses timestamps too, as [`Date::parse_bytes_with_config`](crate::Date::parse_bytes_with_config) does.
     OrTimestamp(DateConfig),
 }
@@ -224,7 +224,7 @@ reader!(DateReader by speedate_date_column -> i32);
 impl From<&DateReader> for Config {
     fn from(reader: &DateReader) -> Self {
         match reader {
-            DateReader::Rfc3339 => Self::default(),
+            DateReader::Text => Self::default(),
             DateReader::OrTimestamp(config) => config.into(),
         }
     }
@@ -233,7 +233,7 @@ impl From<&DateReader> for Config {
 impl From<&DateReader> for ColumnConfig {
     fn from(reader: &DateReader) -> Self {
         match reader {
-            DateReader::Rfc3339 => Self::default(),
+            DateReader::Text => Self::default(),
             DateReader::OrTimestamp(_) => Self::default().timestamps(),
         }
     }

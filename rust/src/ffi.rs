@@ -106,7 +106,7 @@ structs! {
         iso_order: u8 = 7
     }
     struct ColumnConfig is 5 {
-        more_follows: u8 = 0, drops_returns: u8 = 1, form: u8 = 2, assumes_utc: u8 = 3, goes_on: u8 = 4
+        at_end: u8 = 0, drops_returns: u8 = 1, parser: u8 = 2, assumes_utc: u8 = 3, goes_on: u8 = 4
     }
     struct CPart is 24 { place: usize = 0, end: usize = 8, kind: i32 = 16 }
     struct CProgress is 24 { lines: usize = 0, bytes: usize = 8, error: i32 = 16 }
@@ -137,14 +137,14 @@ impl Config {
     }
 }
 
-/// The default has 0 in each field.
+/// The default has 0 in each field; each call sets the lines.
 impl ColumnConfig {
     pub(crate) fn timestamps(self) -> Self {
-        Self { form: 1, ..self }
+        Self { parser: 1, ..self }
     }
 
     pub(crate) fn strict(self) -> Self {
-        Self { form: 2, ..self }
+        Self { parser: 2, ..self }
     }
 
     pub(crate) fn assumes_utc(self, assumes_utc: bool) -> Self {
@@ -152,7 +152,7 @@ impl ColumnConfig {
     }
 
     fn lines(self, LineConfig { at_end, drops_returns }: LineConfig) -> Self {
-        Self { more_follows: (!at_end).into(), drops_returns: drops_returns.into(), ..self }
+        Self { at_end: at_end.into(), drops_returns: drops_returns.into(), ..self }
     }
 }
 

@@ -18,12 +18,12 @@ fn dates() {
     for seed in 1..=TEXTS {
         let mut draws = Draws::new(seed);
         let reader = match draws.flag() {
-            true => DateReader::Rfc3339,
+            true => DateReader::Text,
             false => DateReader::OrTimestamp(DateConfig { timestamp_unit: draws.unit() }),
         };
         draws.compare(&lines, &reader, i32::MIN, |line| {
             let date = match &reader {
-                DateReader::Rfc3339 => Date::parse_bytes_rfc3339(line),
+                DateReader::Text => Date::parse_bytes_rfc3339(line),
                 DateReader::OrTimestamp(config) => Date::parse_bytes_with_config(line, config),
             };
             Ok(date.map_err(LineError::Parse)?.days_since(&epoch))

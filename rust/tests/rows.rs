@@ -124,8 +124,8 @@ impl Row<'_> {
             "duration_before" => self.has(3, self.get::<Duration>(1)?.before(&self.get(2)?)),
             "date_column" => {
                 let config: DateConfig = self.get(1)?;
-                let readers = [DateReader::Rfc3339, DateReader::OrTimestamp(config)];
-                self.has_column(readers.get(usize::from(self.get::<Column>(2)?.form))?)?
+                let readers = [DateReader::Text, DateReader::OrTimestamp(config)];
+                self.has_column(readers.get(usize::from(self.get::<Column>(2)?.parser))?)?
             }
             "datetime_column" => {
                 let assumes_utc = self.get::<Column>(2)?.assumes_utc;
@@ -143,7 +143,7 @@ impl Row<'_> {
     /// The parser of a column of date-times.
     fn get_parser(&self) -> Option<DateTimeParser> {
         let config: DateTimeConfig = self.get(1)?;
-        Some(match self.get::<Column>(2)?.form {
+        Some(match self.get::<Column>(2)?.parser {
             0 => DateTimeParser::Text(config.time_config),
             1 => DateTimeParser::OrTimestamp(config),
             _ => DateTimeParser::Strict(config.time_config.microseconds_precision_overflow_behavior),
@@ -153,7 +153,7 @@ impl Row<'_> {
     /// The parser of a column of times.
     fn get_time_parser(&self) -> Option<TimeParser> {
         let config = self.get::<DateTimeConfig>(1)?.time_config;
-        match self.get::<Column>(2)?.form {
+        match self.get::<Column>(2)?.parser {
             0 => Some(TimeParser::Text(config)),
             2 => Some(TimeParser::Strict(config.microseconds_precision_overflow_behavior)),
             _ => None,
@@ -297,18 +297,18 @@ impl Field for DateConfig {
 /// How a column is read.
 struct Column {
     lines: LineConfig,
-    form: u8,
+    parser: u8,
     assumes_utc: bool,
     goes_on: bool,
 }
 
 impl Field for Column {
     fn of(field: &str) -> Option<Self> {
-        let field = if field == "default" { "0 0 0 0 0" } else { field };
-        let [more_follows, drops_returns, form @ 0..=2, assumes_utc, goes_on] = numbers(field)? else { return None };
+        let field = if field == "default" { "1 0 0 0 0" } else { field };
+        let [at_end, drops_returns, parser @ 0..=2, assumes_utc, goes_on] = numbers(field)? else { return None };
         let flag = |number| [false, true].get(number as usize).copied();
-        let lines = LineConfig { at_end: !flag(more_follows)?, drops_returns: flag(drops_returns)? };
-        Some(Column { lines, form: form as u8, assumes_utc: flag(assumes_utc)?, goes_on: flag(goes_on)? })
+        let lines = LineConfig { at_end: flag(at_end)?, drops_returns: flag(drops_returns)? };
+        Some(Column { lines, parser: parser as u8, assumes_utc: flag(assumes_utc)?, goes_on: flag(goes_on)? })
     }
 }
 

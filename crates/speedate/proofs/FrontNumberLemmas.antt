@@ -43,7 +43,7 @@ HasNoEnd-read answer text value size empty read printed =
 -- a date that is read is counted, whether or not timestamps are read
 pub date_number-of_date : (reader : DateReader) (line : List ℕ) (date : Ymd)
     → date_answer line ≡ Ok date → date_number reader line ≡ Ok (days_between epoch date)
-date_number-of_date DateReader.Rfc3339 line date read = ap (as_number (days_between epoch)) read
+date_number-of_date DateReader.Text line date read = ap (as_number (days_between epoch)) read
 date_number-of_date (DateReader.OrTimestamp config) line date read =
     let number = date_number_answer_or fault_alone config.timestamp_unit (whole_number line) in
     let counted = as_number (days_between epoch) in

@@ -123,7 +123,7 @@ epoch = record { year = 1970; month = 1; day = 1 }
 
 -- the date of a line, or the error
 abbrev pub date_of_line : DateReader → List ℕ → Result Ymd ParseError
-date_of_line DateReader.Rfc3339 line = date_answer line
+date_of_line DateReader.Text line = date_answer line
 date_of_line (DateReader.OrTimestamp config) line = date_or_timestamp config.timestamp_unit line
 
 -- the number of a line in a column of dates: the days since 1970-01-01

@@ -1,6 +1,6 @@
 -- Columns from outside: what their configuration says, which number a line has, and what a call
 -- leaves.
-use Rattle.std.specs.Prelude.{◌≡◌, ◌≢◌, ℕ, ◌≤◌, ◌++◌, ℤ, negsuc, pos, Bool, false, not, List, [], ◌∷◌, length, min, drop, slice_get, Option, Some, None, Result, if◌then◌else◌}
+use Rattle.std.specs.Prelude.{◌≡◌, ◌≢◌, ℕ, ◌≤◌, ◌++◌, ℤ, negsuc, pos, Bool, false, List, [], ◌∷◌, length, min, drop, slice_get, Option, Some, None, Result, if◌then◌else◌}
 use Rattle.std.specs.Option.{option_and_then, option_map}
 use Rattle.speedate.specs.Base.{ParseError, TimestampUnit}
 use Rattle.speedate.specs.Config.{Choices}
@@ -19,33 +19,33 @@ use Rattle.speedate.specs.Lines.{unfinished_line, whole_lines}
 use Rattle.speedate_c.specs.Code.{line_error_code, success}
 use Rattle.speedate_c.specs.Config.{choices_of, flags}
 use Rattle.speedate_c.specs.declared.config.SpeedateConfig.{SpeedateConfig}
-use Rattle.speedate_c.specs.declared.column.LineForm.{LineForm}
+use Rattle.speedate_c.specs.declared.column.LineParser.{LineParser}
 use Rattle.speedate_c.specs.declared.column.ColumnChoices.{ColumnChoices}
 use Rattle.speedate_c.specs.declared.column.SpeedateColumnConfig.{SpeedateColumnConfig}
 use Rattle.speedate_c.specs.declared.column.SpeedateProgress.{SpeedateProgress}
 
--- the forms in the order of their numbers, the default first
-abbrev pub forms : List LineForm
-forms = LineForm.Text ∷ LineForm.OrTimestamp ∷ LineForm.Strict ∷ []
+-- the parsers in the order of their numbers, the default first
+abbrev pub parsers : List LineParser
+parsers = LineParser.Text ∷ LineParser.OrTimestamp ∷ LineParser.Strict ∷ []
 
 -- what a configuration of columns from outside chooses, where each of its numbers has a value
 abbrev pub column_choices_of : SpeedateColumnConfig → Option ColumnChoices
 column_choices_of config =
-    option_and_then (λ more_follows.
+    option_and_then (λ at_end.
     option_and_then (λ drops_returns.
-    option_and_then (λ form.
+    option_and_then (λ parser.
     option_and_then (λ assumes_utc.
     option_map (λ goes_on. record {
-      lines = record { at_end = not more_follows; drops_returns = drops_returns };
-      form = form;
+      lines = record { at_end = at_end; drops_returns = drops_returns };
+      parser = parser;
       assumes_utc = assumes_utc;
       goes_on = goes_on;
     })
     (slice_get flags config.goes_on))
     (slice_get flags config.assumes_utc))
-    (slice_get forms config.form))
+    (slice_get parsers config.parser))
     (slice_get flags config.drops_returns))
-    (slice_get flags config.more_follows)
+    (slice_get flags config.at_end)
 
 -- the number of a line that is refused, where the column goes on after it
 abbrev pub on_refusal : {N : Type 0} → Bool → N → Option N
@@ -60,62 +60,62 @@ abbrev pub least_of_64_bits : ℤ
 least_of_64_bits = negsuc 9223372036854775807
 
 -- the date-time of a line, or the error
-abbrev pub date_time_of_form : LineForm → Choices → List ℕ → Result DateAndTime ParseError
-date_time_of_form LineForm.Text chosen line = date_time_answer chosen.behavior line
-date_time_of_form LineForm.OrTimestamp chosen line =
+abbrev pub date_time_by_parser : LineParser → Choices → List ℕ → Result DateAndTime ParseError
+date_time_by_parser LineParser.Text chosen line = date_time_answer chosen.behavior line
+date_time_by_parser LineParser.OrTimestamp chosen line =
     date_time_or_timestamp chosen.unit chosen.behavior chosen.offset line
-date_time_of_form LineForm.Strict chosen line = strict_date_time_answer chosen.behavior line
+date_time_by_parser LineParser.Strict chosen line = strict_date_time_answer chosen.behavior line
 
 -- the number of a line in a column of date-times: the microseconds since 1970-01-01T00:00:00 in UTC
 abbrev pub date_time_number_by : Choices → ColumnChoices → List ℕ → Result ℤ LineError
 date_time_number_by chosen column line =
     as_number utc_microsecond
-    (result_and_then (with_offset column.assumes_utc) (date_time_of_form column.form chosen line))
+    (result_and_then (with_offset column.assumes_utc) (date_time_by_parser column.parser chosen line))
 
 -- the number of a line in a column of date-times as their clocks show them: the microseconds since
 -- 1970-01-01T00:00:00 on the same clock, whatever the offset
-abbrev pub clock_number_by : Choices → LineForm → List ℕ → Result ℤ LineError
-clock_number_by chosen form line = as_number local_microsecond (date_time_of_form form chosen line)
+abbrev pub clock_number_by : Choices → LineParser → List ℕ → Result ℤ LineError
+clock_number_by chosen parser line = as_number local_microsecond (date_time_by_parser parser chosen line)
 
 -- the number of a line in a column of the offsets of date-times: its seconds
-abbrev pub date_time_offset_number_by : Choices → LineForm → List ℕ → Result ℤ LineError
-date_time_offset_number_by chosen form line =
-    offset_as_number (λ value. value.time.offset) (date_time_of_form form chosen line)
+abbrev pub date_time_offset_number_by : Choices → LineParser → List ℕ → Result ℤ LineError
+date_time_offset_number_by chosen parser line =
+    offset_as_number (λ value. value.time.offset) (date_time_by_parser parser chosen line)
 
--- the time of a line, or the error, where the form is one of times
-abbrev pub time_of_form : LineForm → Choices → Option (List ℕ → Result TimeOfDay ParseError)
-time_of_form LineForm.Text chosen = Some (λ line. time_answer chosen.behavior line)
-time_of_form LineForm.OrTimestamp chosen = None
-time_of_form LineForm.Strict chosen = Some (λ line. strict_time_answer chosen.behavior line)
+-- the time of a line, or the error, where the parser is one of times
+abbrev pub time_by_parser : LineParser → Choices → Option (List ℕ → Result TimeOfDay ParseError)
+time_by_parser LineParser.Text chosen = Some (λ line. time_answer chosen.behavior line)
+time_by_parser LineParser.OrTimestamp chosen = None
+time_by_parser LineParser.Strict chosen = Some (λ line. strict_time_answer chosen.behavior line)
 
--- the number of a line in a column of times, where the form is one of times: the microseconds after
+-- the number of a line in a column of times, where the parser is one of times: the microseconds after
 -- midnight that its clock shows, whatever the offset
-abbrev pub time_number_by : Choices → LineForm → Option (List ℕ → Result ℤ LineError)
-time_number_by chosen form =
+abbrev pub time_number_by : Choices → LineParser → Option (List ℕ → Result ℤ LineError)
+time_number_by chosen parser =
     option_map (λ time_of_line line.
     as_number (λ time. pos (microsecond_of_day time)) (time_of_line line))
-    (time_of_form form chosen)
+    (time_by_parser parser chosen)
 
--- the number of a line in a column of the offsets of times, where the form is one of times: its
+-- the number of a line in a column of the offsets of times, where the parser is one of times: its
 -- seconds
-abbrev pub time_offset_number_by : Choices → LineForm → Option (List ℕ → Result ℤ LineError)
-time_offset_number_by chosen form =
+abbrev pub time_offset_number_by : Choices → LineParser → Option (List ℕ → Result ℤ LineError)
+time_offset_number_by chosen parser =
     option_map (λ time_of_line line. offset_as_number (λ time. time.offset) (time_of_line line))
-    (time_of_form form chosen)
+    (time_by_parser parser chosen)
 
--- the reader of a column of dates, where the form is one of dates
-abbrev pub date_reader : TimestampUnit → LineForm → Option DateReader
-date_reader unit LineForm.Text = Some DateReader.Rfc3339
-date_reader unit LineForm.OrTimestamp =
+-- the reader of a column of dates, where the parser is one of dates
+abbrev pub date_reader : TimestampUnit → LineParser → Option DateReader
+date_reader unit LineParser.Text = Some DateReader.Text
+date_reader unit LineParser.OrTimestamp =
     Some (DateReader.OrTimestamp (record { timestamp_unit = unit }))
-date_reader unit LineForm.Strict = None
+date_reader unit LineParser.Strict = None
 
 -- the number of a line in a column of durations: its microseconds, with the sign
 abbrev pub duration_number_by : Choices → List ℕ → Result ℤ LineError
 duration_number_by chosen line =
     number_of_duration (duration_answer chosen.order chosen.behavior line)
 
--- what both configurations choose, where each of their numbers has a value, and the form is one of
+-- what both configurations choose, where each of their numbers has a value, and the parser is one of
 -- the column: how it is read, and the number of a line
 abbrev pub chosen_by : (Choices → ColumnChoices → Option (List ℕ → Result ℤ LineError))
     → SpeedateConfig → SpeedateColumnConfig
@@ -135,29 +135,29 @@ chosen_for_date_times = chosen_by (λ chosen column. Some (date_time_number_by c
 -- for a column of date-times as their clocks show them
 abbrev pub chosen_for_clocks : SpeedateConfig → SpeedateColumnConfig
     → Option (ColumnChoices × (List ℕ → Result ℤ LineError))
-chosen_for_clocks = chosen_by (λ chosen column. Some (clock_number_by chosen column.form))
+chosen_for_clocks = chosen_by (λ chosen column. Some (clock_number_by chosen column.parser))
 
 -- for a column of the offsets of date-times
 abbrev pub chosen_for_date_time_offsets : SpeedateConfig → SpeedateColumnConfig
     → Option (ColumnChoices × (List ℕ → Result ℤ LineError))
 chosen_for_date_time_offsets =
-    chosen_by (λ chosen column. Some (date_time_offset_number_by chosen column.form))
+    chosen_by (λ chosen column. Some (date_time_offset_number_by chosen column.parser))
 
 -- for a column of dates
 abbrev pub chosen_for_dates : SpeedateConfig → SpeedateColumnConfig
     → Option (ColumnChoices × (List ℕ → Result ℤ LineError))
 chosen_for_dates =
-    chosen_by (λ chosen column. option_map date_number (date_reader chosen.unit column.form))
+    chosen_by (λ chosen column. option_map date_number (date_reader chosen.unit column.parser))
 
 -- for a column of times
 abbrev pub chosen_for_times : SpeedateConfig → SpeedateColumnConfig
     → Option (ColumnChoices × (List ℕ → Result ℤ LineError))
-chosen_for_times = chosen_by (λ chosen column. time_number_by chosen column.form)
+chosen_for_times = chosen_by (λ chosen column. time_number_by chosen column.parser)
 
 -- for a column of the offsets of times
 abbrev pub chosen_for_time_offsets : SpeedateConfig → SpeedateColumnConfig
     → Option (ColumnChoices × (List ℕ → Result ℤ LineError))
-chosen_for_time_offsets = chosen_by (λ chosen column. time_offset_number_by chosen column.form)
+chosen_for_time_offsets = chosen_by (λ chosen column. time_offset_number_by chosen column.parser)
 
 -- for a column of durations
 abbrev pub chosen_for_durations : SpeedateConfig → SpeedateColumnConfig

@@ -2,7 +2,7 @@
 
 ghost use Rattle.std.specs.Prelude.{◌≡◌, slice_get};
 ghost use Rattle.speedate_c.specs.Code.{success};
-ghost use Rattle.speedate_c.specs.Column.{IsColumn, column_choices_of, ended_code, forms};
+ghost use Rattle.speedate_c.specs.Column.{IsColumn, column_choices_of, ended_code, parsers};
 
 mod date;
 mod date_time;
@@ -13,17 +13,18 @@ use crate::code::{SUCCESS, line_error_code};
 use crate::config::flag;
 use speedate::{LineConfig, LineReader, Progress, read_column, read_column_with_errors};
 
-/// How a column is read. In each field 0 stands for the default.
+/// How a column is read. In each field but `at_end` 0 stands for the default.
 #[repr(C)]
 #[derive(Clone, Copy)]
 pub struct SpeedateColumnConfig {
-    /// Whether more text may follow: 0 if the end of the text ends its last line, 1 if that line is left.
-    pub more_follows: u8,
+    /// Whether the end of the text ends its last line: 1, the default, or 0 if more text may follow, so that
+    /// this line is left.
+    pub at_end: u8,
     /// Whether a carriage return at the end of a line is dropped: 1, or 0 if it stays.
     pub drops_returns: u8,
     /// Which dates, times and date-times a line may be: 0 for no timestamps, 1 for timestamps too, 2 for
     /// times and date-times of RFC 3339 alone.
-    pub form: u8,
+    pub parser: u8,
     /// Whether a date-time without an offset is taken to be in UTC: 1, or 0 if it is refused. Only a column
     /// of instants uses it.
     pub assumes_utc: u8,
@@ -46,7 +47,7 @@ pub struct SpeedateProgress {
 
 /// Which dates, times and date-times a line may be.
 #[derive(Clone, Copy)]
-enum LineForm {
+enum LineParser {
     /// No timestamps.
     Text,
     /// Timestamps too.
@@ -61,7 +62,7 @@ struct ColumnChoices {
     /// How the text is cut into lines.
     lines: LineConfig,
     /// Which dates, times and date-times a line may be.
-    form: LineForm,
+    parser: LineParser,
     /// Whether a date-time without an offset is taken to be in UTC.
     assumes_utc: bool,
     /// Whether the column goes on after a line that is refused.
@@ -73,28 +74,27 @@ impl SpeedateColumnConfig {
     fn to_choices(self) -> Option<ColumnChoices>
         ensures choices { result ≡ column_choices_of self }
     {
-        let more_follows = flag(self.more_follows)?;
         let lines = LineConfig {
-            at_end: !more_follows,
+            at_end: flag(self.at_end)?,
             drops_returns: flag(self.drops_returns)?,
         };
         Some(ColumnChoices {
             lines,
-            form: form(self.form)?,
+            parser: parser(self.parser)?,
             assumes_utc: flag(self.assumes_utc)?,
             goes_on: flag(self.goes_on)?,
         })
     }
 }
 
-/// The form of a number.
-fn form(number: u8) -> Option<LineForm>
-    ensures { result ≡ slice_get forms number }
+/// The parser of a number.
+fn parser(number: u8) -> Option<LineParser>
+    ensures { result ≡ slice_get parsers number }
 {
     match number {
-        0 => Some(LineForm::Text),
-        1 => Some(LineForm::OrTimestamp),
-        2 => Some(LineForm::Strict),
+        0 => Some(LineParser::Text),
+        1 => Some(LineParser::OrTimestamp),
+        2 => Some(LineParser::Strict),
         _ => None,
     }
 }

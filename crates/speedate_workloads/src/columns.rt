@@ -144,7 +144,7 @@ fn dates(round: u64, pieces: &Pieces, draw: &mut Draw, text: &mut Text, digest: 
         text.push(b"\n");
     }
     let reader = if round % 2 == 0 {
-        DateReader::Rfc3339
+        DateReader::Text
     } else {
         DateReader::OrTimestamp(DateConfig::default())
     };

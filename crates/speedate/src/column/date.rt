@@ -9,7 +9,7 @@ use speedate_civil::date::Date;
 #[derive(Clone, Copy, Debug)]
 pub enum DateReader {
     /// Parses dates alone, as [`Date::parse_bytes_rfc3339`] does.
-    Rfc3339,
+    Text,
     /// Parses timestamps too, as [`Date::parse_bytes_with_config`] does.
     OrTimestamp(DateConfig),
 }
@@ -31,7 +31,7 @@ impl LineReader for DateReader {
     #[inline(always)]
     fn number(&self, line: &[u8]) -> Result<i32, LineError> {
         let date = match self {
-            DateReader::Rfc3339 => Date::parse_bytes_rfc3339(line),
+            DateReader::Text => Date::parse_bytes_rfc3339(line),
             DateReader::OrTimestamp(config) => Date::parse_bytes_with_config(line, config),
         };
         match date {

@@ -11,7 +11,7 @@ use speedate_base::numbers::byte_at;
 
 /// Reads the whole lines of a text as numbers, in order, as many as `out` has room for, and returns how
 /// far it came: the days 1 and 2, and 22 bytes, for `b"1970-01-02\n1970-01-03\n"` and
-/// [`DateReader::Rfc3339`](crate::DateReader).
+/// [`DateReader::Text`](crate::DateReader).
 ///
 /// The [lines](docs/GRAMMAR.md#columns) are those that `config` cuts. If `refused` is a number, a refused
 /// line gets it, and the column goes on; otherwise it ends the column, and the progress has its error.
@@ -43,7 +43,7 @@ pub fn read_column<R: LineReader>(
 
 /// Reads the whole lines of a text as numbers, as [`read_column`] does, and writes the number of the
 /// error of each line too, by [`LineError::number`], or 0 for none: the days 1 and -1, and the errors 0
-/// and 6, for `b"1970-01-02\nnever-ever\n"`, [`DateReader::Rfc3339`](crate::DateReader) and -1.
+/// and 6, for `b"1970-01-02\nnever-ever\n"`, [`DateReader::Text`](crate::DateReader) and -1.
 ///
 /// It reads as many lines as both slices have room for. A refused line gets the number `refused`, and
 /// none ends the column.

@@ -5,20 +5,20 @@ ghost use Rattle.speedate_c.specs.Code.{config_out_of_range, success};
 ghost use Rattle.speedate_c.specs.Column.{IsColumn, chosen_for_dates};
 ghost use Rattle.speedate_c.specs.Column.{date_reader, least_of_32_bits};
 
-use super::{ColumnChoices, LineForm, SpeedateColumnConfig, SpeedateProgress, write_column};
+use super::{ColumnChoices, LineParser, SpeedateColumnConfig, SpeedateProgress, write_column};
 use crate::config::SpeedateConfig;
 use speedate::{DateConfig, DateReader};
 
 impl ColumnChoices {
-    /// The reader of dates, if the form is one of dates.
+    /// The reader of dates, if the parser is one of dates.
     #[inline(always)]
     fn date_reader(&self, config: DateConfig) -> Option<DateReader>
-        ensures reader { result ≡ date_reader config.timestamp_unit self.now.form }
+        ensures reader { result ≡ date_reader config.timestamp_unit self.now.parser }
     {
-        match self.form {
-            LineForm::Text => Some(DateReader::Rfc3339),
-            LineForm::OrTimestamp => Some(DateReader::OrTimestamp(config)),
-            LineForm::Strict => None,
+        match self.parser {
+            LineParser::Text => Some(DateReader::Text),
+            LineParser::OrTimestamp => Some(DateReader::OrTimestamp(config)),
+            LineParser::Strict => None,
         }
     }
 }
@@ -26,7 +26,7 @@ impl ColumnChoices {
 /// Reads the lines of a text as dates, and writes their days since 1970-01-01, as [`read_column`] does by
 /// a [`DateReader`]: 1 for `1970-01-02`.
 ///
-/// `CONFIG_OUT_OF_RANGE` and lines that are refused are those of [`speedate_datetime_column`]; the form 2
+/// `CONFIG_OUT_OF_RANGE` and lines that are refused are those of [`speedate_datetime_column`]; the parser 2
 /// is out of range.
 #[unsafe(no_mangle)]
 pub extern "C" fn speedate_date_column(

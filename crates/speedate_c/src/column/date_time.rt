@@ -10,7 +10,7 @@ ghost use Rattle.speedate_c.specs.Column.{clock_number_by, date_time_number_by};
 ghost use Rattle.speedate_c.specs.Column.{date_time_offset_number_by, least_of_32_bits};
 ghost use Rattle.speedate_c.specs.Column.{least_of_64_bits};
 
-use super::{ColumnChoices, LineForm, SpeedateColumnConfig, SpeedateProgress, write_column};
+use super::{ColumnChoices, LineParser, SpeedateColumnConfig, SpeedateProgress, write_column};
 use crate::config::SpeedateConfig;
 use speedate::{
     DateTimeClockReader, DateTimeConfig, DateTimeOffsetReader, DateTimeParser, DateTimeReader,
@@ -24,15 +24,15 @@ impl ColumnChoices {
             (record { parser = result; assumes_utc = self.now.assumes_utc })
             ≡ date_time_number_by (choices config.now) self.now }
         ensures clocks { clock_number (record { parser = result })
-            ≡ clock_number_by (choices config.now) self.now.form }
+            ≡ clock_number_by (choices config.now) self.now.parser }
         ensures offsets { date_time_offset_number (record { parser = result })
-            ≡ date_time_offset_number_by (choices config.now) self.now.form }
+            ≡ date_time_offset_number_by (choices config.now) self.now.parser }
     {
         let time_config = config.time_config;
-        match self.form {
-            LineForm::Text => DateTimeParser::Text(time_config),
-            LineForm::OrTimestamp => DateTimeParser::OrTimestamp(*config),
-            LineForm::Strict => {
+        match self.parser {
+            LineParser::Text => DateTimeParser::Text(time_config),
+            LineParser::OrTimestamp => DateTimeParser::OrTimestamp(*config),
+            LineParser::Strict => {
                 DateTimeParser::Strict(time_config.microseconds_precision_overflow_behavior)
             }
         }

@@ -7,24 +7,24 @@ ghost use Rattle.speedate.specs.Config.{choices};
 ghost use Rattle.speedate_c.specs.Code.{config_out_of_range, success};
 ghost use Rattle.speedate_c.specs.Column.{IsColumn, chosen_for_time_offsets};
 ghost use Rattle.speedate_c.specs.Column.{chosen_for_times, least_of_32_bits, least_of_64_bits};
-ghost use Rattle.speedate_c.specs.Column.{time_of_form};
+ghost use Rattle.speedate_c.specs.Column.{time_by_parser};
 
-use super::{ColumnChoices, LineForm, SpeedateColumnConfig, SpeedateProgress, write_column};
+use super::{ColumnChoices, LineParser, SpeedateColumnConfig, SpeedateProgress, write_column};
 use crate::config::SpeedateConfig;
 use speedate::{DateTimeConfig, TimeOffsetReader, TimeParser, TimeReader};
 
 impl ColumnChoices {
-    /// The parser of times, if the form is one of times.
+    /// The parser of times, if the column has one.
     #[inline(always)]
     fn time_parser(&self, config: &DateTimeConfig) -> Option<TimeParser>
         ensures parses { option_map time_of_line result
-            ≡ time_of_form self.now.form (choices config.now) }
+            ≡ time_by_parser self.now.parser (choices config.now) }
     {
         let time_config = config.time_config;
-        match self.form {
-            LineForm::Text => Some(TimeParser::Text(time_config)),
-            LineForm::OrTimestamp => None,
-            LineForm::Strict => {
+        match self.parser {
+            LineParser::Text => Some(TimeParser::Text(time_config)),
+            LineParser::OrTimestamp => None,
+            LineParser::Strict => {
                 let behavior = time_config.microseconds_precision_overflow_behavior;
                 Some(TimeParser::Strict(behavior))
             }
@@ -35,7 +35,7 @@ impl ColumnChoices {
 /// Reads the lines of a text as times, and writes the microseconds after midnight that their clocks show,
 /// whatever the offset, as [`read_column`] does by a [`TimeReader`]: 43,994,500,000 for `12:13:14.5`.
 ///
-/// `CONFIG_OUT_OF_RANGE` and lines that are refused are those of [`speedate_datetime_column`]; the form 1
+/// `CONFIG_OUT_OF_RANGE` and lines that are refused are those of [`speedate_datetime_column`]; the parser 1
 /// is out of range.
 #[unsafe(no_mangle)]
 pub extern "C" fn speedate_time_column(
@@ -63,7 +63,7 @@ pub extern "C" fn speedate_time_column(
 /// [`TimeOffsetReader`]: 3,600 for `12:13+01:00`. A line without an offset is refused, with the code of
 /// `TzRequired`.
 ///
-/// `CONFIG_OUT_OF_RANGE` and lines that are refused are those of [`speedate_datetime_column`]; the form 1
+/// `CONFIG_OUT_OF_RANGE` and lines that are refused are those of [`speedate_datetime_column`]; the parser 1
 /// is out of range.
 #[unsafe(no_mangle)]
 pub extern "C" fn speedate_time_offset_column(
