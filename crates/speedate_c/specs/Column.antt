@@ -70,12 +70,14 @@ date_time_by_parser LineParser.Strict chosen line = strict_date_time_answer chos
 abbrev pub date_time_number_by : Choices → ColumnChoices → List ℕ → Result ℤ LineError
 date_time_number_by chosen column line =
     as_number utc_microsecond
-    (result_and_then (with_offset column.assumes_utc) (date_time_by_parser column.parser chosen line))
+    (result_and_then (with_offset column.assumes_utc)
+    (date_time_by_parser column.parser chosen line))
 
 -- the number of a line in a column of date-times as their clocks show them: the microseconds since
 -- 1970-01-01T00:00:00 on the same clock, whatever the offset
 abbrev pub clock_number_by : Choices → LineParser → List ℕ → Result ℤ LineError
-clock_number_by chosen parser line = as_number local_microsecond (date_time_by_parser parser chosen line)
+clock_number_by chosen parser line =
+    as_number local_microsecond (date_time_by_parser parser chosen line)
 
 -- the number of a line in a column of the offsets of date-times: its seconds
 abbrev pub date_time_offset_number_by : Choices → LineParser → List ℕ → Result ℤ LineError
@@ -88,8 +90,8 @@ time_by_parser LineParser.Text chosen = Some (λ line. time_answer chosen.behavi
 time_by_parser LineParser.OrTimestamp chosen = None
 time_by_parser LineParser.Strict chosen = Some (λ line. strict_time_answer chosen.behavior line)
 
--- the number of a line in a column of times, where the parser is one of times: the microseconds after
--- midnight that its clock shows, whatever the offset
+-- the number of a line in a column of times, where the parser is one of times: the microseconds
+-- after midnight that its clock shows, whatever the offset
 abbrev pub time_number_by : Choices → LineParser → Option (List ℕ → Result ℤ LineError)
 time_number_by chosen parser =
     option_map (λ time_of_line line.
@@ -115,8 +117,8 @@ abbrev pub duration_number_by : Choices → List ℕ → Result ℤ LineError
 duration_number_by chosen line =
     number_of_duration (duration_answer chosen.order chosen.behavior line)
 
--- what both configurations choose, where each of their numbers has a value, and the parser is one of
--- the column: how it is read, and the number of a line
+-- what both configurations choose, where each of their numbers has a value, and the parser is one
+-- of the column: how it is read, and the number of a line
 abbrev pub chosen_by : (Choices → ColumnChoices → Option (List ℕ → Result ℤ LineError))
     → SpeedateConfig → SpeedateColumnConfig
     → Option (ColumnChoices × (List ℕ → Result ℤ LineError))
