@@ -16,6 +16,32 @@ fail() {
     exit 3
 }
 
+# read_options WITH_VALUE WITHOUT ARGUMENT..: sets the variable of each option: to its value, to `yes` if it has none, or to
+# nothing if it is not given. -h and --help print the usage.
+read_options() {
+    with_value=$1 without=$2
+    shift 2
+    for it in $with_value $without; do eval "$it="; done
+    while [ $# -gt 0 ]; do
+        case $1 in
+        -h | --help)
+            show_usage
+            exit 0
+            ;;
+        --?*=*)
+            it=$1 && shift
+            set -- "${it%%=*}" "${it#*=}" "$@"
+            ;;
+        esac
+        words=
+        for it in $without; do [ "$1" != "--$it" ] || { words=1 && eval "$it=yes"; }; done
+        for it in $with_value; do [ "$1" != "--$it" ] || { words=2 && eval "$it=\${2-}"; }; done
+        [ -n "$words" ] || fail "there is no option $1; $(show_usage | sed -n 1p)"
+        [ $words = 1 ] || [ -n "${2-}" ] || fail "$1 has no value; $(show_usage | sed -n 1p)"
+        shift $words
+    done
+}
+
 # Sets `version`, with which CHANGELOG.md begins.
 read_version() {
     version=$(sed -n '/^## /{s///p;q;}' "$root/CHANGELOG.md")
@@ -24,6 +50,30 @@ read_version() {
     *.*.*) return ;;
     esac
     fail "CHANGELOG.md begins with no version, but with $version"
+}
+
+# Prints the seconds since 1970 of SOURCE_DATE_EPOCH, or of the last commit, or nothing.
+show_date() { printf '%s' "${SOURCE_DATE_EPOCH-$(git -C "$root" log -1 --format=%ct 2>/dev/null)}"; }
+
+# build_in FOLDER ARGUMENT..: has the rest done in a build folder, so that nothing is written beside these sources: copies
+# them there, with the C library that was built of them, and becomes the same script there, with these arguments.
+build_in() {
+    build=$(mkdir -p "$1" && readlink -f "$1") || fail "the folder $1 cannot be made"
+    shift
+    [ "$build" != "$root" ] || return 0
+    [ -f "$build/.build" ] || [ -z "$(ls -A "$build")" ] || fail "$build is not empty, and is no build folder"
+    # Sources of an earlier copy can have gone.
+    for it in "$root"/*; do
+        [ ! -d "$build/${it##*/}" ] || find "$build/${it##*/}" -name out -prune -o -type f -exec rm -f {} +
+    done
+    mkdir -p "$build/out" && true >"$build/.build" && (cd "$root" && tar cf - --exclude=out --exclude=.git --exclude=".${build#"$root"}" .) |
+        tar xf - -C "$build" --mode=u+w || fail "the sources cannot be copied to $build"
+    for it in "$root"/out/speedate_c-*; do
+        [ ! -f "$it" ] || cp "$it" "$build/out" || fail "$it cannot be copied"
+    done
+    date=$(show_date)
+    [ -z "$date" ] || export SOURCE_DATE_EPOCH="$date"
+    exec "$build/bin/$name" "$@"
 }
 
 # Sets `kit`, the folder of the kit.

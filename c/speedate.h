@@ -22,8 +22,8 @@
  *   and do not overlap a text, a buffer or one another.
  * - No call allocates memory or keeps anything for the next one. Any thread may make any call at any time.
  *
- * GRAMMAR.md, which is installed in share/doc/speedate, lists the texts and their faults. Of the repository's documents
- * it is docs/GRAMMAR.md, and docs/C.md shows how to build the library and to call it.
+ * GRAMMAR.md lists the texts and their faults, and C.md shows how to build the library and to call it. Both are
+ * installed in share/doc/speedate, and are in docs/ of the repository.
  */
 #ifndef SPEEDATE_H
 #define SPEEDATE_H

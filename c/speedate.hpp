@@ -11,6 +11,7 @@
  * - Arguments come in one order: what is read, and then the configuration, which may be left out.
  * - A text is a std::string_view, and what is printed a std::string. Nothing else allocates memory.
  * - No call throws but Result::value, where there are exceptions, and what std::string throws.
+ * - Values have std::hash, and std::formatter where the library of C++ has it: std::format("{:>12}", date).
  *
  * It translates, and computes nothing of dates: link libspeedate as a program in C does.
  */
@@ -28,15 +29,22 @@
 #include <cstdint>
 #include <cstdlib>
 #include <cstring>
+#include <functional>
 #include <iterator>
 #include <limits>
 #include <optional>
 #include <ostream>
+#include <ratio>
 #include <stdexcept>
 #include <string>
 #include <string_view>
+#include <type_traits>
 #if __cplusplus >= 202002L
 #include <compare>
+#include <version>
+#ifdef __cpp_lib_format
+#include <format>
+#endif
 /* Libraries that have the calendar of C++20 say so only once they have its time zones too. */
 #if (defined(__cpp_lib_chrono) && __cpp_lib_chrono >= 201907L) ||                                                      \
     (defined(_GLIBCXX_RELEASE) && _GLIBCXX_RELEASE >= 11) || (defined(_LIBCPP_VERSION) && _LIBCPP_VERSION >= 8000)
@@ -277,6 +285,9 @@ inline std::int32_t narrowed_offset(std::int64_t offset) noexcept {
     return offset < INT32_MIN || offset > INT32_MAX ? INT32_MAX : static_cast<std::int32_t>(offset);
 }
 
+/* Only bool is a flag of a call: neither {} nor a number is one. */
+template <class Flag> using IfBool = std::enable_if_t<std::is_same_v<Flag, bool>, int>;
+
 template <std::size_t Size, class C> std::string text(int (*call)(C, char *, std::size_t, std::size_t *), C value) {
     char text[Size];
     std::size_t length;
@@ -357,7 +368,8 @@ class Date : public detail::Ordered<Date> {
             [&](auto... out) { return speedate_date_parse_or_part_front(text.data(), text.size(), out...); });
     }
 
-    static Result<Date> from_timestamp(std::int64_t timestamp, bool require_exact, const Config &config = {}) {
+    template <class Flag, detail::IfBool<Flag> = 0>
+    static Result<Date> from_timestamp(std::int64_t timestamp, Flag require_exact, const Config &config = {}) {
         return from_c(
             [&](auto *out) { return speedate_date_from_timestamp(timestamp, require_exact, config.c(), out); });
     }
@@ -402,6 +414,16 @@ class Date : public detail::Ordered<Date> {
     }
     std::chrono::year_month_day year_month_day() const noexcept {
         return std::chrono::year(year()) / std::chrono::month(month()) / std::chrono::day(day());
+    }
+    /* The date of a day of chrono, or SPEEDATE_NO_SUCH_DATE outside the years 0000 to 9999. */
+    template <class Day, std::enable_if_t<std::is_same_v<Day, std::chrono::sys_days>, int> = 0>
+    static Result<Date> of(Day day) {
+        const std::int32_t days = detail::narrowed_offset(day.time_since_epoch().count());
+        return from_c([&](auto *out) { return speedate_date_add_days(SpeedateDate{1970, 1, 1}, days, out); });
+    }
+    std::chrono::sys_days sys_days() const noexcept {
+        return std::chrono::sys_days(std::chrono::days(detail::sure<std::int32_t>(
+            [&](auto *out) { return speedate_date_days_between(SpeedateDate{1970, 1, 1}, c_, out); })));
     }
 #endif
 
@@ -603,13 +625,24 @@ class DateTime : public detail::Equal<DateTime> {
 
     /* The moment of a date-time. One without an offset is taken to be in UTC. */
     SysTime sys_time() const noexcept { return SysTime(std::chrono::microseconds(unix_microseconds())); }
-    /* The date-time of a moment, in UTC. It fails with SPEEDATE_DATE_TOO_SMALL or SPEEDATE_DATE_TOO_LARGE outside the
-     * years 0000 to 9999. */
-    static Result<DateTime> of(SysTime moment) {
+    /* The date-time of a moment, such as std::chrono::system_clock::now(), in UTC; digits past the microsecond are
+     * rounded down. It fails with SPEEDATE_DATE_TOO_SMALL or SPEEDATE_DATE_TOO_LARGE outside the years 0000 to 9999. */
+    template <class Number, class Period>
+    static Result<DateTime>
+    of(std::chrono::time_point<std::chrono::system_clock, std::chrono::duration<Number, Period>> moment) {
+        constexpr bool in_seconds = std::ratio_equal_v<Period, std::ratio<1>>;
+        constexpr bool in_milliseconds = std::ratio_equal_v<Period, std::milli>;
+        static_assert(std::is_integral_v<Number> && std::is_signed_v<Number>, "a moment has a whole number with a sign");
+        static_assert(in_seconds || in_milliseconds || std::ratio_less_equal_v<Period, std::micro>,
+                      "a moment in any other unit has to be cast to seconds first");
         Config config;
         config.timestamp_offset = 0;
-        config.timestamp_unit = Unit::Microsecond;
-        return from_timestamp(moment.time_since_epoch().count(), 0, config);
+        config.timestamp_unit = in_seconds ? Unit::Second : in_milliseconds ? Unit::Millisecond : Unit::Microsecond;
+        if constexpr (in_seconds || in_milliseconds)
+            return from_timestamp(moment.time_since_epoch().count(), 0, config);
+        else
+            return from_timestamp(std::chrono::floor<std::chrono::microseconds>(moment).time_since_epoch().count(), 0,
+                                  config);
     }
 
     /* As speedate_datetime_compare says: 0 if both are the same instant. */
@@ -637,7 +670,8 @@ class DateTime : public detail::Equal<DateTime> {
 class Duration : public detail::Ordered<Duration> {
   public:
     /* The duration of its numbers, or SPEEDATE_DURATION_DAYS_TOO_LARGE or SPEEDATE_DURATION_VALUE_TOO_LARGE. */
-    static Result<Duration> of(bool negative, std::int64_t day, std::int64_t second = 0, std::int64_t microsecond = 0) {
+    template <class Flag, detail::IfBool<Flag> = 0>
+    static Result<Duration> of(Flag negative, std::int64_t day, std::int64_t second = 0, std::int64_t microsecond = 0) {
         using detail::narrowed;
         return of(SpeedateDuration{negative, narrowed<std::uint32_t>(day), narrowed<std::uint32_t>(second),
                                    narrowed<std::uint32_t>(microsecond)});
@@ -649,7 +683,8 @@ class Duration : public detail::Ordered<Duration> {
         return Duration(duration);
     }
     /* The duration of numbers that are brought into their ranges, as speedate_duration_normalize says. */
-    static Result<Duration> normalized(bool negative, std::int64_t day, std::int64_t second = 0,
+    template <class Flag, detail::IfBool<Flag> = 0>
+    static Result<Duration> normalized(Flag negative, std::int64_t day, std::int64_t second = 0,
                                        std::int64_t microsecond = 0) {
         for (const std::int64_t number : {day, second, microsecond})
             if (number < 0 || number > std::int64_t{UINT32_MAX})
@@ -862,6 +897,39 @@ inline Result<std::int64_t> int_parse(std::string_view text) {
 /* The SPEEDATE_VERSION_NUMBER of the library that is called. */
 inline int version() noexcept { return speedate_version(); }
 
+/* ---- What the library of C++ asks of a type ---- */
+
+namespace detail {
+
+/* Equal values have equal bytes. */
+template <class T> struct Hash {
+    std::size_t operator()(const T &value) const noexcept {
+        return std::hash<std::string_view>()({reinterpret_cast<const char *>(&value.c()), sizeof value.c()});
+    }
+};
+
+#ifdef __cpp_lib_format
+/* The text of a value, with the width, the fill and the alignment of a string. */
+template <class T> struct Formatter : std::formatter<std::string_view> {
+    template <class Context> auto format(const T &value, Context &context) const {
+        return std::formatter<std::string_view>::format(value.to_text(), context);
+    }
+};
+#endif
+
+} // namespace detail
+
 } // namespace speedate
+
+template <> struct std::hash<speedate::Date> : speedate::detail::Hash<speedate::Date> {};
+template <> struct std::hash<speedate::Time> : speedate::detail::Hash<speedate::Time> {};
+template <> struct std::hash<speedate::DateTime> : speedate::detail::Hash<speedate::DateTime> {};
+template <> struct std::hash<speedate::Duration> : speedate::detail::Hash<speedate::Duration> {};
+#ifdef __cpp_lib_format
+template <> struct std::formatter<speedate::Date> : speedate::detail::Formatter<speedate::Date> {};
+template <> struct std::formatter<speedate::Time> : speedate::detail::Formatter<speedate::Time> {};
+template <> struct std::formatter<speedate::DateTime> : speedate::detail::Formatter<speedate::DateTime> {};
+template <> struct std::formatter<speedate::Duration> : speedate::detail::Formatter<speedate::Duration> {};
+#endif
 
 #endif

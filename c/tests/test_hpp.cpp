@@ -5,6 +5,7 @@
 #include <array>
 #include <iostream>
 #include <sstream>
+#include <unordered_set>
 #include <vector>
 
 using namespace speedate;
@@ -314,6 +315,19 @@ static void chrono() {
     CHECK(value.sys_time() == point && said(DateTime::of(point)) == "2020-02-29T10:43:14.500000Z");
     CHECK(said(DateTime::of(SysTime(std::chrono::microseconds(INT64_MAX)))) == "date_too_large");
     CHECK(said(DateTime::of(SysTime(std::chrono::microseconds(-1)))) == "1969-12-31T23:59:59.999999Z");
+    // Of any unit, as clocks have them, and up to the ends of their numbers.
+    using Clock = std::chrono::system_clock;
+    const auto at = [](auto since) { return said(DateTime::of(std::chrono::time_point<Clock, decltype(since)>(since))); };
+    CHECK(at(std::chrono::seconds(1582972994)) == "2020-02-29T10:43:14Z");
+    CHECK(at(std::chrono::milliseconds(1582972994567)) == "2020-02-29T10:43:14.567000Z");
+    CHECK(at(std::chrono::nanoseconds(1582972994567891999)) == "2020-02-29T10:43:14.567891Z");
+    CHECK(at(std::chrono::nanoseconds(-1)) == "1969-12-31T23:59:59.999999Z");
+    CHECK(at(std::chrono::nanoseconds(INT64_MIN)) == "1677-09-21T00:12:43.145224Z");
+    CHECK(at(std::chrono::seconds(INT64_MAX)) == "date_too_large");
+    CHECK(at(std::chrono::seconds(INT64_MIN)) == "date_too_small");
+    CHECK(at(std::chrono::milliseconds(INT64_MAX)) == "date_too_large");
+    const auto now = Clock::now();
+    CHECK(DateTime::of(now)->sys_time() == std::chrono::floor<std::chrono::microseconds>(now));
 #ifdef SPEEDATE_HAS_CALENDAR
     using namespace std::chrono;
     CHECK(date("2020-02-29").year_month_day() == 2020y / February / 29d);
@@ -322,10 +336,47 @@ static void chrono() {
     CHECK(said(Date::of(year(-1) / December / 31d)) == "date_too_small" &&
           said(Date::of(year(10000) / 1 / 1)) == "date_too_large");
     CHECK(sys_days(date("1970-01-02").year_month_day()) == sys_days(days(1)));
+    CHECK(date("1970-01-02").sys_days() == sys_days(days(1)) && date("0000-01-01").sys_days() == 0y / January / 1d);
+    CHECK(said(Date::of(2020y / February / last)) == "2020-02-29");
+    const auto at_day = [](days since) { return said(Date::of(sys_days(since))); };
+    CHECK(at_day(days(-1)) == "1969-12-31" && at_day(days(2932896)) == "9999-12-31");
+    CHECK(at_day(days(2932897)) == "no_such_date" && at_day(days(-719529)) == "no_such_date");
+    CHECK(at_day(days::max()) == "no_such_date" && at_day(days::min()) == "no_such_date");
     const sys_time<microseconds> moment_of_20 = value.sys_time();
     CHECK(DateTime::of(moment_of_20).value() == value.in_timezone(0).value());
 #elif __cplusplus >= 202002L
     std::cout << "not tried: year_month_day, since this library of C++ has no calendar\n";
+#endif
+}
+
+// Whether a call can have {} for its flag, or a number: then it would stand for a flag that nobody has named.
+template <class Flag, class = void> struct TakesFlag : std::false_type {};
+template <class Flag>
+struct TakesFlag<Flag, std::void_t<decltype(Date::from_timestamp(1, std::declval<Flag>()))>> : std::true_type {};
+template <class T, class = void> struct TakesBraces : std::false_type {};
+template <class T> struct TakesBraces<T, std::void_t<decltype(T::from_timestamp(1, {}))>> : std::true_type {};
+static_assert(TakesFlag<bool>::value && !TakesFlag<int>::value && !TakesFlag<Config>::value);
+static_assert(!TakesBraces<Date>::value);
+template <class Flag, class = void> struct TakesSign : std::false_type {};
+template <class Flag>
+struct TakesSign<Flag, std::void_t<decltype(Duration::of(std::declval<Flag>(), 2))>> : std::true_type {};
+template <class Flag, class = void> struct NormalizesSign : std::false_type {};
+template <class Flag>
+struct NormalizesSign<Flag, std::void_t<decltype(Duration::normalized(std::declval<Flag>(), 2))>> : std::true_type {};
+static_assert(TakesSign<bool>::value && !TakesSign<int>::value && NormalizesSign<bool>::value);
+static_assert(!NormalizesSign<int>::value);
+
+static void keys() {
+    const std::unordered_set<Date> dates = {date("2020-02-29"), date("2020-03-01"), date("2020-02-29")};
+    CHECK(dates.size() == 2 && dates.count(date("2020-03-01")) == 1 && dates.count(date("2020-03-02")) == 0);
+    CHECK(std::hash<Time>()(time_of("12:00")) == std::hash<Time>()(Time::of(12, 0).value()));
+    CHECK(std::hash<Time>()(time_of("12:00")) != std::hash<Time>()(time_of("12:00Z")));
+    CHECK(std::unordered_set<DateTime>({moment("2020-02-29T12:00Z"), moment("2020-02-29T13:00+01:00")}).size() == 2);
+    CHECK(std::unordered_set<Duration>({length("PT60M"), length("PT1H"), length("-PT0S"), length("PT0S")}).size() == 3);
+#ifdef __cpp_lib_format
+    CHECK(std::format("{} {:>6} {:*<11}", date("2020-02-29"), time_of("12:13:14"), length("PT1H")) ==
+          "2020-02-29 12:13:14 PT1H*******");
+    CHECK(std::format("{:.10}", moment("2020-02-29T12:13:14.5+01:30")) == "2020-02-29");
 #endif
 }
 
@@ -337,5 +388,6 @@ int main() {
     durations();
     columns();
     chrono();
+    keys();
     return failures != 0;
 }
