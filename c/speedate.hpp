@@ -39,6 +39,7 @@
 #include <string>
 #include <string_view>
 #include <type_traits>
+#include <utility>
 #if __cplusplus >= 202002L
 #include <compare>
 #include <version>
@@ -792,100 +793,50 @@ struct Progress {
 
 namespace detail {
 
-template <class Call, class Numbers>
-Result<Progress> column(Call call, std::string_view text, Numbers &out, const Config &config,
-                        const ColumnConfig &column) {
-    return written<Progress, SpeedateProgress>([&](auto *progress) {
-        return call(text.data(), text.size(), config.c(), column.c(), std::data(out), std::size(out), nullptr, 0,
-                    progress);
-    });
-}
-template <class Call, class Numbers, class Codes>
-Result<Progress> column(Call call, std::string_view text, Numbers &out, Codes &errors, const Config &config,
-                        const ColumnConfig &column) {
-    /* Where there is no place for an error, no line is read. */
-    const std::size_t room = std::size(errors) == 0 ? 0 : std::size(out);
-    return written<Progress, SpeedateProgress>([&](auto *progress) {
-        return call(text.data(), text.size(), config.c(), column.c(), std::data(out), room, std::data(errors),
-                    std::size(errors), progress);
-    });
-}
+/* A call on columns, of which each below is one: date_column(text, out), or date_column(text, out, errors). */
+template <class Number> class Column {
+  public:
+    using Call = int (*)(const char *, std::size_t, SpeedateConfig, SpeedateColumnConfig, Number *, std::size_t,
+                         std::uint8_t *, std::size_t, SpeedateProgress *);
+    explicit constexpr Column(Call call) noexcept : call_(call) {}
+
+    template <class Numbers>
+    Result<Progress> operator()(std::string_view text, Numbers &&out, const Config &config = {},
+                                const ColumnConfig &column = {}) const {
+        return read(text, std::data(out), std::size(out), nullptr, 0, config, column);
+    }
+    template <class Numbers, class Codes, class = decltype(std::data(std::declval<Codes &>()))>
+    Result<Progress> operator()(std::string_view text, Numbers &&out, Codes &&errors, const Config &config = {},
+                                const ColumnConfig &column = {}) const {
+        /* Where there is no place for an error, no line is read. */
+        const std::size_t room = std::size(errors) == 0 ? 0 : std::size(out);
+        return read(text, std::data(out), room, std::data(errors), std::size(errors), config, column);
+    }
+
+  private:
+    Result<Progress> read(std::string_view text, Number *out, std::size_t room, std::uint8_t *errors,
+                          std::size_t error_room, const Config &config, const ColumnConfig &column) const {
+        return written<Progress, SpeedateProgress>([&](auto *progress) {
+            return call_(text.data(), text.size(), config.c(), column.c(), out, room, errors, error_room, progress);
+        });
+    }
+
+    Call call_;
+};
 
 } // namespace detail
 
 /* Read the lines of a text as numbers, as many as there is room for in `out`, an array, a std::vector, a std::span or
- * another container with contiguous numbers: std::int32_t for dates and offsets, otherwise std::int64_t. The calls with
- * errors write the code of each line into a container of std::uint8_t. */
-template <class Numbers>
-Result<Progress> date_column(std::string_view text, Numbers &&out, const Config &config = {},
-                             const ColumnConfig &column = {}) {
-    return detail::column(speedate_date_column, text, out, config, column);
-}
-template <class Numbers, class Codes>
-Result<Progress> date_column_with_errors(std::string_view text, Numbers &&out, Codes &&errors,
-                                         const Config &config = {}, const ColumnConfig &column = {}) {
-    return detail::column(speedate_date_column, text, out, errors, config, column);
-}
-template <class Numbers>
-Result<Progress> datetime_column(std::string_view text, Numbers &&out, const Config &config = {},
-                                 const ColumnConfig &column = {}) {
-    return detail::column(speedate_datetime_column, text, out, config, column);
-}
-template <class Numbers, class Codes>
-Result<Progress> datetime_column_with_errors(std::string_view text, Numbers &&out, Codes &&errors,
-                                             const Config &config = {}, const ColumnConfig &column = {}) {
-    return detail::column(speedate_datetime_column, text, out, errors, config, column);
-}
-template <class Numbers>
-Result<Progress> datetime_clock_column(std::string_view text, Numbers &&out, const Config &config = {},
-                                       const ColumnConfig &column = {}) {
-    return detail::column(speedate_datetime_clock_column, text, out, config, column);
-}
-template <class Numbers, class Codes>
-Result<Progress> datetime_clock_column_with_errors(std::string_view text, Numbers &&out, Codes &&errors,
-                                                   const Config &config = {}, const ColumnConfig &column = {}) {
-    return detail::column(speedate_datetime_clock_column, text, out, errors, config, column);
-}
-template <class Numbers>
-Result<Progress> datetime_offset_column(std::string_view text, Numbers &&out, const Config &config = {},
-                                        const ColumnConfig &column = {}) {
-    return detail::column(speedate_datetime_offset_column, text, out, config, column);
-}
-template <class Numbers, class Codes>
-Result<Progress> datetime_offset_column_with_errors(std::string_view text, Numbers &&out, Codes &&errors,
-                                                    const Config &config = {}, const ColumnConfig &column = {}) {
-    return detail::column(speedate_datetime_offset_column, text, out, errors, config, column);
-}
-template <class Numbers>
-Result<Progress> time_column(std::string_view text, Numbers &&out, const Config &config = {},
-                             const ColumnConfig &column = {}) {
-    return detail::column(speedate_time_column, text, out, config, column);
-}
-template <class Numbers, class Codes>
-Result<Progress> time_column_with_errors(std::string_view text, Numbers &&out, Codes &&errors,
-                                         const Config &config = {}, const ColumnConfig &column = {}) {
-    return detail::column(speedate_time_column, text, out, errors, config, column);
-}
-template <class Numbers>
-Result<Progress> time_offset_column(std::string_view text, Numbers &&out, const Config &config = {},
-                                    const ColumnConfig &column = {}) {
-    return detail::column(speedate_time_offset_column, text, out, config, column);
-}
-template <class Numbers, class Codes>
-Result<Progress> time_offset_column_with_errors(std::string_view text, Numbers &&out, Codes &&errors,
-                                                const Config &config = {}, const ColumnConfig &column = {}) {
-    return detail::column(speedate_time_offset_column, text, out, errors, config, column);
-}
-template <class Numbers>
-Result<Progress> duration_column(std::string_view text, Numbers &&out, const Config &config = {},
-                                 const ColumnConfig &column = {}) {
-    return detail::column(speedate_duration_column, text, out, config, column);
-}
-template <class Numbers, class Codes>
-Result<Progress> duration_column_with_errors(std::string_view text, Numbers &&out, Codes &&errors,
-                                             const Config &config = {}, const ColumnConfig &column = {}) {
-    return detail::column(speedate_duration_column, text, out, errors, config, column);
-}
+ * another container with contiguous numbers: std::int32_t for dates and offsets, otherwise std::int64_t. With errors, a
+ * container of std::uint8_t after `out`, the code of each line is written there. A configuration and a ColumnConfig may
+ * come last. */
+inline constexpr detail::Column<std::int32_t> date_column(speedate_date_column);
+inline constexpr detail::Column<std::int64_t> datetime_column(speedate_datetime_column);
+inline constexpr detail::Column<std::int64_t> datetime_clock_column(speedate_datetime_clock_column);
+inline constexpr detail::Column<std::int32_t> datetime_offset_column(speedate_datetime_offset_column);
+inline constexpr detail::Column<std::int64_t> time_column(speedate_time_column);
+inline constexpr detail::Column<std::int32_t> time_offset_column(speedate_time_offset_column);
+inline constexpr detail::Column<std::int64_t> duration_column(speedate_duration_column);
 
 /* ---- Numbers and versions ---- */
 

@@ -256,21 +256,21 @@ static void columns() {
     CHECK(said(date_column("", days, {}, column).has_value()
                    ? Result<Date>(date("2020-02-29"))
                    : Error(SPEEDATE_CONFIG_OUT_OF_RANGE)) == "config_out_of_range");
-    read = datetime_column_with_errors("1970-01-01T00:00Z\n24:00\n1970-01-01T00:00Z", numbers, errors).value();
+    read = datetime_column("1970-01-01T00:00Z\n24:00\n1970-01-01T00:00Z", numbers, errors).value();
     CHECK(read.lines == 2 && numbers[0] == 0 && numbers[1] == INT64_MIN);
     CHECK(errors[0] == 0 && errors[1] == SPEEDATE_TOO_SHORT);
-    CHECK(datetime_column_with_errors("x", numbers, std::array<std::uint8_t, 0>()).value().lines == 0);
-    read = date_column_with_errors("1970-01-03\nx", days, errors).value();
+    CHECK(datetime_column("x", numbers, std::array<std::uint8_t, 0>()).value().lines == 0);
+    read = date_column("1970-01-03\nx", days, errors).value();
     CHECK(read.lines == 2 && days[0] == 2 && days[1] == INT32_MIN && errors[1] == SPEEDATE_TOO_SHORT);
-    read = datetime_clock_column_with_errors("1970-01-01T00:00:03-01:00\nx", numbers, errors).value();
+    read = datetime_clock_column("1970-01-01T00:00:03-01:00\nx", numbers, errors).value();
     CHECK(read.lines == 2 && numbers[0] == 3000000 && numbers[1] == INT64_MIN && errors[1] == SPEEDATE_TOO_SHORT);
-    read = datetime_offset_column_with_errors("1970-01-01T00:00+02:00\n1970-01-01T00:00", days, errors).value();
+    read = datetime_offset_column("1970-01-01T00:00+02:00\n1970-01-01T00:00", days, errors).value();
     CHECK(read.lines == 2 && days[0] == 7200 && days[1] == INT32_MIN && errors[1] == SPEEDATE_TZ_REQUIRED);
-    read = time_column_with_errors("00:00:04+01:00\n24:00", numbers, errors).value();
+    read = time_column("00:00:04+01:00\n24:00", numbers, errors).value();
     CHECK(read.lines == 2 && numbers[0] == 4000000 && errors[0] == 0 && errors[1] == SPEEDATE_OUT_OF_RANGE_HOUR);
-    read = time_offset_column_with_errors("00:00+03:00\n00:00", days, errors).value();
+    read = time_offset_column("00:00+03:00\n00:00", days, errors).value();
     CHECK(read.lines == 2 && days[0] == 10800 && errors[0] == 0 && errors[1] == SPEEDATE_TZ_REQUIRED);
-    read = duration_column_with_errors("PT2S\nP999999999D", numbers, errors).value();
+    read = duration_column("PT2S\nP999999999D", numbers, errors).value();
     CHECK(read.lines == 2 && numbers[0] == 2000000 && errors[1] == SPEEDATE_NUMBER_TOO_LARGE);
 
     // Each call hands on both configurations: by the first the line is read, or refused, and by the second it is cut.
@@ -283,29 +283,29 @@ static void columns() {
     CHECK(datetime_column("5\r\n", numbers, config, column).value().lines == 1 && numbers[0] == 5);
     CHECK(duration_column("PT3S\r\n", numbers, config, column).value().lines == 1 && numbers[0] == 3000000);
     CHECK(duration_column("PT1S1M", numbers, config, column).value().error == Error(SPEEDATE_DURATION_UNIT_ORDER));
-    CHECK(date_column_with_errors("172800000000\r\n", days, errors, config, column).value().lines == 1);
+    CHECK(date_column("172800000000\r\n", days, errors, config, column).value().lines == 1);
     CHECK(days[0] == 2 && errors[0] == 0);
-    CHECK(datetime_column_with_errors("7\r\n", numbers, errors, config, column).value().lines == 1);
+    CHECK(datetime_column("7\r\n", numbers, errors, config, column).value().lines == 1);
     CHECK(numbers[0] == 7 && errors[0] == 0);
     CHECK(datetime_clock_column("6\r\n", numbers, config, column).value().lines == 1 && numbers[0] == 6);
-    CHECK(datetime_clock_column_with_errors("8\r\n", numbers, errors, config, column).value().lines == 1);
+    CHECK(datetime_clock_column("8\r\n", numbers, errors, config, column).value().lines == 1);
     CHECK(numbers[0] == 8 && errors[0] == 0);
     Config east = config;
     east.timestamp_offset = 3600;
     CHECK(datetime_offset_column("6\r\n", days, east, column).value().lines == 1 && days[0] == 3600);
     east.timestamp_offset = 7200;
-    CHECK(datetime_offset_column_with_errors("6\r\n", days, errors, east, column).value().lines == 1);
+    CHECK(datetime_offset_column("6\r\n", days, errors, east, column).value().lines == 1);
     CHECK(days[0] == 7200 && errors[0] == 0);
     ColumnConfig times;
     times.drops_returns = true;
     const Config cut = with(Unit::Infer, Overflow::Truncate, Order::Lax);
     CHECK(time_column("00:00:00.0000019\r\n", numbers, cut, times).value().lines == 1 && numbers[0] == 1);
-    CHECK(time_column_with_errors("00:00:00.0000029\r\n", numbers, errors, cut, times).value().lines == 1);
+    CHECK(time_column("00:00:00.0000029\r\n", numbers, errors, cut, times).value().lines == 1);
     CHECK(numbers[0] == 2 && errors[0] == 0);
     CHECK(time_offset_column("00:00:00.1234567+00:01\r\n", days, cut, times).value().lines == 1 && days[0] == 60);
-    CHECK(time_offset_column_with_errors("00:00:00.1234567z\r\n", days, errors, cut, times).value().lines == 1);
+    CHECK(time_offset_column("00:00:00.1234567z\r\n", days, errors, cut, times).value().lines == 1);
     CHECK(days[0] == 0 && errors[0] == 0);
-    CHECK(duration_column_with_errors("PT4S\r\nPT1S1M", numbers, errors, config, column).value().lines == 2);
+    CHECK(duration_column("PT4S\r\nPT1S1M", numbers, errors, config, column).value().lines == 2);
     CHECK(numbers[0] == 4000000 && errors[0] == 0 && errors[1] == SPEEDATE_DURATION_UNIT_ORDER);
 }
 
