@@ -221,20 +221,11 @@ pub enum DateReader {
 
 reader!(DateReader by speedate_date_column -> i32);
 
-impl From<&DateReader> for Config {
+impl From<&DateReader> for (Config, ColumnConfig) {
     fn from(reader: &DateReader) -> Self {
         match reader {
             DateReader::Text => Self::default(),
-            DateReader::OrTimestamp(config) => config.into(),
-        }
-    }
-}
-
-impl From<&DateReader> for ColumnConfig {
-    fn from(reader: &DateReader) -> Self {
-        match reader {
-            DateReader::Text => Self::default(),
-            DateReader::OrTimestamp(_) => Self::default().timestamps(),
+            DateReader::OrTimestamp(config) => (config.into(), ColumnConfig::default().timestamps()),
         }
     }
 }
@@ -273,34 +264,20 @@ pub struct DateTimeReader {
 
 reader!(DateTimeReader by speedate_datetime_column -> i64);
 
-impl From<&DateTimeReader> for Config {
+impl From<&DateTimeReader> for (Config, ColumnConfig) {
     fn from(reader: &DateTimeReader) -> Self {
-        Self::from(&reader.parser)
+        let (config, column) = Self::from(&reader.parser);
+        (config, column.assumes_utc(reader.assumes_utc))
     }
 }
 
-impl From<&DateTimeReader> for ColumnConfig {
-    fn from(reader: &DateTimeReader) -> Self {
-        Self::from(&reader.parser).assumes_utc(reader.assumes_utc)
-    }
-}
-
-impl From<&DateTimeParser> for Config {
+impl From<&DateTimeParser> for (Config, ColumnConfig) {
     fn from(parser: &DateTimeParser) -> Self {
+        let column = ColumnConfig::default();
         match parser {
-            DateTimeParser::Text(config) => config.into(),
-            DateTimeParser::OrTimestamp(config) => config.into(),
-            DateTimeParser::Strict(behavior) => Self::default().behavior(*behavior),
-        }
-    }
-}
-
-impl From<&DateTimeParser> for ColumnConfig {
-    fn from(parser: &DateTimeParser) -> Self {
-        match parser {
-            DateTimeParser::Text(_) => Self::default(),
-            DateTimeParser::OrTimestamp(_) => Self::default().timestamps(),
-            DateTimeParser::Strict(_) => Self::default().strict(),
+            DateTimeParser::Text(config) => (config.into(), column),
+            DateTimeParser::OrTimestamp(config) => (config.into(), column.timestamps()),
+            DateTimeParser::Strict(behavior) => (Config::default().behavior(*behavior), column.strict()),
         }
     }
 }
@@ -308,13 +285,7 @@ impl From<&DateTimeParser> for ColumnConfig {
 /// Defines what a reader that has nothing but a parser is to C.
 macro_rules! configured {
     ($($name:ident),*) => {$(
-        impl From<&$name> for Config {
-            fn from(reader: &$name) -> Self {
-                Self::from(&reader.parser)
-            }
-        }
-
-        impl From<&$name> for ColumnConfig {
+        impl From<&$name> for (Config, ColumnConfig) {
             fn from(reader: &$name) -> Self {
                 Self::from(&reader.parser)
             }
@@ -373,20 +344,12 @@ pub enum TimeParser {
     Strict(MicrosecondsPrecisionOverflowBehavior),
 }
 
-impl From<&TimeParser> for Config {
+impl From<&TimeParser> for (Config, ColumnConfig) {
     fn from(parser: &TimeParser) -> Self {
+        let column = ColumnConfig::default();
         match parser {
-            TimeParser::Text(config) => config.into(),
-            TimeParser::Strict(behavior) => Self::default().behavior(*behavior),
-        }
-    }
-}
-
-impl From<&TimeParser> for ColumnConfig {
-    fn from(parser: &TimeParser) -> Self {
-        match parser {
-            TimeParser::Text(_) => Self::default(),
-            TimeParser::Strict(_) => Self::default().strict(),
+            TimeParser::Text(config) => (config.into(), column),
+            TimeParser::Strict(behavior) => (Config::default().behavior(*behavior), column.strict()),
         }
     }
 }
@@ -453,15 +416,9 @@ pub struct DurationReader {
 
 reader!(DurationReader by speedate_duration_column -> i64);
 
-impl From<&DurationReader> for Config {
+impl From<&DurationReader> for (Config, ColumnConfig) {
     fn from(reader: &DurationReader) -> Self {
-        Self::from(&reader.config)
-    }
-}
-
-impl From<&DurationReader> for ColumnConfig {
-    fn from(_: &DurationReader) -> Self {
-        Self::default()
+        ((&reader.config).into(), ColumnConfig::default())
     }
 }
 

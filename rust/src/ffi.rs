@@ -346,7 +346,7 @@ macro_rules! columns {
             $text: &[u8], lines: LineConfig, reader: &R, $($slice: &mut [$number]),*
         ) -> Result<Progress, Code>
         where
-            for<'a> &'a R: Into<Config> + Into<ColumnConfig>,
+            for<'a> &'a R: Into<(Config, ColumnConfig)>,
         {
             unsafe extern "C" {
                 fn $name(
@@ -354,7 +354,7 @@ macro_rules! columns {
                     $($slice: *mut $number, _: usize,)* progress: *mut CProgress,
                 ) -> c_int;
             }
-            let ($config, $column): (Config, ColumnConfig) = (reader.into(), reader.into());
+            let ($config, $column) = reader.into();
             let $column = $column.lines(lines);
             // SAFETY: the types are the header's; addresses and sizes are those of the text and of slices, which do not
             // overlap it or one another, and `progress` is a variable's address.
