@@ -7,7 +7,7 @@
     'P1DT10H20M'
     >>> speedate.date("2021-02-29")
     Traceback (most recent call last):
-    speedate.Fault: out_of_range_day
+    speedate.Fault: out_of_range_day at 8: expected a day that the month has: '2021-02-29'
 
 A text is a `str`, or UTF-8 in `bytes`, a `bytearray` or a `memoryview`. GRAMMAR.md, in the folder of this
 module, says which are accepted, and why any other is refused. A value with an offset is aware, one without is naive,

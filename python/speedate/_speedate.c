@@ -17,21 +17,30 @@
 #define QUARTER 900 /* seconds */
 #define QUARTERS 95 /* below 24 hours, either way */
 
-/* What a text has that alone refuses it. */
-enum { NO_HINT, BYTE_ORDER_MARK, LINE_END, BOTH_HINTS };
-static const char *const hint_words[BOTH_HINTS + 1] = {
-    [BYTE_ORDER_MARK] = "it begins with a byte order mark",
-    [LINE_END] = "it has a line ending, which lines=True drops",
-    [BOTH_HINTS] = "it begins with a byte order mark, and has a line ending",
+/* The one thing for which a text is refused, and what mends it. The first three are flags of one hint. */
+enum { NO_HINT, BYTE_ORDER_MARK = 1, LINE_END = 2, OF_BYTES = 4, INTEGER_OR_TIMESTAMP = 8, NO_TIMESTAMP, ALL_HINTS };
+#define MARK_WORDS "it begins with a byte order mark, which the encoding utf-8-sig drops"
+#define MARK_OF_BYTES_WORDS "it begins with a byte order mark: skip its three bytes"
+#define LINE_END_WORDS "it has a line ending, which lines=True drops"
+static const char *const hint_words[ALL_HINTS] = {
+    [BYTE_ORDER_MARK] = MARK_WORDS,
+    [BYTE_ORDER_MARK | OF_BYTES] = MARK_OF_BYTES_WORDS,
+    [LINE_END] = LINE_END_WORDS,
+    [LINE_END | OF_BYTES] = LINE_END_WORDS,
+    [BYTE_ORDER_MARK | LINE_END] = MARK_WORDS "; " LINE_END_WORDS,
+    [BYTE_ORDER_MARK | LINE_END | OF_BYTES] = MARK_OF_BYTES_WORDS "; " LINE_END_WORDS,
+    [INTEGER_OR_TIMESTAMP] = "it is an integer, which is a timestamp only with timestamps=True",
+    [NO_TIMESTAMP] = "it is an integer, not a text",
 };
 
 /* The places of the objects that are held from the import on. Nothing is added afterwards. */
 enum {
     /* what is imported */
     DATETIME, ARRAY, CONFIG, FAULT, UNREPRESENTABLE, REFUSAL, INTEGER, CHOICE, PLAIN, MISSING, ITEMS, TURN, CLAMPED,
+    DIGITS, WRONG_ITEM,
     NUMBERS, INDEX, HINT, UTCOFFSET, FROMBYTES,       /* names of attributes */
     HINTS,                                            /* the words of each hint */
-    ARGUMENTS = HINTS + BOTH_HINTS + 1,               /* of the fault of each code */
+    ARGUMENTS = HINTS + ALL_HINTS,                    /* of the fault of each code */
     ATTRIBUTES = ARGUMENTS + SPEEDATE_LAST_FAULT + 1, /* the same */
     ZONES = ATTRIBUTES + SPEEDATE_LAST_FAULT + 1,     /* of each offset of quarter hours */
     ALL = ZONES + 2 * QUARTERS + 1
@@ -63,6 +72,8 @@ static const struct {
     [ITEMS] = {"speedate._types", "_items"},
     [TURN] = {"speedate._types", "_turn"},
     [CLAMPED] = {"speedate._types", "_clamped"},
+    [DIGITS] = {"speedate._types", "_digits"},
+    [WRONG_ITEM] = {"speedate._types", "_wrong_item"},
 };
 
 /* ---- Errors ---- */
@@ -291,15 +302,11 @@ static int give_made(PyObject *made, Text *text) {
     return !made ? -1 : give_bytes(PyBytes_AS_STRING(made), PyBytes_GET_SIZE(made), made, text);
 }
 
-/* What errors call a text: with its index in a column, or without one, if that is negative. */
-static int wrong_text(Py_ssize_t index, PyObject *object) {
-    char name[32] = "text";
-    if (index >= 0)
-        PyOS_snprintf(name, sizeof name, "text %zd", index);
-    if (PyMemoryView_Check(object))
-        return type_error("%s has to be a memoryview of bytes, not of format %s", name,
-                          PyMemoryView_GET_BUFFER(object)->format);
-    return wrong_type(name, "str or bytes or bytearray or memoryview", object);
+/* What is wrong with a memoryview: of a text with its index in a column, or without one, if that is negative. */
+static int wrong_format(Py_ssize_t index, PyObject *view) {
+    const char *format = PyMemoryView_GET_BUFFER(view)->format;
+    return index < 0 ? type_error("text has to be a memoryview of bytes, not of format %s", format)
+                     : type_error("text %zd has to be a memoryview of bytes, not of format %s", index, format);
 }
 
 /* Whether no one can write the bytes of a view. Other programs, and what holds no lock, may write those of any owner but
@@ -317,7 +324,7 @@ static int take_memoryview(PyObject *object, Py_ssize_t index, Text *text) {
     bool bytes = strcmp(buffer->format, "B") == 0;
     if (bytes && is_fixed(buffer))
         return give_bytes(buffer->buf, buffer->len, view, text);
-    int status = bytes ? give_made(PyObject_CallMethod(view, "tobytes", NULL), text) : wrong_text(index, object);
+    int status = bytes ? give_made(PyObject_CallMethod(view, "tobytes", NULL), text) : wrong_format(index, view);
     Py_DECREF(view);
     return status;
 }
@@ -343,7 +350,9 @@ static int take_other_text(PyObject *object, Py_ssize_t index, Text *text) {
         return take_str(object, text);
     if (PyByteArray_Check(object))
         return give_made(PyBytes_FromStringAndSize(PyByteArray_AS_STRING(object), PyByteArray_GET_SIZE(object)), text);
-    return PyMemoryView_Check(object) ? take_memoryview(object, index, text) : wrong_text(index, object);
+    if (PyMemoryView_Check(object))
+        return take_memoryview(object, index, text);
+    return wrong_type("text", "str or bytes or bytearray or memoryview", object);
 }
 
 /* Takes the bytes of a text: its index in a column is negative outside of one. */
@@ -533,6 +542,11 @@ static Text after_mark(const Text *text) {
     return (Text){text->bytes + 3, text->size - 3, NULL};
 }
 
+/* A hint with the words for the type of an object. */
+static inline int of_type(int hint, PyObject *object) {
+    return PyUnicode_Check(object) ? hint : hint | OF_BYTES;
+}
+
 /* Gives a Fault, if it could be made, the words of a hint, if it has one. */
 static PyObject *with_hint(const State *state, PyObject *fault, int hint) {
     if (fault && hint != NO_HINT && PyObject_SetAttr(fault, state->held[HINT], state->held[HINTS + hint]) < 0)
@@ -557,7 +571,7 @@ static PyObject *refuse(const State *state, int code, PyObject *object, const Te
         size_t taken;
         Text rest = after_mark(text);
         if (parsers[call].parse(&rest, config, &value, &taken) == SPEEDATE_OK)
-            fault = with_hint(state, fault, BYTE_ORDER_MARK);
+            fault = with_hint(state, fault, of_type(BYTE_ORDER_MARK, object));
     }
     return raise_error(fault);
 }
@@ -893,7 +907,7 @@ struct ColumnReader {
     int parser; /* of a text of a list */
     SpeedateConfig config;
     SpeedateColumnConfig lines;
-    bool empty_is_nat, items_are_lines;
+    bool empty_is_nat, items_are_lines, can_read_timestamps;
 };
 
 static int number_of_date_time(const ColumnReader *reader, const Text *text, const Value *value, int64_t *number) {
@@ -1132,22 +1146,27 @@ static PyObject *kept_text(PyObject *item, const Text *text, size_t cut) {
     return source;
 }
 
-/* What a text has that alone refuses it. A line ending is looked for in an item that may not have one. */
-static int hint_of(const ColumnReader *reader, const Text *text, bool is_line) {
+/* The texts of a column: items, of which some are lines with their ends, lines, and the digits of items that are integers. */
+typedef enum { ITEM, LINE, INTEGER_ITEM } TextKind;
+
+/* The one thing for which a text is refused. A line ending is looked for in an item that may not have one. */
+static int hint_of(const ColumnReader *reader, PyObject *item, const Text *text, TextKind kind) {
+    if (kind == INTEGER_ITEM)
+        return reader->can_read_timestamps ? INTEGER_OR_TIMESTAMP : NO_TIMESTAMP;
     Text rest = has_mark(text) ? after_mark(text) : *text;
     int64_t number;
     int hint = has_mark(text) ? BYTE_ORDER_MARK : NO_HINT;
     size_t size = rest.size;
-    if (!is_line)
+    if (kind == ITEM)
         cut_line_end(reader, &rest);
     if (rest.size < size)
         hint |= LINE_END;
-    return hint != NO_HINT && read_number(reader, &rest, &number) == SPEEDATE_OK ? hint : NO_HINT;
+    return hint != NO_HINT && read_number(reader, &rest, &number) == SPEEDATE_OK ? of_type(hint, item) : NO_HINT;
 }
 
 /* The Fault of a text, which it keeps, or of a timestamp, which has none. */
 static PyObject *fault_of_text(Column *column, int code, Py_ssize_t index, PyObject *item, const Text *text, size_t cut,
-                               bool is_line) {
+                               TextKind kind) {
     const State *state = column->state;
     const ColumnReader *reader = &column->reader;
     PyObject *fault = new_fault_at(state, code, index);
@@ -1163,18 +1182,18 @@ static PyObject *fault_of_text(Column *column, int code, Py_ssize_t index, PyObj
     keep(state, fault, SOURCE, source);
     keep(state, fault, CALL_NUMBER, column->call);
     Py_DECREF(source);
-    return with_hint(state, fault, hint_of(reader, text, is_line));
+    return with_hint(state, fault, hint_of(reader, item, text, kind));
 }
 
 /* Ends the column at a text that is refused, or tells its fault and goes on. */
 static int refuse_text(Column *column, int code, Py_ssize_t index, PyObject *item, const Text *text, size_t cut,
-                       bool is_line) {
+                       TextKind kind) {
     bool ends = !goes_on(&column->reader, code);
     if (!ends && !column->faults)
         return 0;
     if (!ends && column->table)
         return add_row(column, code, index, item, text);
-    PyObject *fault = fault_of_text(column, code, index, item, text, cut, is_line);
+    PyObject *fault = fault_of_text(column, code, index, item, text, cut, kind);
     if (ends)
         return raise_error(fault), -1;
     int status = fault ? PyList_Append(column->faults, fault) : -1;
@@ -1254,7 +1273,7 @@ static int add_some_lines(Column *column, Text *text, bool is_last) {
     column->keeps_lock = read.count == REFUSED;
     for (size_t i = 0; i < read.count; i++) {
         const Refused *it = &read.refused[i];
-        if (refuse_text(column, it->code, column->before + (Py_ssize_t)it->place, Py_None, &it->text, 0, true) < 0)
+        if (refuse_text(column, it->code, column->before + (Py_ssize_t)it->place, Py_None, &it->text, 0, LINE) < 0)
             return -1;
     }
     column->count += read.lines;
@@ -1382,7 +1401,7 @@ static inline int add_timestamp(Column *column, int64_t timestamp, int64_t *numb
     if (code == SPEEDATE_OK)
         return 0;
     *number = NOT_A_TIME;
-    return refuse_text(column, code, next_index(column), NULL, NULL, 0, false);
+    return refuse_text(column, code, next_index(column), NULL, NULL, 0, ITEM);
 }
 
 /* The same of an integer. One over 64 bits is refused as the largest or the smallest of 64 is, which no unit has. */
@@ -1404,28 +1423,50 @@ static int read_integer(Column *column, PyObject *item, int64_t *number) {
     return status;
 }
 
-/* The number of an item, which may be a line with its end. */
-static int read_item(Column *column, PyObject *item, bool is_line, int64_t *number) {
+/* The number of a text, which may be a line with its end. */
+static int read_text_item(Column *column, PyObject *item, TextKind kind, int64_t *number) {
     Text text;
-    if (column->reader.of_timestamp && PyIndex_Check(item) && !is_text(item))
-        return read_integer(column, item, number);
-    int missing = is_text(item) ? 0 : is_missing(column, item);
     *number = NOT_A_TIME;
-    if (missing != 0)
-        return missing < 0 ? -1 : 0;
     if (take_text(item, next_index(column), &text) < 0)
         return -1;
     size_t size = text.size;
-    if (is_line)
+    if (kind == LINE)
         cut_line_end(&column->reader, &text);
     int status = 0;
     if (text.size > 0 || !column->reader.empty_is_nat) {
         int code = read_number(&column->reader, &text, number);
         if (code != SPEEDATE_OK)
-            status = refuse_text(column, code, next_index(column), item, &text, size - text.size, is_line);
+            status = refuse_text(column, code, next_index(column), item, &text, size - text.size, kind);
     }
     Py_XDECREF(text.owner);
     return status;
+}
+
+/* Calls a function of the package on an item that is no text. */
+static PyObject *call_on_item(const Column *column, int function, PyObject *item) {
+    PyObject *reads_timestamps = column->reader.can_read_timestamps ? Py_True : Py_False;
+    return PyObject_CallFunction(column->state->held[function], "nOO", next_index(column), item, reads_timestamps);
+}
+
+/* Refuses an integer where none is a timestamp, as its digits are refused. */
+static int refuse_integer(Column *column, PyObject *item, int64_t *number) {
+    PyObject *digits = call_on_item(column, DIGITS, item);
+    int status = digits ? read_text_item(column, digits, INTEGER_ITEM, number) : -1;
+    Py_XDECREF(digits);
+    return status;
+}
+
+/* The number of an item. */
+static int read_item(Column *column, PyObject *item, bool is_line, int64_t *number) {
+    if (is_text(item))
+        return read_text_item(column, item, is_line ? LINE : ITEM, number);
+    int missing = PyLong_CheckExact(item) ? 0 : is_missing(column, item);
+    *number = NOT_A_TIME;
+    if (missing != 0)
+        return missing < 0 ? -1 : 0;
+    if (PyIndex_Check(item))
+        return (column->reader.of_timestamp ? read_integer : refuse_integer)(column, item, number);
+    return raise_error(call_on_item(column, WRONG_ITEM, item)), -1;
 }
 
 /* An integer of a buffer. One that is too large is refused as it is as an object. */
@@ -1599,6 +1640,7 @@ static PyObject *read_column(const ColumnCall *call, GIVEN) {
     reader->read = call->read;
     reader->number_of = call->number_of;
     reader->of_timestamp = timestamps ? call->of_timestamp : NULL;
+    reader->can_read_timestamps = call->of_timestamp != NULL;
     reader->parser = call->parser[reader->lines.parser];
     return column_of(&column, bound[TEXTS]);
 }
@@ -1884,8 +1926,8 @@ static int start(PyObject *module) {
         hold(state, UTCOFFSET, PyUnicode_InternFromString("utcoffset")) < 0 ||
         hold(state, FROMBYTES, PyUnicode_InternFromString("frombytes")) < 0)
         return -1;
-    for (int i = BYTE_ORDER_MARK; i <= BOTH_HINTS; i++)
-        if (hold(state, HINTS + i, PyUnicode_InternFromString(hint_words[i])) < 0)
+    for (int i = 0; i < ALL_HINTS; i++)
+        if (hint_words[i] && hold(state, HINTS + i, PyUnicode_InternFromString(hint_words[i])) < 0)
             return -1;
     for (int code = 1; code <= SPEEDATE_LAST_FAULT; code++)
         if (hold_fault(state, code) < 0)
@@ -1944,12 +1986,12 @@ static PyMethodDef methods[] = {
            "Parses a time of RFC 3339 and nothing else.\n\n"
            ">>> time_strict(\"12:13+01:00\")\n"
            "Traceback (most recent call last):\n"
-           "speedate.Fault: invalid_char_time_sep\n"),
+           "speedate.Fault: invalid_char_time_sep at 5: expected a colon, as in HH:MM:SS: '12:13+01:00'\n"),
     METHOD(date_time_strict, "(text, config=None)",
            "Parses a date-time of RFC 3339 and nothing else.\n\n"
            ">>> date_time_strict(\"2020-02-29T12:13:14\")\n"
            "Traceback (most recent call last):\n"
-           "speedate.Fault: tz_required\n"),
+           "speedate.Fault: tz_required at 19: expected an offset: Z or +01:00: '2020-02-29T12:13:14'\n"),
     METHOD(date_front, "(text)",
            "The date at the front of a text, and its size: of a `str` in characters, otherwise in bytes.\n\n"
            ">>> date_front(\"2020-02-29 opening balance\")\n"
@@ -2066,7 +2108,7 @@ static PyMethodDef methods[] = {
            "array('q', [-172799000000, -1000000])\n"
            ">>> duration_column([\"P106751992D\"])\n"
            "Traceback (most recent call last):\n"
-           "speedate.Fault: number_too_large in text 0\n\n"
+           "speedate.Fault: number_too_large in text 0: expected a duration of less than 2^63 microseconds: 'P106751992D'\n\n"
            "NumPy takes a column as it is, by `numpy.frombuffer(column, \"timedelta64[us]\")`.\n"),
     METHOD(text, "(value)",
            "The one text of a value. A year is 365 days, a month 30: 400 days are `P1Y35D`, which other readers may refuse.\n\n"

@@ -20,10 +20,14 @@ class Refusal(ValueError):
     - `expected`: what the call expected there, a phrase for people.
     - `index`: the position of the text in a column, and `None` in any other call. It is not a label of pandas:
       `frame.iloc[fault.index]` is the row.
-    - `hint`: `None`, or what alone refuses the text: a byte order mark, or a line ending.
+    - `hint`: `None`, or the one thing that is wrong, and what mends it: a byte order mark, a line ending, or an integer
+      among the texts of a column.
 
-    The `text`, `place` and `end` are `None` for a number, and for a refusal that no call raised. For `number_too_large` the
-    `place` and `end` are `None` too. A copy has all of them but the text.
+    The `text`, `place` and `end` are `None` for a timestamp, and for a refusal that no call raised. For `number_too_large`
+    the `place` and `end` are `None` too. A copy has all of them but the text.
+
+    Its `str` is one line of printable characters, which has the name, the place, what was expected and 60 characters of the
+    text. `message()` has lines for a terminal.
 
     >>> for text in ("2021-02-29", "0000-01-01"):
     ...     try:
@@ -69,14 +73,43 @@ class Refusal(ValueError):
             part = self._call = self._found(part)
         return part
 
+    def _named(self):
+        return self.name if self.index is None else f"{self.name} in text {self.index}"
+
+    def _told(self):
+        return f"{self._named()}{'' if self.place is None else f' at {self.place}'}: expected {self.expected}"
+
+    def __str__(self):
+        told, text = self._told(), self.text
+        if text is not None:
+            piece, _, before, after = _piece(text, self.place or 0)
+            told = f"{told}: {before}{piece!r}{after}"
+        return told if self.hint is None else f"{told} ({self.hint})"
+
+    def message(self):
+        """What `str` says, on lines: the text has its own, and below it a line of carets marks the part that is wrong.
+
+        Of a long text it has 60 characters, and those that a terminal may not show as one are escaped.
+
+        >>> try:
+        ...     date_time("2020-02-29T12:60Z")
+        ... except Refusal as refusal:
+        ...     print(refusal.message())
+        out_of_range_minute at 14: expected minute, 00 to 59
+            2020-02-29T12:60Z
+                          ^^
+        """
+        lines, text = [self._told()], self.text
+        if text is not None:
+            lines += _marked(text, self.place, self.end)
+        return "\n".join(lines if self.hint is None else [*lines, self.hint])
+
     def __reduce__(self):
         return type(self), self.args, {**vars(self), "_call": self._part()}
 
 
 class Fault(Refusal):
     """Why the library refuses a text, or a number. Its attributes are those of a `Refusal`.
-
-    Its `str` is the name, with the index in a column, and the `hint`.
 
     >>> try:
     ...     time("12:13:60")
@@ -92,7 +125,7 @@ class Fault(Refusal):
     (<Fault out_of_range_hour>, <Fault out_of_range_hour in text 1000>)
     >>> date_column(["1970-01-01\\n"])
     Traceback (most recent call last):
-    speedate.Fault: extra_characters in text 0: it has a line ending, which lines=True drops
+    speedate.Fault: extra_characters in text 0 at 10: expected nothing more: '1970-01-01\\n' (it has a line ending, which lines=True drops)
     """
 
     __module__ = "speedate"
@@ -115,12 +148,8 @@ class Fault(Refusal):
 
         return _found(self.code, None, 0) if call is None else _found(self.code, self._source, call)
 
-    def __str__(self):
-        told = self.name if self.index is None else f"{self.name} in text {self.index}"
-        return told if self.hint is None else f"{told}: {self.hint}"
-
     def __repr__(self):
-        return f"<{type(self).__name__} {self}>"
+        return f"<{type(self).__name__} {self._named()}>"
 
 
 class Unrepresentable(Refusal):
@@ -130,10 +159,7 @@ class Unrepresentable(Refusal):
 
     >>> date("0000-01-01")
     Traceback (most recent call last):
-    speedate.Unrepresentable: year_zero
-    >>> duration("-P999999999DT1S")
-    Traceback (most recent call last):
-    speedate.Unrepresentable: duration_too_small
+    speedate.Unrepresentable: year_zero at 0: expected a year from 0001 to 9999: '0000-01-01'
     """
 
     __module__ = "speedate"
@@ -144,6 +170,32 @@ class Unrepresentable(Refusal):
     def _found(self, end):
         expected = {"year_zero": "a year from 0001 to 9999", "duration_too_small": "a duration of at least -999999999 days"}
         return (None if end is None else 0), end, expected.get(self.name, "a value that Python has")
+
+
+_SHOWN = 60  # characters of a text, or bytes
+
+
+def _piece(text, place):
+    """What is shown of a text, around a place, where it begins, and the marks of what is cut off before and after it."""
+    # No method is called that a subclass may have.
+    text = (str if isinstance(text, str) else bytes).__getitem__(text, slice(None))
+    start = max(0, min(place - _SHOWN // 2, len(text) - _SHOWN))
+    return text[start:start + _SHOWN], start, ".." * (start > 0), ".." * (len(text) > start + _SHOWN)
+
+
+def _escaped(text):
+    """A text, or bytes, in characters that a terminal shows in a column each."""
+    return (text if isinstance(text, str) else text.decode("latin-1")).encode("unicode_escape").decode("ascii")
+
+
+def _marked(text, place, end):
+    """The line of a text, and one with carets below the part from a place to an end, if there is one."""
+    piece, start, before, after = _piece(text, place or 0)
+    line = f"    {before}{_escaped(piece)}{after}"
+    if place is None:
+        return [line]
+    left, part = _escaped(piece[:place - start]), _escaped(piece[place - start:max(0, end - start)])
+    return [line, " " * (4 + len(before) + len(left)) + "^" * max(1, len(part))]
 
 
 def _wrong(name, value, *kinds):
@@ -164,6 +216,28 @@ def _clamped(name, value):
     """An integer, or that of 64 bits which is nearest to it."""
     low, high = -(2**63), 2**63 - 1
     return max(low, min(_integer(name, value, -math.inf, math.inf), high))
+
+
+def _wrong_item(index, item, reads_timestamps):
+    """The error of an item of a column that is no text, and what mends it for a number with a point."""
+    cure = ': in pandas astype("Int64") makes integers of floats, which timestamps=True reads' if reads_timestamps and _is_float(item) else ""
+    return TypeError(f"{_wrong(f'text {index}', item, str, bytes, bytearray, memoryview)}{cure}")
+
+
+def _is_float(item):
+    return isinstance(item, float) or type(item).__name__.startswith("float")
+
+
+def _digits(index, item, reads_timestamps):
+    """The text of an integer in a column that reads no timestamps."""
+    try:
+        number = _integer("text", item, -math.inf, math.inf)
+    except TypeError:
+        raise _wrong_item(index, item, reads_timestamps) from None
+    try:
+        return str(number)
+    except ValueError:  # Python prints no more than 4,300 decimal digits.
+        return hex(number)
 
 
 def _choice(name, value, *choices):
@@ -194,6 +268,9 @@ class Config:
     __module__ = "speedate"
     __slots__ = __match_args__ = "timestamp_unit", "timestamp_offset", "overflow_behavior", "iso_order"
     __slots__ += ("_numbers",)
+
+    def __init_subclass__(cls):
+        raise TypeError("Config has no subclasses")
 
     def __new__(cls, timestamp_unit="infer", timestamp_offset=None, overflow_behavior="error", iso_order="lax"):
         config = super().__new__(cls)
@@ -273,6 +350,8 @@ def _values(texts):
     pandas = sys.modules.get("pandas")
     if isinstance(texts, (getattr(pandas, "Series", ()), getattr(pandas, "Index", ()))):
         values = texts.to_numpy()
+        if values.dtype.kind in "iu" and values.dtype.itemsize == 1:
+            raise TypeError(f'texts has integers of one byte, which are texts in memory: astype("int64") makes integers of a {type(texts).__name__} of {values.dtype}')
         if values.dtype.kind in "Oiu":
             return values
     return texts

@@ -13,17 +13,34 @@ import itertools
 import pathlib
 import struct
 
-from speedate._types import _FIELDS, _choice, _clamped, _integer, _items, _missing, _plain, _wrong
+from speedate._types import _FIELDS, _choice, _clamped, _digits, _integer, _items, _missing, _plain, _wrong, _wrong_item
 
 
-HINTS = {
-    (True, False): "it begins with a byte order mark", (False, True): "it has a line ending, which lines=True drops",
-    (True, True): "it begins with a byte order mark, and has a line ending"}
 MARK = b"\xef\xbb\xbf"
+# By whether a text is a str.
+MARK_WORDS = {True: "it begins with a byte order mark, which the encoding utf-8-sig drops", False: "it begins with a byte order mark: skip its three bytes"}
+END_WORDS = "it has a line ending, which lines=True drops"
+# By whether the call has the argument timestamps.
+INTEGER_WORDS = {True: "it is an integer, which is a timestamp only with timestamps=True", False: "it is an integer, not a text"}
+
+
+def _shown(text, place):
+    """A text in quotes, or 60 characters of it, about half of which stand before a place."""
+    text = str.__getitem__(text, slice(None)) if isinstance(text, str) else bytes.__getitem__(text, slice(None))
+    if len(text) <= 60:
+        return repr(text)
+    first = place - 30 if 30 < place < len(text) - 30 else 0 if place <= 30 else len(text) - 60
+    return f"{'..' if first else ''}{text[first:first + 60]!r}{'..' if first + 60 < len(text) else ''}"
 
 
 class Refusal(ValueError):
-    __slots__ = "place", "text"  # no attributes of vars()
+    __slots__ = "place", "text", "kind"  # no attributes of vars()
+
+    def __str__(self):
+        index, hint = getattr(self, "index", None), getattr(self, "hint", None)
+        words = [self.name, *([] if index is None else ["in text", index]), *([] if self.place is None else ["at", self.place])]
+        told = f"{' '.join(map(str, words))}: expected {self.expected()}"
+        return told + ("" if self.text is None else f": {_shown(self.text, self.place or 0)}") + (f" ({hint})" if hint else "")
 
 
 class Fault(Refusal):
@@ -32,14 +49,15 @@ class Fault(Refusal):
 
     def __init__(self, code, index=None):
         self.place = self.text = None
+        self.kind = 0
         self.code = _integer("code", code, 0, 2**31 - 1)
         self.name, self.documentation = _words(self.code)
         super().__init__(*[self.code, index][: 1 if index is None else 2])
         if index is not None:
             self.index = index
 
-    def __str__(self):
-        return self.name + (f" in text {self.index}" if self.index is not None else "") + (f": {self.hint}" if self.hint else "")
+    def expected(self):
+        return _expected(self.code, self.kind)
 
 
 class Unrepresentable(Refusal):
@@ -48,6 +66,9 @@ class Unrepresentable(Refusal):
     def __init__(self, name):
         super().__init__(name)
         self.name, self.place, self.text = name, None, None
+
+    def expected(self):
+        return {"year_zero": "a year from 0001 to 9999", "duration_too_small": "a duration of at least -999999999 days"}[self.name]
 
 
 # ---- The library: the structs and calls of its header ----
@@ -143,6 +164,7 @@ _CALLS = {
     "duration_parse": [*_TEXT, _Config, _TO_DURATION],
     "duration_to_text": [_Duration, *_PRINTED],
 }
+_CALLS["code_expected"] = [ctypes.c_int, ctypes.POINTER(_Part), *_PRINTED]
 _PARTS = {name.replace("_parse", "_parse_or_part"): [*types, ctypes.POINTER(_Part)] for name, types in _CALLS.items() if "_parse" in name}
 
 
@@ -171,6 +193,14 @@ def _printed(call, value):
 @functools.lru_cache(maxsize=None)
 def _words(code):
     return _printed(_library.speedate_code_name, code), _printed(_library.speedate_code_documentation, code)
+
+
+@functools.lru_cache(maxsize=None)
+def _expected(code, kind):
+    """What was expected where a call of a kind gave a code."""
+    buffer, part = _Buffer(), _Part(kind=kind)
+    assert _library.speedate_code_expected(code, part, buffer, len(buffer), ctypes.c_size_t()) == 0
+    return buffer.value.decode("ascii")
 
 
 # ---- Arguments ----
@@ -268,10 +298,10 @@ def _fault(call, code, text, *numbers):
     fault, whole = Fault(code), _bytes(text)
     told, part = _parsed_or_part(call, whole, *numbers)
     assert told == code
-    fault.place, fault.text = _counted(text, part.place), _kept(text)
+    fault.place, fault.text, fault.kind = _counted(text, part.place), _kept(text), part.kind
     if whole.startswith(MARK):
         if call(whole[3:], len(whole) - 3, *numbers, *_outs(call)) == 0:
-            fault.hint = HINTS[True, False]
+            fault.hint = MARK_WORDS[isinstance(text, str)]
     return fault
 
 
@@ -413,15 +443,21 @@ def _is_integer(text):
     return hasattr(text, "__index__") and not isinstance(text, (str, bytes, bytearray, memoryview))
 
 
-def _column(read, place_of, texts, faults, newline, empty, lines, read_integer=None):
-    """The numbers of texts, each by a call that gives it of the bytes, or raises a Fault, whose place another call gives."""
+def _column(read, place_of, texts, faults, newline, empty, lines, read_integer=None, has_timestamps=False):
+    """The numbers of texts, each by a call that gives it of the bytes, or raises a Fault, whose place and kind of call another
+    call gives."""
     column, table = array.array("q"), {"index": array.array("q"), "code": array.array("B"), "place": array.array("q")}
     ends = [b"\n", b"\r"] if newline == "\r\n" else [b"\n"]
     for index, (text, is_line) in enumerate(_lines(texts, ends, lines)):
         if _is_missing(text):
             column.append(-(2**63))
             continue
-        is_integer = read_integer is not None and _is_integer(text)
+        are_digits = read_integer is None and _is_integer(text)
+        is_integer = _is_integer(text) and not are_digits
+        if are_digits:
+            text = _digits(index, text, has_timestamps)
+        elif not is_integer and not isinstance(text, (str, bytes, bytearray, memoryview)):
+            raise _wrong_item(index, text, has_timestamps)
         whole = _clamped(f"text {index}", text) if is_integer else _bytes(text, f"text {index}")
         if whole == b"" and empty == "nat":
             column.append(-(2**63))
@@ -431,9 +467,12 @@ def _column(read, place_of, texts, faults, newline, empty, lines, read_integer=N
         except Fault as fault:
             fault = Fault(fault.code, index)
             if not is_integer:
-                place = place_of(whole)
+                place, fault.kind = place_of(whole)
                 fault.text, fault.place = _kept(text), None if place is None else _counted(text, place)
-                _give_hint(fault, read, whole, [] if is_line else ends)
+                if are_digits:
+                    fault.hint = INTEGER_WORDS[has_timestamps]
+                else:
+                    _give_hint(fault, read, whole, isinstance(text, str), [] if is_line else ends)
             if faults == "raise":
                 raise fault from None
             column.append(-(2**63))
@@ -446,22 +485,29 @@ def _column(read, place_of, texts, faults, newline, empty, lines, read_integer=N
     return column
 
 
-def _give_hint(fault, read, whole, ends):
+def _give_hint(fault, read, whole, is_str, ends):
     rest = whole[3:] if whole.startswith(MARK) else whole
     cut = _cut(rest, ends)
-    why = rest != whole, cut != rest
+    why = [MARK_WORDS[is_str]] * (rest != whole) + [END_WORDS] * (cut != rest)
     try:
-        if any(why):
+        if why:
             read(cut)
-            fault.hint = HINTS[why]
+            fault.hint = "; ".join(why)
     except Fault:
         pass
 
 
 def _place_in_column(call, whole, *numbers):
-    """The place of an error in bytes, or the end of them if they are refused by the column alone."""
+    """The place of an error in bytes, or the end of them if they are refused by the column alone, and the kind of the call."""
     code, part = _parsed_or_part(call, whole, *numbers)
-    return part.place if code else len(whole)
+    return part.place if code else len(whole), KINDS[call.__name__]
+
+
+# The kind of each call that parses texts of columns, by the numbers of the header.
+KINDS = {
+    f"speedate_{name}": kind for kind, name in enumerate([
+        "date_parse_text", "date_parse", "time_parse", "time_parse_strict", "datetime_parse_text", "datetime_parse",
+        "datetime_parse_strict", "duration_parse"], 1)}
 
 
 def _check_choices(faults, newline, empty, lines):
@@ -536,7 +582,7 @@ def _date_times(number_of, texts, config, strict, timestamps, faults, newline, e
     def place_of(text):
         return _place_in_column(getattr(_library, f"speedate_{name}"), text, numbers)
 
-    return _column(read, place_of, texts, faults, newline, empty, lines, read_integer if timestamps else None)
+    return _column(read, place_of, texts, faults, newline, empty, lines, read_integer if timestamps else None, True)
 
 
 def date_column(texts, config=None, *, timestamps=False, faults="raise", newline="\r\n", empty="error", lines=False):
@@ -567,7 +613,7 @@ def date_column(texts, config=None, *, timestamps=False, faults="raise", newline
             return _place_in_column(_library.speedate_date_parse, text, numbers)
         return _place_in_column(_library.speedate_date_parse_text, text)
 
-    return _column(read, place_of, texts, faults, newline, empty, lines, read_integer if timestamps else None)
+    return _column(read, place_of, texts, faults, newline, empty, lines, read_integer if timestamps else None, True)
 
 
 def time_column(texts, config=None, *, strict=False, faults="raise", newline="\r\n", empty="error", lines=False):
@@ -613,7 +659,7 @@ def duration_column(texts, config=None, *, faults="raise", newline="\r\n", empty
 
     def place_of(text):
         code, part = _parsed_or_part(_library.speedate_duration_parse, text, numbers)
-        return part.place if code else None
+        return part.place if code else None, KINDS["speedate_duration_parse"]
 
     return _column(read, place_of, texts, faults, newline, empty, lines)
 

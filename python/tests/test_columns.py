@@ -138,7 +138,7 @@ class Sources(unittest.TestCase):
             faults = []
             with open(path, "rb") as file:
                 self.assertEqual(column(file, newline="\n", faults=faults), [1_000_000, NAT, NAT])
-            self.assertEqual(list(map(str, faults)), ["too_short in text 1", "extra_characters in text 2"])
+            self.assertEqual(list(map(repr, faults)), ["<Fault too_short in text 1>", "<Fault extra_characters in text 2>"])
         self.assertEqual(column(Reads(f"{SECOND}\n", None, f"{SECOND}\n\n", f"{SECOND}\r")), [1_000_000, NAT, NAT, 1_000_000])
         with self.assertRaisesRegex(TypeError, "^text 1 has to be str or bytes or bytearray or memoryview, not list$"):
             column(Reads(SECOND, []))
@@ -171,7 +171,7 @@ class Sources(unittest.TestCase):
         if pandas:
             self.assertEqual([it for it in missing if not pandas.isna(it)], [])
         for wrong, kind in ((numpy.zeros(2), "float64"), (moments, "datetime64"), (numpy.zeros((2, 2), "U1"), "ndarray")):
-            with self.assertRaisesRegex(TypeError, f"^text 0 has to be .*, not {kind}$"):
+            with self.assertRaisesRegex(TypeError, f"^text 0 has to be .*, not {kind}(: .* makes integers of floats, .*)?$"):
                 column(wrong)
 
     @unittest.skipUnless(pandas, "pandas is not installed")
@@ -180,7 +180,7 @@ class Sources(unittest.TestCase):
         for it in (0, 1, 86_399, 400 * 86_400, 10**9):
             self.assertEqual(speedate.duration(pandas.Timedelta(it, "s").isoformat()), datetime.timedelta(seconds=it))
         for it in (-1, -86_401, -(10**9)):
-            with self.assertRaisesRegex(speedate.Fault, "^duration_invalid_number$"):
+            with self.assertRaisesRegex(speedate.Fault, "^duration_invalid_number at "):
                 speedate.duration(pandas.Timedelta(it, "s").isoformat())
         self.assertEqual(pandas.Timedelta(-1, "s").isoformat(), "P-1DT23H59M59S")
 
@@ -203,10 +203,46 @@ class Sources(unittest.TestCase):
             self.assertEqual(column(make([0, 2**63, 2**64 - 1, 1]), config=unix, timestamps=True, faults=faults), [0, NAT, NAT, 1_000_000])
             self.assertEqual([(it.index, it.name, it.place) for it in faults], [(1, "date_too_large", None), (2, "date_too_large", None)])
         for wrong, kind in ((numpy.array([True]), "bool_?"), (numpy.zeros(2), "float64"), (days.astype("M8[D]"), "datetime64")):
-            with self.assertRaisesRegex(TypeError, f"^text 0 has to be .*, not {kind}$"):
+            with self.assertRaisesRegex(TypeError, f"^text 0 has to be .*, not {kind}(: .* makes integers of floats, .*)?$"):
                 column(wrong, config=unix, timestamps=True)
-        with self.assertRaisesRegex(TypeError, "^text 0 has to be .*, not int64$"):
-            column(seconds)
+        for it in (numpy.float64(1), numpy.float32(1), 1.0):
+            with self.assertRaisesRegex(TypeError, r"not float\d*: in pandas astype\(\"Int64\"\) makes integers of floats, which timestamps=True reads$"):
+                column([SECOND, it])
+
+    @unittest.skipUnless(pandas, "pandas is not installed")
+    def test_integers(self):
+        """Integers among texts are one thing in lists, arrays and Series: timestamps, or faults of their rows."""
+        mixed, unix = [SECOND, 20_200_229, None, 2**64, 5, "x"], speedate.Config("s", 0)
+        names, hint = ["too_short", "invalid_char_date_sep", "too_short", "too_short"], "it is an integer, which is a timestamp only with timestamps=True"
+        for make in (list, iter, lambda it: numpy.array(it, "O"), lambda it: pandas.Series(it, index=range(6, 0, -1)), pandas.Index):
+            faults = []
+            self.assertEqual(column(make(mixed), faults=faults), [1_000_000, *[NAT] * 5])
+            self.assertEqual([(it.index, it.name, it.hint) for it in faults], list(zip((1, 3, 4, 5), names, [hint] * 3 + [None])))
+            self.assertEqual([it.text for it in faults], [str(mixed[it.index]) for it in faults])
+            faults = []
+            self.assertEqual(column(make([10**5000]), faults=faults), [NAT])
+            self.assertEqual((faults[0].text, faults[0].hint), (hex(10**5000), hint))
+            self.assertEqual(column(make(mixed), config=unix, timestamps=True), [1_000_000, 20_200_229_000_000, NAT, NAT, 5_000_000, NAT])
+        # A column of integers is the same in each form. Those of one byte in memory are texts, so a Series of them is refused.
+        for kind in ("i2", "u4", "i8", "u8"):
+            numbers = numpy.array([5, 20_000], kind)
+            for it in (numbers, numbers.tolist(), pandas.Series(numbers), pandas.Series(numbers).astype("Int64")):
+                faults = []
+                self.assertEqual(column(it, faults=faults), [NAT] * 2)
+                self.assertEqual([(it.text, it.name, it.place) for it in faults], [("5", "too_short", 1), ("20000", "too_short", 5)])
+                self.assertEqual(column(it, config=unix, timestamps=True), [5_000_000, 20_000_000_000])
+        for kind in ("int8", "uint8"):
+            for it in (pandas.Series([1, 2], dtype=kind), *([pandas.Index([1, 2], dtype=kind)] if pandas.Index([1], dtype=kind).dtype == kind else [])):
+                with self.assertRaisesRegex(TypeError, r"^texts has integers of one byte, which are texts in memory: astype\(\"int64\"\) makes "):
+                    column(it, config=unix, timestamps=True)
+        # A file with an empty cell has floats, of which Int64 makes integers.
+        frame = pandas.read_csv(io.StringIO("a,b\n1,5\n,6\n"))
+        with self.assertRaisesRegex(TypeError, 'astype\\("Int64"\\)'):
+            column(frame["a"], config=unix, timestamps=True)
+        self.assertEqual(column(frame["a"].astype("Int64"), config=unix, timestamps=True), [1_000_000, NAT])
+        # What is missing is so with timestamps too.
+        missing = [numpy.timedelta64("NaT"), numpy.datetime64("NaT"), numpy.float32("nan"), pandas.NA, pandas.NaT, decimal.Decimal("nan"), None]
+        self.assertEqual(column(missing, timestamps=True), [NAT] * len(missing))
 
     @unittest.skipUnless(pandas and not hasattr(sys, "gettotalrefcount"), "there is no pandas, or a debug Python, which its objects stop")
     def test_pandas(self):
@@ -261,7 +297,7 @@ class Blocks(unittest.TestCase):
         for index in (1_000, 32_767, 32_768, 69_999):
             wrong = [*texts[:index], "24:00", *texts[index + 1:]]
             for it in (wrong, iter(wrong), *self.forms(wrong, "\n")):
-                with self.assertRaisesRegex(speedate.Fault, f"^too_short in text {index}$") as caught:
+                with self.assertRaisesRegex(speedate.Fault, f"^too_short in text {index} at ") as caught:
                     column(it, faults="raise")
                 self.assertEqual(caught.exception.index, index)
         bad = {32_767, 32_768, 69_998, 5}
@@ -370,13 +406,13 @@ class Refusals(unittest.TestCase):
     def test_dict_of_a_call_that_fails(self):
         table = {"index": 5}
         with self.assertRaises(TypeError):
-            column(["x", 5], faults=table)
+            column(["x", 5.5], faults=table)
         self.assertEqual(table, {"index": 5})
 
     def test_empty_is_raised_past(self):
         lines = b"\n" * 70_000 + b"x\n"
         for it in (lines, bytearray(lines), io.BytesIO(lines), lines.decode().split("\n")):
-            with self.assertRaisesRegex(speedate.Fault, "^too_short in text 70000$"):
+            with self.assertRaisesRegex(speedate.Fault, "^too_short in text 70000 at "):
                 column(it, faults="raise", empty="nat")
         self.assertTrue(column(lines[:-2], faults="raise", empty="nat") == [NAT] * 70_000)
         for read in (speedate.date_column, speedate.duration_column):
@@ -406,7 +442,15 @@ class Refusals(unittest.TestCase):
         for it in (lines, io.BytesIO(lines), io.StringIO(lines.decode(), newline="")):
             faults = []
             self.assertEqual(column(it, faults=faults), [NAT, NAT, 2_500_000])
-            self.assertEqual([(it.name, it.hint) for it in faults], [("invalid_char_year", "it begins with a byte order mark"), ("too_short", None)])
+            cure = ", which the encoding utf-8-sig drops" if isinstance(it, io.StringIO) else ": skip its three bytes"
+            self.assertEqual([(it.name, it.hint) for it in faults], [("invalid_char_year", f"it begins with a byte order mark{cure}"), ("too_short", None)])
+        mapped = mmap.mmap(-1, len(lines))
+        mapped.write(lines)
+        for it in (lines, bytearray(lines), mapped):
+            self.assertEqual(column(memoryview(it)[3:]), NUMBERS)
+        file = io.BytesIO(lines)
+        file.read(3)
+        self.assertEqual(column(file), NUMBERS)
         self.assertEqual(column(io.TextIOWrapper(io.BytesIO(lines), encoding="utf-8-sig")), NUMBERS)
 
     @unittest.skipUnless(numpy, "NumPy is not installed")
@@ -464,8 +508,8 @@ class Others(unittest.TestCase):
                         faults = []
                         self.assertEqual(read(it, faults=faults).tolist(), wanted)
                         self.assertEqual([it.index for it in faults], [1])
-            with self.assertRaisesRegex(TypeError, "^text 1 has to be str or bytes or bytearray or memoryview, not int$"):
-                read([texts[0], 5])
+            with self.assertRaisesRegex(TypeError, "^text 1 has to be str or bytes or bytearray or memoryview, not bool$"):
+                read([texts[0], True])
             with self.assertRaisesRegex(TypeError, "^texts has to be one column, not dict"):
                 read({"column": texts})
 
@@ -486,7 +530,7 @@ class Others(unittest.TestCase):
                     self.assertEqual([it.index for it in faults], sorted(bad))
                     self.assertTrue(read(it, faults="nat").tolist() == wanted, (read, type(it)))
                     if bad:
-                        with self.assertRaisesRegex(speedate.Fault, "^too_short in text 0$"):
+                        with self.assertRaisesRegex(speedate.Fault, "^too_short in text 0 at "):
                             read(it)
 
     @unittest.skipUnless(numpy, "NumPy is not installed")

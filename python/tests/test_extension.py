@@ -141,7 +141,7 @@ def drawn_column(draw, name):
     texts = [drawn_text(draw, name) for _ in range(draw.randrange(4))]
     end = draw.choice([b"\n", b"\n", b"\r\n", b"\r"])
     lines = joined(texts, end)
-    items = [draw.choice([it] * 9 + [None, float("nan")]) for it in texts]
+    items = [draw.choice([it] * 9 + [None, float("nan"), drawn_integer(draw, name)]) for it in texts]
     if draw.random() < 0.1:
         lines, items = b"\xef\xbb\xbf" + lines, [f"\ufeff{it}" if type(it) is str else it for it in items]
     return draw.choice([
@@ -430,7 +430,7 @@ class Extension(unittest.TestCase):
                 object.__setattr__(config, "_numbers", bytes([0] * 6 + [0xFF, 0]))
                 for faults in ("nat", [], {}):
                     for texts in ([COLUMNS[name]], COLUMNS[name].encode(), b"\n"):
-                        with self.assertRaisesRegex(speedate.Fault, "^config_out_of_range in text 0$"):
+                        with self.assertRaisesRegex(speedate.Fault, "^config_out_of_range in text 0: expected "):
                             getattr(speedate, name)(texts, config, faults=faults, **options)
             object.__delattr__(config, "_numbers")
             with self.assertRaises(AttributeError):

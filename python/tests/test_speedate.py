@@ -29,10 +29,10 @@ date("20200229", timestamps=True) -> Fault: date_not_exact
 date("86400000", Config("ms", 3600), timestamps=True) -> datetime.date(1970, 1, 2)
 date("") -> Fault: too_short
 date("2020-02-2\ud800") -> Fault: invalid_char_day
-date("\ufeff2020-02-29"), date_time_front("\ufeff2020-02-29T12:13") -> Fault: invalid_char_year: it begins with a byte order mark
-date_front(b"\xef\xbb\xbf2020-02-29 x") -> Fault: invalid_char_year: it begins with a byte order mark
+date("\ufeff2020-02-29"), date_time_front("\ufeff2020-02-29T12:13") -> Fault: invalid_char_year: it begins with a byte order mark, which the encoding utf-8-sig drops
+date_front(b"\xef\xbb\xbf2020-02-29 x") -> Fault: invalid_char_year: it begins with a byte order mark: skip its three bytes
 date("\ufeff2020-02-30") -> Fault: invalid_char_year
-date_time("\ufeff1", timestamps=True) -> Fault: too_short: it begins with a byte order mark
+date_time("\ufeff1", timestamps=True) -> Fault: too_short: it begins with a byte order mark, which the encoding utf-8-sig drops
 date("\ud800" * 4) -> Fault: invalid_char_year
 date(subclass(str)("\ud800" * 4)) -> Fault: invalid_char_year
 date("2020-02-29", Config(timestamp_unit="s")) -> TypeError: config has a timestamp_unit, which is not read here: date and date_time do with timestamps=True
@@ -42,7 +42,7 @@ time(memoryview(b"3x1x:x2x1")[::-2]) -> datetime.time(12, 13)
 time("12:13\0") -> Fault: invalid_char_tz_sign
 time(subclass(str, encode=None)("12:13")) -> datetime.time(12, 13)
 time(subclass(bytes, __len__=lambda self: 1 << 40)(b"12:13")) -> datetime.time(12, 13)
-time("12:13", subclass(Config)()) -> TypeError: config has to be Config, not Other
+subclass(Config) -> TypeError: Config has no subclasses
 time("12:13", Config(timestamp_offset=0)) -> TypeError: config has a timestamp_offset, which is not read here: date and date_time do with timestamps=True
 date_time("1582978394", timestamps=True) -> datetime.datetime(2020, 2, 29, 12, 13, 14)
 date_time("1582978394") -> Fault: invalid_char_date_sep
@@ -78,10 +78,10 @@ date_time_column(["1970-01-01T00:00Z\r\n"], lines=True, newline="\n") -> Fault: 
 date_time_column(["1970-01-01T00:00\n"]) -> Fault: invalid_char_tz_sign in text 0
 date_time_column(["1970-01-01T00:00\n"], naive="UTC") -> Fault: invalid_char_tz_sign in text 0: it has a line ending, which lines=True drops
 date_time_column([], lines=1) -> TypeError: lines has to be bool, not int
-date_time_column(["\ufeff1970-01-01T00:00Z"]) -> Fault: invalid_char_year in text 0: it begins with a byte order mark
-date_time_column(b"\xef\xbb\xbf1970-01-01T00:00Z\n1970-01-01T00:00Z\n") -> Fault: invalid_char_year in text 0: it begins with a byte order mark
-date_time_column(["\ufeff1970-01-01T00:00Z\n"]) -> Fault: invalid_char_year in text 0: it begins with a byte order mark, and has a line ending
-date_time_column(["\ufeff1970-01-01T00:00Z\n"], lines=True) -> Fault: invalid_char_year in text 0: it begins with a byte order mark
+date_time_column(["\ufeff1970-01-01T00:00Z"]) -> Fault: invalid_char_year in text 0: it begins with a byte order mark, which the encoding utf-8-sig drops
+date_time_column(b"\xef\xbb\xbf1970-01-01T00:00Z\n1970-01-01T00:00Z\n") -> Fault: invalid_char_year in text 0: it begins with a byte order mark: skip its three bytes
+date_time_column(["\ufeff1970-01-01T00:00Z\n"]) -> Fault: invalid_char_year in text 0: it begins with a byte order mark, which the encoding utf-8-sig drops; it has a line ending, which lines=True drops
+date_time_column(["\ufeff1970-01-01T00:00Z\n"], lines=True) -> Fault: invalid_char_year in text 0: it begins with a byte order mark, which the encoding utf-8-sig drops
 date_time_column(["\ufeff1970-01-01"]) -> Fault: invalid_char_year in text 0
 date_time_column(["1970-01-01T00:00"], naive="UTC") -> array('q', [0])
 date_time_column(["", b"", None, "1970-01-01T00:00Z"], empty="nat") -> array('q', [-9223372036854775808, -9223372036854775808, -9223372036854775808, 0])
@@ -99,16 +99,22 @@ date_time_column("1970-01-01T00:00Z") -> TypeError: texts has to be an iterable 
 date_time_column({"moment": ["1970-01-01T00:00Z"]}, faults="nat") -> TypeError: texts has to be one column, not dict: pass its values, or one of its columns
 date_time_column(types.MappingProxyType({})) -> TypeError: texts has to be one column, not mappingproxy: pass its values, or one of its columns
 date_time_column({"b": "1970-01-01T00:00Z"}.values()) -> array('q', [0])
-date_time_column(memoryview(b"12345678").cast("d")) -> TypeError: text 0 has to be str or bytes or bytearray or memoryview, not float
-date_time_column(["1970-01-01T00:00Z", 5], faults="nat") -> TypeError: text 1 has to be str or bytes or bytearray or memoryview, not int
+date_time_column(memoryview(b"12345678").cast("d")) -> TypeError: text 0 has to be str or bytes or bytearray or memoryview, not float: in pandas astype("Int64") makes integers of floats, which timestamps=True reads
+date_time_column(["1970-01-01T00:00Z", 5], faults="nat"), time_column([5, "00:00"], faults="nat") -> (array('q', [0, -9223372036854775808]), array('q', [-9223372036854775808, 0]))
 date_time_column(["1970-01-01T00:00Z", memoryview(b"12345678").cast("d")]) -> TypeError: text 1 has to be a memoryview of bytes, not of format d
-date_time_column(["", 1.5], faults="nat") -> TypeError: text 1 has to be str or bytes or bytearray or memoryview, not float
+date_time_column(["", 1.5], faults="nat") -> TypeError: text 1 has to be str or bytes or bytearray or memoryview, not float: in pandas astype("Int64") makes integers of floats, which timestamps=True reads
+time_column([1.5]), duration_column([1.5]) -> TypeError: text 0 has to be str or bytes or bytearray or memoryview, not float
 date_time_column([None, "1970-01-01T00:00Z", float("nan"), subclass(float)("nan")]) -> array('q', [-9223372036854775808, 0, -9223372036854775808, -9223372036854775808])
 date_time_column([None], strict=True), date_time_column([None], timestamps=True, naive="utc", faults="nat") -> (array('q', [-9223372036854775808]), array('q', [-9223372036854775808]))
 faulted([None, "1970-01-01T00:00Z", "", "1970-01-01T00:00", None]) -> (5, ['too_short in text 2', 'tz_required in text 3'])
 faulted(b"\n1970-01-01T00:00Z\r\n1970-01-01\n") -> (3, ['too_short in text 0', 'invalid_char_date_time_sep in text 2'])
 faulted(["1970-01-01T00:00Z"]) -> (1, [])
-faulted(["x", 5]) -> TypeError: text 1 has to be str or bytes or bytearray or memoryview, not int
+faulted(["x", 5, numbers(20200229)]) -> (3, ['too_short in text 0', 'too_short in text 1: it is an integer, which is a timestamp only with timestamps=True', 'too_short in text 2: it is an integer, which is a timestamp only with timestamps=True'])
+faulted([5], time_column), faulted([-5], duration_column) -> ((1, ['too_short in text 0: it is an integer, not a text']), (1, ['duration_invalid_days in text 0: it is an integer, not a text']))
+refusal(date_column, [20200229]), refusal(date_column, [numbers(10**30)]), refusal(time_column, [20200229]) -> (('20200229', 8), ('1000000000000000000000000000000', 4), ('20200229', 2))
+listed(["x", 5, None, 2**70]), listed(range(2), duration_column) -> (([0, 1, 3], [1, 1, 4], [1, 1, 4]), ([0, 1], [34, 34], [1, 1]))
+date_time_column([True], faults="nat") -> TypeError: text 0 has to be str or bytes or bytearray or memoryview, not bool
+date_column([numbers("x")]) -> TypeError: text 0 has to be str or bytes or bytearray or memoryview, not numbers
 date_time_column([], faults=()) -> TypeError: faults has to be str or list or dict, not tuple
 date_time_column(["1970-01-01T00:00:01"]) -> Fault: tz_required in text 0
 date_time_column(["1970-01-01T00:00:01"], naive="utc") -> array('q', [1000000])
@@ -158,8 +164,9 @@ date_column([-(2**63) - 1], timestamps=True), date_column([numbers(10**30)], Con
 date_time_clock_column([numbers(10**30)], Config("us"), timestamps=True) -> Fault: date_too_large in text 0
 date_column([decimal.Decimal("nan"), None], faults="raise") -> array('q', [-9223372036854775808, -9223372036854775808])
 date_column([decimal.Decimal("1")]) -> TypeError: text 0 has to be str or bytes or bytearray or memoryview, not Decimal
-date_time_column([1.5], timestamps=True) -> TypeError: text 0 has to be str or bytes or bytearray or memoryview, not float
-date_time_column([1]), date_time_column(array.array("q", [1])) -> TypeError: text 0 has to be str or bytes or bytearray or memoryview, not int
+date_time_column([1.5], timestamps=True) -> TypeError: text 0 has to be str or bytes or bytearray or memoryview, not float: in pandas astype("Int64") makes integers of floats, which timestamps=True reads
+date_time_column([1]) -> Fault: too_short in text 0: it is an integer, which is a timestamp only with timestamps=True
+date_time_column(array.array("q", [1])) -> Fault: too_short in text 0: it is an integer, which is a timestamp only with timestamps=True
 len(date_time_column(array.array("q", [1]) * 100000, timestamps=True, naive="utc")) -> 100000
 date_time_clock_column([]), time_column(b""), date_time_offset_column(b""), time_offset_column([]) -> (array('q'), array('q'), array('q'), array('q'))
 date_time_clock_column(["1970-01-01T01:00+01:00", b"1970-01-01 00:00:00.000001", None]), date_time_clock_column(b"1970-01-01T01:00+01:00\r\n1969-12-31T23:59:59.999999-23:59") -> (array('q', [3600000000, 1, -9223372036854775808]), array('q', [3600000000, -1]))
@@ -187,7 +194,7 @@ time_column(["00:00:01\n"]), time_column(b"00:00:01\r\n", newline="\n") -> Fault
 time_column(["00:00:01.1234567", "x"], Config(overflow_behavior="truncate"), faults="nat"), time_column(b"00:00:01.1234567\nx", Config(overflow_behavior="truncate"), faults="nat") -> (array('q', [1123456, -9223372036854775808]), array('q', [1123456, -9223372036854775808]))
 time_column(["00:00:01Z", "00:00Z"], strict=True, faults="nat"), time_column(b"00:00:01Z\n00:00:01\n", strict=True, faults="nat") -> (array('q', [1000000, -9223372036854775808]), array('q', [1000000, -9223372036854775808]))
 time_column([], timestamps=True) -> TypeError: time_column() got an unexpected keyword argument 'timestamps'
-time_column([1]) -> TypeError: text 0 has to be str or bytes or bytearray or memoryview, not int
+time_column([1]) -> Fault: too_short in text 0: it is an integer, not a text
 time_column([], Config(timestamp_offset=0)) -> TypeError: config has a timestamp_offset, which is not read here: date and date_time do with timestamps=True
 time_offset_column(["12:13+01:00", b"12:13Z", None]), time_offset_column(b"12:13-23:59\n\n", empty="nat") -> (array('q', [3600, 0, -9223372036854775808]), array('q', [-86340, -9223372036854775808]))
 time_offset_column(["12:13"]), time_offset_column(b"12:13") -> Fault: tz_required in text 0
@@ -229,7 +236,7 @@ Config("ms") -> Config(timestamp_unit='ms', timestamp_offset=None, overflow_beha
 Config() == pickle.loads(pickle.dumps(Config())) != Config("s") -> True
 Config("s", 0, "truncate", "strict") == copy.deepcopy(Config("s", 0, "truncate", "strict")) -> True
 len({Config(), Config(timestamp_offset=0), Config("s"), Config("infer", None)}) -> 3
-Config() == subclass(Config)(), Config() == 5 -> (False, False)
+Config() == 5 -> False
 Config().__reduce__() -> (<class 'speedate.Config'>, ('infer', None, 'error', 'lax'))
 pickle.loads(pickle.dumps(Config()).replace(b"error", b"trunc")) -> ValueError: overflow_behavior has to be error or truncate
 setattr(Config(), "timestamp_unit", "s") -> AttributeError: timestamp_unit cannot be changed: a Config stays as it was made
@@ -238,8 +245,8 @@ setattr(Config(), "other", 1) -> AttributeError: other cannot be changed: a Conf
 delattr(Config(), "timestamp_unit") -> AttributeError: timestamp_unit cannot be changed: a Config stays as it was made
 vars(Config()) -> TypeError: vars() argument must have __dict__ attribute
 pickle.loads(pickle.dumps(Fault(22))).documentation -> 'day value is outside expected range'
-again(Fault(22)) -> ['Fault', (22,), 'out_of_range_day', 22, 'day value is outside expected range', None, 'out_of_range_day']
-again(Fault(22, 0)) -> ['Fault', (22, 0), 'out_of_range_day', 22, 'day value is outside expected range', 0, 'out_of_range_day in text 0']
+again(Fault(22)) -> ['Fault', (22,), 'out_of_range_day', 22, 'day value is outside expected range', None, '<Fault out_of_range_day>']
+again(Fault(22, 0)) -> ['Fault', (22, 0), 'out_of_range_day', 22, 'day value is outside expected range', 0, '<Fault out_of_range_day in text 0>']
 pickle.loads(pickle.dumps(Unrepresentable("year_zero"))).name -> 'year_zero'
 place(time, "12:13\u221201:60"), place(time, "12:13\u221201:60".encode()) -> (9, 11)
 place(time, "00:0\u00e9\u00e9"), place(time_front, "00:0\u00e9\u00e9".encode()) -> (3, 3)
@@ -329,6 +336,11 @@ def offset(**size):
     return datetime.timezone(datetime.timedelta(**size))
 
 
+def short(refusal):
+    """What a row has of a refusal: its name, its index in a column, and its hint."""
+    return refusal.name + ("" if refusal.index is None else f" in text {refusal.index}") + (f": {refusal.hint}" if refusal.hint else "")
+
+
 def faulty(texts):
     """The name, the index and the arguments of the fault of a column."""
     try:
@@ -343,11 +355,11 @@ def faulted(texts, read=speedate.date_time_column):
     faults = []
     column = read(texts, faults=faults)
     assert all(type(it) is speedate.Fault and again(it) == told(it) and column[it.index] == -(2**63) for it in faults)
-    return len(column), [str(it) for it in faults]
+    return len(column), [short(it) for it in faults]
 
 
 def told(fault):
-    return [type(fault).__name__, fault.args, fault.name, fault.code, fault.documentation, fault.index, str(fault)]
+    return [type(fault).__name__, fault.args, fault.name, fault.code, fault.documentation, fault.index, repr(fault)]
 
 
 def again(fault):
@@ -363,7 +375,8 @@ def refusal(call, *given, **named):
         call(*given, **named)
     except speedate.Refusal as error:
         for it in (copy.copy(error), pickle.loads(pickle.dumps(copy.copy(error)))):
-            assert (it.text, it.place, it.index, it.name, str(it)) == (None, error.place, error.index, error.name, str(error))
+            assert (it.text, it.place, it.index, short(it)) == (None, error.place, error.index, short(error))
+            assert str(it) == str(error).replace(f": {error.text!r}", "")
         return error.text, error.place
 
 
@@ -373,7 +386,7 @@ def whole(call, *given, **named):
         call(*given, **named)
     except speedate.Unrepresentable as error:
         again = pickle.loads(pickle.dumps(error))
-        names = [it for it in dir(speedate.Fault(1)) if not it.startswith("_") and it not in ("args", "with_traceback", "add_note")]
+        names = [it for it in dir(speedate.Fault(1)) if not it.startswith("_") and it not in ("args", "message", "with_traceback", "add_note")]
         assert [getattr(error, it) for it in names if it != "text"] == [getattr(again, it) for it in names if it != "text"]
         return error.text[error.place:error.end], error.expected
 
@@ -512,7 +525,7 @@ def answer(call):
     try:
         return repr(call())
     except Exception as error:
-        return f"{type(error).__name__}: {error}"
+        return f"{type(error).__name__}: {short(error) if isinstance(error, speedate.Refusal) else error}"
 
 
 def named_fault(code):
@@ -655,6 +668,31 @@ class Speedate(unittest.TestCase):
             at = written.split()[0]
             wanted = None if at == "None" else sum(it <= int(at) for it in ends) if text_of is str else int(at)
             self.assertEqual(place(call_of(name, fields, text_of)), wanted)
+
+    def test_messages(self):
+        """What `str` and `message()` say of a refusal, of texts that are long or that a terminal may not show as they are."""
+        broken = {"__getitem__": None, "__len__": None, "__repr__": None, "__str__": None, "decode": None, "encode": None}
+        for call, quoted, line, carets in (
+                (lambda: speedate.date_time("2020-02-29T12:60Z"), " at 14: expected {}: '2020-02-29T12:60Z'", "2020-02-29T12:60Z", " " * 14 + "^^"),
+                (lambda: speedate.date(b"2020-02-2\x1b[2J"), " at 8: expected {}: b'2020-02-2\\x1b[2J'", "2020-02-2\\x1b[2J", " " * 8 + "^^^^^"),
+                (lambda: speedate.date("2020-01-01\u00e9\ud800\u202e"), " at 10: expected {}: '2020-01-01\u00e9\\ud800\\u202e'", "2020-01-01\\xe9\\ud800\\u202e", " " * 10 + "^" * 16),
+                (lambda: speedate.date(""), " at 0: expected {}: ''", "", "^"),
+                (lambda: speedate.date("2020-02-29" + "9" * 60), " at 10: expected {}: '2020-02-29" + "9" * 50 + "'..", "2020-02-29" + "9" * 50 + "..", " " * 10 + "^" * 50),
+                (lambda: speedate.duration("P" + "1D" * 50 + "x" * 50), " at 101: expected {}: ..'" + "1D" * 15 + "x" * 30 + "'..", ".." + "1D" * 15 + "x" * 30 + "..", " " * 32 + "^"),
+                (lambda: speedate.duration("P" + "1D" * 50 + "1"), " at 102: expected {}: ..'" + "D1" * 30 + "'", ".." + "D1" * 30, " " * 62 + "^"),
+                (lambda: speedate.date_column(["1970-01-01", subclass(str, **broken)("x")]), " in text 1 at 1: expected {}: 'x'", "x", " ^"),
+                (lambda: speedate.date_column([subclass(bytes, **broken)(b"x")]), " in text 0 at 1: expected {}: b'x'", "x", " ^"),
+                (lambda: speedate.date("0000-01-01"), " at 0: expected {}: '0000-01-01'", "0000-01-01", "^" * 10),
+                (lambda: speedate.duration_column(["P106751992D"]), " in text 0: expected {}: 'P106751992D'", "P106751992D", None),
+                (lambda: speedate.date_from_timestamp(1), ": expected {}", None, None)):
+            with self.assertRaises(speedate.Refusal) as caught:
+                call()
+            refusal = caught.exception
+            with self.subTest(refusal.name):
+                first = f"{refusal.name}{quoted.partition('{}')[0]}{refusal.expected}"
+                self.assertEqual(str(refusal), refusal.name + quoted.format(refusal.expected))
+                self.assertEqual(refusal.message().split("\n"), [first, *(f"    {it}" for it in (line, carets) if it is not None)])
+                self.assertEqual(copy.copy(refusal).message(), first)
 
     def test_docstrings(self):
         self.assertEqual([it.__name__ for it in CALLS if ">>> " not in it.__doc__], [])
