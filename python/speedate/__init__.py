@@ -20,12 +20,13 @@ an offset of timestamps in a call that parses none: `date`, `date_time` and thei
 """
 from ._version import __version__
 from ._speedate import (
-    Config, Fault, Refusal, Unrepresentable, date, date_column, date_from_timestamp, date_front, date_time,
+    Config, Fault, Refusal, Unrepresentable, date as date, date_column, date_from_timestamp, date_front, date_time,
     date_time_clock_column, date_time_column, date_time_from_timestamp, date_time_front, date_time_offset_column,
     date_time_strict, duration, duration_column, text, time as time, time_column, time_from_timestamp, time_front,
     time_offset_column, time_strict)
 
-# `date` and `time` are left out: `from speedate import *` would hide the class, and the module, of that name.
+# `date` and `time` are left out: `from speedate import *` would hide the class, and the module, of that name. Their `as` says
+# to type checkers that they are public.
 __all__ = [
     "Config", "Fault", "Refusal", "Unrepresentable", "__version__", "date_column", "date_from_timestamp", "date_front",
     "date_time", "date_time_clock_column", "date_time_column", "date_time_from_timestamp", "date_time_front",

@@ -2,14 +2,17 @@ import array
 import ctypes
 import datetime
 import mmap
-from typing import Any, Dict, Iterable, List, Literal, Optional, SupportsIndex, Tuple, Union
+from typing import Any, Dict, Iterable, List, Literal, Mapping, Optional, SupportsIndex, Tuple, Union, overload
 
 from ._types import Config as Config, Fault as Fault, Refusal as Refusal, Unrepresentable as Unrepresentable
 
 _Text = Union[str, bytes, bytearray, memoryview]
 _Bytes = Union[bytes, bytearray, memoryview, mmap.mmap, array.array[int], ctypes.Array[Any]]
-_Texts = Union[Iterable[Union[_Text, float, SupportsIndex, None]], _Bytes]
+_Texts = Union[Iterable[Union[_Text, SupportsIndex, None]], _Bytes]
+# What iterates over texts and is no column: the overload for it has no result, so that its use is an error.
+_NoColumn = Union[str, Mapping[Any, Any]]
 _Faults = Union[Literal["raise", "nat"], List[Fault], Dict[str, array.array[int]]]
+_Naive = Literal["error", "utc", "UTC"]
 _Newline = Literal["\r\n", "\n"]
 _Empty = Literal["error", "nat"]
 
@@ -27,42 +30,76 @@ def time_from_timestamp(second: int, microsecond: int = 0, config: Optional[Conf
 def date_time_from_timestamp(
     timestamp: int, microsecond: int = 0, config: Optional[Config] = None
 ) -> datetime.datetime: ...
+@overload
+def date_time_column(  # type: ignore
+    texts: _NoColumn, config: Optional[Config] = None, *, strict: bool = False, timestamps: bool = False,
+    naive: _Naive = "error", faults: _Faults = "raise", newline: _Newline = "\r\n", empty: _Empty = "error",
+    lines: bool = False
+) -> None: ...
+@overload
 def date_time_column(
-    texts: _Texts, config: Optional[Config] = None, *, strict: bool = False,
-    timestamps: bool = False, naive: Literal["error", "utc", "UTC"] = "error",
-    faults: _Faults = "raise", newline: _Newline = "\r\n",
-    empty: _Empty = "error", lines: bool = False
+    texts: _Texts, config: Optional[Config] = None, *, strict: bool = False, timestamps: bool = False,
+    naive: _Naive = "error", faults: _Faults = "raise", newline: _Newline = "\r\n", empty: _Empty = "error",
+    lines: bool = False
 ) -> array.array[int]: ...
+@overload
+def date_time_clock_column(  # type: ignore
+    texts: _NoColumn, config: Optional[Config] = None, *, strict: bool = False, timestamps: bool = False,
+    faults: _Faults = "raise", newline: _Newline = "\r\n", empty: _Empty = "error", lines: bool = False
+) -> None: ...
+@overload
 def date_time_clock_column(
-    texts: _Texts, config: Optional[Config] = None, *, strict: bool = False,
-    timestamps: bool = False,
-    faults: _Faults = "raise", newline: _Newline = "\r\n",
-    empty: _Empty = "error", lines: bool = False
+    texts: _Texts, config: Optional[Config] = None, *, strict: bool = False, timestamps: bool = False,
+    faults: _Faults = "raise", newline: _Newline = "\r\n", empty: _Empty = "error", lines: bool = False
 ) -> array.array[int]: ...
+@overload
+def date_time_offset_column(  # type: ignore
+    texts: _NoColumn, config: Optional[Config] = None, *, strict: bool = False, timestamps: bool = False,
+    faults: _Faults = "raise", newline: _Newline = "\r\n", empty: _Empty = "error", lines: bool = False
+) -> None: ...
+@overload
 def date_time_offset_column(
-    texts: _Texts, config: Optional[Config] = None, *, strict: bool = False,
-    timestamps: bool = False,
-    faults: _Faults = "raise", newline: _Newline = "\r\n",
-    empty: _Empty = "error", lines: bool = False
+    texts: _Texts, config: Optional[Config] = None, *, strict: bool = False, timestamps: bool = False,
+    faults: _Faults = "raise", newline: _Newline = "\r\n", empty: _Empty = "error", lines: bool = False
 ) -> array.array[int]: ...
+@overload
+def date_column(  # type: ignore
+    texts: _NoColumn, config: Optional[Config] = None, *, timestamps: bool = False, faults: _Faults = "raise",
+    newline: _Newline = "\r\n", empty: _Empty = "error", lines: bool = False
+) -> None: ...
+@overload
 def date_column(
-    texts: _Texts, config: Optional[Config] = None, *, timestamps: bool = False,
-    faults: _Faults = "raise", newline: _Newline = "\r\n",
-    empty: _Empty = "error", lines: bool = False
+    texts: _Texts, config: Optional[Config] = None, *, timestamps: bool = False, faults: _Faults = "raise",
+    newline: _Newline = "\r\n", empty: _Empty = "error", lines: bool = False
 ) -> array.array[int]: ...
+@overload
+def time_column(  # type: ignore
+    texts: _NoColumn, config: Optional[Config] = None, *, strict: bool = False, faults: _Faults = "raise",
+    newline: _Newline = "\r\n", empty: _Empty = "error", lines: bool = False
+) -> None: ...
+@overload
 def time_column(
-    texts: _Texts, config: Optional[Config] = None, *, strict: bool = False,
-    faults: _Faults = "raise", newline: _Newline = "\r\n",
-    empty: _Empty = "error", lines: bool = False
+    texts: _Texts, config: Optional[Config] = None, *, strict: bool = False, faults: _Faults = "raise",
+    newline: _Newline = "\r\n", empty: _Empty = "error", lines: bool = False
 ) -> array.array[int]: ...
+@overload
+def time_offset_column(  # type: ignore
+    texts: _NoColumn, config: Optional[Config] = None, *, strict: bool = False, faults: _Faults = "raise",
+    newline: _Newline = "\r\n", empty: _Empty = "error", lines: bool = False
+) -> None: ...
+@overload
 def time_offset_column(
-    texts: _Texts, config: Optional[Config] = None, *, strict: bool = False,
-    faults: _Faults = "raise", newline: _Newline = "\r\n",
-    empty: _Empty = "error", lines: bool = False
+    texts: _Texts, config: Optional[Config] = None, *, strict: bool = False, faults: _Faults = "raise",
+    newline: _Newline = "\r\n", empty: _Empty = "error", lines: bool = False
 ) -> array.array[int]: ...
+@overload
+def duration_column(  # type: ignore
+    texts: _NoColumn, config: Optional[Config] = None, *, faults: _Faults = "raise", newline: _Newline = "\r\n",
+    empty: _Empty = "error", lines: bool = False
+) -> None: ...
+@overload
 def duration_column(
-    texts: _Texts, config: Optional[Config] = None, *,
-    faults: _Faults = "raise", newline: _Newline = "\r\n",
+    texts: _Texts, config: Optional[Config] = None, *, faults: _Faults = "raise", newline: _Newline = "\r\n",
     empty: _Empty = "error", lines: bool = False
 ) -> array.array[int]: ...
 def text(value: Union[datetime.date, datetime.time, datetime.timedelta]) -> str: ...

@@ -214,14 +214,14 @@ class Sources(unittest.TestCase):
         """Integers among texts are one thing in lists, arrays and Series: timestamps, or faults of their rows."""
         mixed, unix = [SECOND, 20_200_229, None, 2**64, 5, "x"], speedate.Config("s", 0)
         names, hint = ["too_short", "invalid_char_date_sep", "too_short", "too_short"], "it is an integer, which is a timestamp only with timestamps=True"
-        for make in (list, iter, lambda it: numpy.array(it, "O"), lambda it: pandas.Series(it, index=range(6, 0, -1)), pandas.Index):
+        for make in (list, iter, lambda it: numpy.array(it, "O"), lambda it: pandas.Series(it, index=range(len(it), 0, -1)), pandas.Index):
             faults = []
             self.assertEqual(column(make(mixed), faults=faults), [1_000_000, *[NAT] * 5])
             self.assertEqual([(it.index, it.name, it.hint) for it in faults], list(zip((1, 3, 4, 5), names, [hint] * 3 + [None])))
             self.assertEqual([it.text for it in faults], [str(mixed[it.index]) for it in faults])
             faults = []
-            self.assertEqual(column(make([10**5000]), faults=faults), [NAT])
-            self.assertEqual((faults[0].text, faults[0].hint), (hex(10**5000), hint))
+            self.assertEqual(column(make(["x", 10**5000]), faults=faults), [NAT] * 2)
+            self.assertEqual((faults[1].text, faults[1].hint), (hex(10**5000), hint))
             self.assertEqual(column(make(mixed), config=unix, timestamps=True), [1_000_000, 20_200_229_000_000, NAT, NAT, 5_000_000, NAT])
         # A column of integers is the same in each form. Those of one byte in memory are texts, so a Series of them is refused.
         for kind in ("i2", "u4", "i8", "u8"):
