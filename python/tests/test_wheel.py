@@ -35,7 +35,7 @@ class Wheel(unittest.TestCase):
         self.assertRegex(abi, rf"^{python}[a-z]*$")
         self.assertRegex(platform, r"^(manylinux_2_\d+|linux)_(x86_64|aarch64)$")
 
-        sources = {f"speedate/{it.name}": it.read_bytes() for it in package.iterdir() if it.is_file() and it.suffix != ".c"}
+        sources = {f"speedate/{it.name}": it.read_bytes() for it in package.iterdir() if it.is_file()}
         for place, data in {**sources, "speedate/GRAMMAR.md": (ROOT / "docs/GRAMMAR.md").read_bytes(), f"{info}/LICENSE": (ROOT / "LICENSE").read_bytes()}.items():
             self.assertEqual(files.get(place), data, place)
         made = {"speedate/_version.py", "speedate/GRAMMAR.md", *(f"{info}/{it}" for it in ("LICENSE", "METADATA", "RECORD", "WHEEL"))}

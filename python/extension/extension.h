@@ -1,0 +1,224 @@
+/* What the files of the extension share: its state, the types of texts and values, and how a call gets its arguments.
+ *
+ * Objects become the structs of speedate.h, and structs objects. What is read and printed is up to the library, and
+ * what is rare is left to _types.py. All state belongs to the module object, so each interpreter has its own. */
+#ifndef SPEEDATE_EXTENSION_H
+#define SPEEDATE_EXTENSION_H
+
+#define PY_SSIZE_T_CLEAN
+#include <Python.h>
+#include <datetime.h>
+#include <stdbool.h>
+#include <string.h>
+
+#include "speedate.h"
+
+/* The pointer of datetime.h, which stays NULL, would be one for all interpreters. */
+static PyDateTime_CAPI *PyDateTimeAPI __attribute__((unused));
+
+#pragma GCC visibility push(hidden)
+
+/* ---- State ---- */
+
+#define QUARTER 900 /* seconds */
+#define QUARTERS 95 /* below 24 hours, either way */
+
+/* The one thing for which a text is refused, and what mends it. The first three are flags of one hint. */
+enum { NO_HINT, BYTE_ORDER_MARK = 1, LINE_END = 2, OF_BYTES = 4, INTEGER_OR_TIMESTAMP = 8, NO_TIMESTAMP, ALL_HINTS };
+
+/* The places of the objects that are held from the import on. Nothing is added afterwards. */
+enum {
+    /* what is imported */
+    DATETIME, ARRAY, CONFIG, FAULT, UNREPRESENTABLE, REFUSAL, INTEGER, CHOICE, PLAIN, MISSING, ITEMS, TURN, CLAMPED,
+    DIGITS, WRONG_ITEM,
+    NUMBERS, INDEX, HINT, UTCOFFSET, FROMBYTES,       /* names of attributes */
+    HINTS,                                            /* the words of each hint */
+    ARGUMENTS = HINTS + ALL_HINTS,                    /* of the fault of each code */
+    ATTRIBUTES = ARGUMENTS + SPEEDATE_LAST_FAULT + 1, /* the same */
+    ZONES = ATTRIBUTES + SPEEDATE_LAST_FAULT + 1,     /* of each offset of quarter hours */
+    ALL = ZONES + 2 * QUARTERS + 1
+};
+
+/* What a Fault keeps, so that it can find its part: the text that was refused, and how. They are slots of a class. */
+enum { SOURCE, CALL_NUMBER, SLOTS };
+extern const char *const slot_names[SLOTS];
+
+typedef struct {
+    PyDateTime_CAPI *datetime;
+    Py_ssize_t offsets[SLOTS]; /* of these slots in a Fault */
+    PyObject *held[ALL];
+} State;
+
+/* ---- Errors: module.c ---- */
+
+#define type_error(...) (PyErr_Format(PyExc_TypeError, __VA_ARGS__), -1)
+
+/* The bytes of a text, and the object that has them, if it has to be kept alive. */
+typedef struct {
+    const char *bytes;
+    size_t size;
+    PyObject *owner;
+} Text;
+
+int wrong_type(const char *name, const char *kinds, PyObject *value);
+PyObject *new_fault(const State *state, int code, PyObject *arguments);
+PyObject *new_fault_at(const State *state, int code, Py_ssize_t index);
+PyObject *raise_error(PyObject *error);
+PyObject *raise_fault(const State *state, int code);
+PyObject *raise_unrepresentable(const State *state, const char *name, PyObject *object, const Text *text);
+
+/* ---- Arguments: parse.c ---- */
+
+#define COLUMN_ARGUMENTS 9 /* the most that a call has */
+
+/* The parameters of a call in their order. The first is required, and those after `positional` are keywords. */
+typedef struct {
+    const char *name;
+    const char *parameters[COLUMN_ARGUMENTS + 1];
+    Py_ssize_t positional;
+} Signature;
+
+/* What a call gets: the arguments by position, then those of the keywords. */
+#define GIVEN PyObject *module, PyObject *const *arguments, Py_ssize_t count, PyObject *keywords
+
+int bind_keyword(const Signature *signature, PyObject *keyword, PyObject *argument, PyObject **bound);
+
+/* Puts each argument at the place of its parameter, and NULL where there is none. */
+static inline int bind(const Signature *signature, PyObject *const *arguments, Py_ssize_t count, PyObject *keywords,
+                       PyObject **bound) {
+    for (Py_ssize_t i = 0; signature->parameters[i]; i++)
+        bound[i] = i < count && i < signature->positional ? arguments[i] : NULL;
+    for (Py_ssize_t i = 0; keywords && i < PyTuple_GET_SIZE(keywords); i++)
+        if (bind_keyword(signature, PyTuple_GET_ITEM(keywords, i), arguments[count + i], bound) < 0)
+            return -1;
+    if (count > signature->positional)
+        return type_error("%s() takes at most %zd positional arguments but %zd were given", signature->name,
+                          signature->positional, count);
+    if (!bound[0])
+        return type_error("%s() missing 1 required positional argument: '%s'", signature->name,
+                          signature->parameters[0]);
+    return 0;
+}
+
+static inline int give_bytes(const char *bytes, Py_ssize_t size, PyObject *owner, Text *text) {
+    *text = (Text){bytes, (size_t)size, owner};
+    return 0;
+}
+
+static inline bool is_text(PyObject *object) {
+    return PyUnicode_Check(object) || PyBytes_Check(object) || PyByteArray_Check(object) || PyMemoryView_Check(object);
+}
+
+bool is_fixed(const Py_buffer *buffer);
+int take_other_text(PyObject *object, Py_ssize_t index, Text *text);
+
+/* Takes the bytes of a text: its index in a column is negative outside of one. */
+static inline int take_text(PyObject *object, Py_ssize_t index, Text *text) {
+    if (PyUnicode_CheckExact(object) && PyUnicode_IS_COMPACT_ASCII(object))
+        return give_bytes((const char *)PyUnicode_1BYTE_DATA(object), PyUnicode_GET_LENGTH(object), NULL, text);
+    if (PyBytes_Check(object))
+        return give_bytes(PyBytes_AS_STRING(object), PyBytes_GET_SIZE(object), NULL, text);
+    return take_other_text(object, index, text);
+}
+
+/* Which fields of timestamps a call reads. */
+enum { READS_NONE, READS_OFFSET, READS_ALL };
+
+int take_flag(const char *name, PyObject *value, bool *out);
+int take_choice(const State *state, const char *name, PyObject *value, const char *first, const char *second,
+                bool *out);
+int take_config(const State *state, PyObject *config, int reads, SpeedateConfig *out);
+
+/* ---- Parsers and their faults: parse.c ---- */
+
+typedef union {
+    SpeedateDate date;
+    SpeedateTime time;
+    SpeedateDateTime date_time;
+    SpeedateDuration duration;
+} Value;
+
+typedef int Parse(const Text *text, SpeedateConfig config, Value *out, size_t *taken);
+
+#define BYTES text->bytes, text->size
+
+/* The same, and the part for which a text is refused. It takes longer, so it is called for what a first call refused. */
+typedef int ParseOrPart(const Text *text, SpeedateConfig config, Value *out, size_t *taken, SpeedatePart *part);
+
+/* The parsers, whose faults have parts. */
+enum {
+    NO_PART,
+    DATE,
+    DATE_OR_TIMESTAMP,
+    DATE_FRONT,
+    TIME,
+    TIME_STRICT,
+    TIME_FRONT,
+    DATE_TIME,
+    DATE_TIME_OR_TIMESTAMP,
+    DATE_TIME_STRICT,
+    DATE_TIME_FRONT,
+    DURATION,
+    ALL_PARSERS
+};
+typedef struct {
+    Parse *parse;
+    ParseOrPart *parse_or_part;
+    int kind; /* of calls, on which it depends what is expected */
+} Parser;
+extern const Parser parsers[ALL_PARSERS];
+
+#define OF_COLUMN 256 /* added to the number of a call, all of which are less, if it is one on a column */
+
+/* What no one can write of a text, and may be kept: a str, or the bytes that were read. */
+static inline PyObject *source_of(PyObject *object, const Text *text) {
+    return text->owner && !PyUnicode_Check(object) ? text->owner : object;
+}
+
+/* A part of a text as Python counts it. One with a negative place is none. */
+typedef struct {
+    Py_ssize_t place, end;
+} Part;
+
+PyObject *new_zone(const State *state, int offset);
+Py_ssize_t size_in(PyObject *object, const Text *text, size_t taken);
+long call_number(int call, SpeedateConfig config);
+void keep(const State *state, PyObject *fault, int slot, PyObject *object);
+bool has_mark(const Text *text);
+Text after_mark(const Text *text);
+int of_type(int hint, PyObject *object);
+PyObject *with_hint(const State *state, PyObject *fault, int hint);
+int part_in_column(int call, SpeedateConfig config, PyObject *object, const Text *text, Part *part);
+
+/* ---- Calls ---- */
+
+#define CALL(name, read) \
+    PyObject *call_##name(GIVEN) { \
+        return read(&name##_reader, module, arguments, count, keywords); \
+    }
+
+#define DECLARE(name) PyObject *call_##name(GIVEN)
+DECLARE(date);
+DECLARE(time);
+DECLARE(date_time);
+DECLARE(duration);
+DECLARE(time_strict);
+DECLARE(date_time_strict);
+DECLARE(date_front);
+DECLARE(time_front);
+DECLARE(date_time_front);
+DECLARE(date_from_timestamp);
+DECLARE(time_from_timestamp);
+DECLARE(date_time_from_timestamp);
+DECLARE(date_time_column);
+DECLARE(date_time_clock_column);
+DECLARE(date_time_offset_column);
+DECLARE(date_column);
+DECLARE(time_column);
+DECLARE(time_offset_column);
+DECLARE(duration_column);
+DECLARE(text);
+PyObject *call_found(PyObject *module, PyObject *arguments);
+
+#pragma GCC visibility pop
+#endif

@@ -1,0 +1,423 @@
+/* The set-up of the module: the objects that it holds, its errors, and its functions with their documentation. */
+#include "extension.h"
+
+#include <structmember.h>
+
+#define MARK_WORDS "it begins with a byte order mark, which the encoding utf-8-sig drops"
+#define MARK_OF_BYTES_WORDS "it begins with a byte order mark: skip its three bytes"
+#define LINE_END_WORDS "it has a line ending, which lines=True drops"
+static const char *const hint_words[ALL_HINTS] = {
+    [BYTE_ORDER_MARK] = MARK_WORDS,
+    [BYTE_ORDER_MARK | OF_BYTES] = MARK_OF_BYTES_WORDS,
+    [LINE_END] = LINE_END_WORDS,
+    [LINE_END | OF_BYTES] = LINE_END_WORDS,
+    [BYTE_ORDER_MARK | LINE_END] = MARK_WORDS "; " LINE_END_WORDS,
+    [BYTE_ORDER_MARK | LINE_END | OF_BYTES] = MARK_OF_BYTES_WORDS "; " LINE_END_WORDS,
+    [INTEGER_OR_TIMESTAMP] = "it is an integer, which is a timestamp only with timestamps=True",
+    [NO_TIMESTAMP] = "it is an integer, not a text",
+};
+
+const char *const slot_names[SLOTS] = {"_source", "_call"};
+
+static const struct {
+    const char *module, *name;
+} imports[] = {
+    [DATETIME] = {"datetime", "datetime_CAPI"},
+    [ARRAY] = {"array", "array"},
+    [CONFIG] = {"speedate._types", "Config"},
+    [FAULT] = {"speedate._types", "Fault"},
+    [UNREPRESENTABLE] = {"speedate._types", "Unrepresentable"},
+    [REFUSAL] = {"speedate._types", "Refusal"},
+    [INTEGER] = {"speedate._types", "_integer"},
+    [CHOICE] = {"speedate._types", "_choice"},
+    [PLAIN] = {"speedate._types", "_plain"},
+    [MISSING] = {"speedate._types", "_missing"},
+    [ITEMS] = {"speedate._types", "_items"},
+    [TURN] = {"speedate._types", "_turn"},
+    [CLAMPED] = {"speedate._types", "_clamped"},
+    [DIGITS] = {"speedate._types", "_digits"},
+    [WRONG_ITEM] = {"speedate._types", "_wrong_item"},
+};
+
+/* ---- Errors ---- */
+
+int wrong_type(const char *name, const char *kinds, PyObject *value) {
+    PyObject *type = PyObject_GetAttrString((PyObject *)Py_TYPE(value), "__name__");
+    if (type) {
+        PyErr_Format(PyExc_TypeError, "%s has to be %s, not %S", name, kinds, type);
+        Py_DECREF(type);
+    }
+    return -1;
+}
+
+/* A Fault without a call of its __init__, which would take longer than all the rest. */
+PyObject *new_fault(const State *state, int code, PyObject *arguments) {
+    PyTypeObject *type = (PyTypeObject *)state->held[FAULT], *base = (PyTypeObject *)PyExc_ValueError;
+    PyObject *fault = base->tp_new(type, arguments, NULL);
+    if (fault && !(((PyBaseExceptionObject *)fault)->dict = PyDict_Copy(state->held[ATTRIBUTES + code])))
+        Py_CLEAR(fault);
+    return fault;
+}
+
+/* The Fault of a text of a column. */
+PyObject *new_fault_at(const State *state, int code, Py_ssize_t index) {
+    if (code < 1 || code > SPEEDATE_LAST_FAULT)
+        return PyObject_CallFunction(state->held[FAULT], "in", code, index);
+    PyObject *arguments = Py_BuildValue("in", code, index), *fault = NULL;
+    if (arguments && (fault = new_fault(state, code, arguments)) &&
+        PyObject_SetAttr(fault, state->held[INDEX], PyTuple_GET_ITEM(arguments, 1)) < 0)
+        Py_CLEAR(fault);
+    Py_XDECREF(arguments);
+    return fault;
+}
+
+PyObject *raise_error(PyObject *error) {
+    if (error) {
+        PyErr_SetObject((PyObject *)Py_TYPE(error), error);
+        Py_DECREF(error);
+    }
+    return NULL;
+}
+
+PyObject *raise_fault(const State *state, int code) {
+    if (code >= 1 && code <= SPEEDATE_LAST_FAULT)
+        return raise_error(new_fault(state, code, state->held[ARGUMENTS + code]));
+    return raise_error(PyObject_CallFunction(state->held[FAULT], "i", code));
+}
+
+static int set_slot(PyObject *error, int slot, PyObject *object) {
+    return PyObject_SetAttrString(error, slot_names[slot], object);
+}
+
+/* Raises an Unrepresentable. If it is of a text, it keeps that as a Fault does, and where the value ends. */
+PyObject *raise_unrepresentable(const State *state, const char *name, PyObject *object, const Text *text) {
+    PyObject *error = PyObject_CallFunction(state->held[UNREPRESENTABLE], "s", name);
+    PyObject *end = error && object ? PyLong_FromSsize_t(size_in(object, text, text->size)) : NULL;
+    if (error && object &&
+        (!end || set_slot(error, SOURCE, source_of(object, text)) < 0 || set_slot(error, CALL_NUMBER, end) < 0))
+        Py_CLEAR(error);
+    Py_XDECREF(end);
+    return raise_error(error);
+}
+
+/* ---- The module ---- */
+
+/* The name and the documentation of a fault. */
+static PyObject *words_of(const State *state, int code) {
+    char name[SPEEDATE_CODE_TEXT_SIZE], documentation[SPEEDATE_CODE_TEXT_SIZE];
+    size_t length;
+    int failed = speedate_code_name(code, name, sizeof name, &length);
+    if (failed == SPEEDATE_OK)
+        failed = speedate_code_documentation(code, documentation, sizeof documentation, &length);
+    return failed == SPEEDATE_OK ? Py_BuildValue("ss", name, documentation) : raise_fault(state, failed);
+}
+
+static PyObject *call_words(PyObject *module, PyObject *code) {
+    long number = PyLong_AsLong(code);
+    if (number == -1 && PyErr_Occurred())
+        return NULL;
+    return words_of(PyModule_GetState(module), (int)number);
+}
+
+static int hold(State *state, int place, PyObject *object) {
+    state->held[place] = object;
+    return !object ? -1 : 0;
+}
+
+static int hold_imports(State *state) {
+    for (int i = 0; i < (int)(sizeof imports / sizeof imports[0]); i++) {
+        PyObject *module = PyImport_ImportModule(imports[i].module);
+        if (!module)
+            return -1;
+        int status = hold(state, i, PyObject_GetAttrString(module, imports[i].name));
+        Py_DECREF(module);
+        if (status < 0) {
+            /* So it is where datetime is the one that is written in Python. */
+            if (PyErr_ExceptionMatches(PyExc_AttributeError))
+                PyErr_Format(PyExc_ImportError, "speedate needs %s.%s", imports[i].module, imports[i].name);
+            return -1;
+        }
+    }
+    state->datetime = PyCapsule_GetPointer(state->held[DATETIME], PyDateTime_CAPSULE_NAME);
+    if (!state->datetime)
+        return -1;
+    if (PyExceptionClass_Check(state->held[FAULT]) &&
+        PyType_IsSubtype((PyTypeObject *)state->held[FAULT], (PyTypeObject *)PyExc_ValueError))
+        return 0;
+    PyErr_SetString(PyExc_ImportError, "speedate.Fault is no ValueError");
+    return -1;
+}
+
+/* Where in a Fault a slot lies, or a negative number. */
+static Py_ssize_t find_slot(PyTypeObject *fault, const char *name) {
+    Py_ssize_t offset = -1;
+    PyObject *slot = PyObject_GetAttrString((PyObject *)fault, name);
+    if (slot && Py_TYPE(slot) == &PyMemberDescr_Type) {
+        PyMemberDescrObject *member = (PyMemberDescrObject *)slot;
+        if (member->d_member->type == T_OBJECT_EX && PyType_IsSubtype(fault, PyDescr_TYPE(member)))
+            offset = member->d_member->offset;
+    }
+    Py_XDECREF(slot);
+    if (offset < 0)
+        PyErr_Format(PyExc_ImportError, "speedate.Fault has no slot %s", name);
+    return offset;
+}
+
+static int find_slots(State *state) {
+    for (int i = 0; i < SLOTS; i++)
+        if ((state->offsets[i] = find_slot((PyTypeObject *)state->held[FAULT], slot_names[i])) < 0)
+            return -1;
+    return 0;
+}
+
+static int hold_fault(State *state, int code) {
+    PyObject *words = words_of(state, code);
+    int status = -1;
+    if (!words)
+        return -1;
+    if (hold(state, ARGUMENTS + code, Py_BuildValue("(i)", code)) == 0)
+        status = hold(state, ATTRIBUTES + code,
+                      Py_BuildValue("{sisOsO}", "code", code, "name", PyTuple_GET_ITEM(words, 0), "documentation",
+                                    PyTuple_GET_ITEM(words, 1)));
+    Py_DECREF(words);
+    return status;
+}
+
+/* Gives the package the classes, so that it has these even if it, or _types.py, is loaded once more. */
+static int give_classes(PyObject *module, const State *state) {
+    for (int i = CONFIG; i <= REFUSAL; i++)
+        if (PyObject_SetAttrString(module, imports[i].name, state->held[i]) < 0)
+            return -1;
+    return 0;
+}
+
+static int start(PyObject *module) {
+    State *state = PyModule_GetState(module);
+    if (hold_imports(state) < 0 || find_slots(state) < 0 || give_classes(module, state) < 0 ||
+        hold(state, NUMBERS, PyUnicode_InternFromString("_numbers")) < 0 ||
+        hold(state, INDEX, PyUnicode_InternFromString("index")) < 0 ||
+        hold(state, HINT, PyUnicode_InternFromString("hint")) < 0 ||
+        hold(state, UTCOFFSET, PyUnicode_InternFromString("utcoffset")) < 0 ||
+        hold(state, FROMBYTES, PyUnicode_InternFromString("frombytes")) < 0)
+        return -1;
+    for (int i = 0; i < ALL_HINTS; i++)
+        if (hint_words[i] && hold(state, HINTS + i, PyUnicode_InternFromString(hint_words[i])) < 0)
+            return -1;
+    for (int code = 1; code <= SPEEDATE_LAST_FAULT; code++)
+        if (hold_fault(state, code) < 0)
+            return -1;
+    for (int i = -QUARTERS; i <= QUARTERS; i++)
+        if (hold(state, ZONES + QUARTERS + i, new_zone(state, i * QUARTER)) < 0)
+            return -1;
+    return 0;
+}
+
+static int traverse(PyObject *module, visitproc visit, void *arg) {
+    State *state = PyModule_GetState(module);
+    for (int i = 0; state && i < ALL; i++)
+        Py_VISIT(state->held[i]);
+    return 0;
+}
+
+/* The state lives as long as its module, so that a call finds it even while garbage is collected: there is no m_clear.
+ * The cycles over the package end with the dicts of the modules. */
+static void release(void *module) {
+    State *state = PyModule_GetState(module);
+    for (int i = 0; state && i < ALL; i++)
+        Py_CLEAR(state->held[i]);
+}
+
+#define METHOD(name, parameters, documentation) \
+    {#name, (PyCFunction)(void (*)(void))call_##name, METH_FASTCALL | METH_KEYWORDS, \
+     #name parameters "\n--\n\n" documentation}
+
+static PyMethodDef methods[] = {
+    METHOD(date, "(text, config=None, *, timestamps=False)",
+           "Parses a date. With `timestamps=True` also a timestamp, if it is a midnight.\n\n"
+           ">>> date(\"2020-02-29\")\n"
+           "datetime.date(2020, 2, 29)\n"
+           ">>> date(\"1582934400\", timestamps=True)\n"
+           "datetime.date(2020, 2, 29)\n"),
+    METHOD(time, "(text, config=None)",
+           "Parses a time of day.\n\n"
+           ">>> time(\"12:13:14,5Z\")\n"
+           "datetime.time(12, 13, 14, 500000, tzinfo=datetime.timezone.utc)\n"),
+    METHOD(date_time, "(text, config=None, *, timestamps=False)",
+           "Parses a date-time. With `timestamps=True` also a timestamp, whole or decimal: `20200229` is one. If the configuration\n"
+           "names no unit, numbers up to 20,000,000,000 are seconds and larger ones milliseconds.\n\n"
+           ">>> date_time(\"2020-02-29 12:13\")\n"
+           "datetime.datetime(2020, 2, 29, 12, 13)\n"
+           ">>> date_time(\"1654646404.25\", Config(timestamp_offset=0), timestamps=True)\n"
+           "datetime.datetime(2022, 6, 8, 0, 0, 4, 250000, tzinfo=datetime.timezone.utc)\n"),
+    METHOD(duration, "(text, config=None)",
+           "Parses a duration. A year is 365 days, a month 30; `-PT0S` is `timedelta(0)`.\n\n"
+           "Its sign covers the whole text, while in `str()` of a timedelta it covers the days alone: print by `text`.\n\n"
+           ">>> duration(\"-1 day, 23:59:59\")\n"
+           "datetime.timedelta(days=-2, seconds=1)\n"
+           ">>> duration(text(datetime.timedelta(seconds=-1)))\n"
+           "datetime.timedelta(days=-1, seconds=86399)\n"),
+    METHOD(time_strict, "(text, config=None)",
+           "Parses a time of RFC 3339 and nothing else.\n\n"
+           ">>> time_strict(\"12:13+01:00\")\n"
+           "Traceback (most recent call last):\n"
+           "speedate.Fault: invalid_char_time_sep at 5: expected a colon, as in HH:MM:SS: '12:13+01:00'\n"),
+    METHOD(date_time_strict, "(text, config=None)",
+           "Parses a date-time of RFC 3339 and nothing else.\n\n"
+           ">>> date_time_strict(\"2020-02-29T12:13:14\")\n"
+           "Traceback (most recent call last):\n"
+           "speedate.Fault: tz_required at 19: expected an offset: Z or +01:00: '2020-02-29T12:13:14'\n"),
+    METHOD(date_front, "(text)",
+           "The date at the front of a text, and its size: of a `str` in characters, otherwise in bytes.\n\n"
+           ">>> date_front(\"2020-02-29 opening balance\")\n"
+           "(datetime.date(2020, 2, 29), 10)\n"),
+    METHOD(time_front, "(text, config=None)",
+           "The time at the front of a text, and its size as `date_front` counts it.\n\n"
+           ">>> time_front(\"12:13 lunch\")\n"
+           "(datetime.time(12, 13), 5)\n"),
+    METHOD(date_time_front, "(text, config=None)",
+           "The date-time at the front of a text, and its size as `date_front` counts it.\n\n"
+           ">>> moment, size = date_time_front(\"2026-11-22T12:13:14Z GET /\")\n"
+           ">>> \"2026-11-22T12:13:14Z GET /\"[size:]\n"
+           "' GET /'\n"),
+    METHOD(date_from_timestamp, "(timestamp, config=None, *, exact=True)",
+           "The date of a timestamp of 64 bits, which has to be a midnight unless `exact` is False.\n\n"
+           ">>> date_from_timestamp(1582978394, exact=False)\n"
+           "datetime.date(2020, 2, 29)\n"),
+    METHOD(time_from_timestamp, "(second, microsecond=0, config=None)",
+           "The time `second` seconds and `microsecond` microseconds after midnight, both less than 2**32. Of `config` only\n"
+           "`timestamp_offset` is used.\n\n"
+           ">>> time_from_timestamp(36_005, 1_500_000)\n"
+           "datetime.time(10, 0, 6, 500000)\n"),
+    METHOD(date_time_from_timestamp, "(timestamp, microsecond=0, config=None)",
+           "The date-time of a timestamp of 64 bits, and so many microseconds, of 32 bits, later.\n\n"
+           ">>> date_time_from_timestamp(1582978394000, 500_000, Config(timestamp_unit=\"ms\", timestamp_offset=0))\n"
+           "datetime.datetime(2020, 2, 29, 12, 13, 14, 500000, tzinfo=datetime.timezone.utc)\n"),
+    METHOD(date_time_column,
+           "(texts, config=None, *, strict=False, timestamps=False, naive='error', faults='raise', newline='\\r\\n', "
+           "empty='error', lines=False)",
+           "The microseconds from 1970-01-01T00:00Z to each date-time, as an `array.array(\"q\")`.\n\n"
+           "`texts` is an iterable of texts, each as `date_time` takes it; or a file, or bytes in memory, such as `bytes` and an\n"
+           "`mmap`, whose lines they are. A file is read from where it stands: one that was just written stands at its end, so\n"
+           "`seek(0)` comes first. A line feed ends a line, which the last one may lack. A carriage return at the end of a line\n"
+           "is dropped; with `newline=\"\\n\"` it is part of the text. With `lines=True` the items of an iterable, such as\n"
+           "`list(file)`, are lines too. A mapping and a DataFrame are a `TypeError`: pass one column.\n\n"
+           "With `strict=True` texts are parsed as by `date_time_strict`, and with `timestamps=True` they may be timestamps, of\n"
+           "which `timestamp_unit` should name the unit: otherwise each number has a unit of its own, and 13000000000 is seconds,\n"
+           "of the year 2381. Integers are timestamps then too, as an array of NumPy has them; those of one byte in memory are\n"
+           "texts. The year 0 is accepted, although `date_time` has no such value.\n\n"
+           "Texts and timestamps without an offset fail with `tz_required`, or count as UTC with `naive=\"utc\"`. A timestamp has\n"
+           "the offset of the configuration: for Unix time it is `Config(timestamp_offset=0)`.\n\n"
+           "The first text that is refused raises its `Fault`, whose `index` is its position in the column: in pandas its row\n"
+           "is `frame.iloc[fault.index]`, whatever the labels are. With `faults=\"nat\"` each such text gives the smallest\n"
+           "number, which is NaT in NumPy. If `faults` is a list, their faults are appended to it too. If it is a dict, it gets\n"
+           "arrays with the `index`, the `code` and the `place` of each fault instead, which cost little; a place of -1 is none,\n"
+           "and a call that fails leaves it as it was. What `pandas.isna` calls missing is NaT, and no fault. So is an\n"
+           "empty text with `empty=\"nat\"`.\n\n"
+           ">>> date_time_column([\"1970-01-01T00:00:01Z\", \"1970-01-01T01:00+01:00\"])\n"
+           "array('q', [1000000, 0])\n"
+           ">>> faults = []\n"
+           ">>> date_time_column(b\"1970-01-01 00:00\\nnever\\n\", naive=\"utc\", faults=faults)\n"
+           "array('q', [0, -9223372036854775808])\n"
+           ">>> faults\n"
+           "[<Fault too_short in text 1>]\n"
+           ">>> faults = {}\n"
+           ">>> column = date_time_column(b\"1970-01-01 00:00\\nnever\\n\", naive=\"utc\", faults=faults)\n"
+           ">>> faults\n"
+           "{'index': array('q', [1]), 'code': array('B', [1]), 'place': array('q', [5])}\n\n"
+           "NumPy takes a column as it is, by `numpy.frombuffer(column, \"datetime64[us]\")`. pandas before 2 holds only the\n"
+           "years 1677 to 2262.\n"),
+    METHOD(date_time_clock_column,
+           "(texts, config=None, *, strict=False, timestamps=False, faults='raise', newline='\\r\\n', empty='error', "
+           "lines=False)",
+           "The microseconds from 1970-01-01T00:00 that the clock of each date-time shows, as an `array.array(\"q\")`.\n\n"
+           "The arguments mean what they do in `date_time_column`. The clock is read whatever the offset is, and with that, by\n"
+           "`date_time_offset_column`, it is the date-time as it stands. A timestamp shows the clock of UTC.\n\n"
+           ">>> date_time_clock_column([\"1970-01-01T00:00:01\", \"1970-01-01T01:00+01:00\"])\n"
+           "array('q', [1000000, 3600000000])\n\n"
+           "NumPy takes a column as it is, by `numpy.frombuffer(column, \"datetime64[us]\")`, whose values have no offset.\n"),
+    METHOD(date_time_offset_column,
+           "(texts, config=None, *, strict=False, timestamps=False, faults='raise', newline='\\r\\n', empty='error', "
+           "lines=False)",
+           "The seconds of the offset of each date-time, positive east of UTC, as an `array.array(\"q\")`.\n\n"
+           "The arguments mean what they do in `date_time_column`. A date-time without an offset fails with `tz_required`. A timestamp\n"
+           "has the offset of the configuration.\n\n"
+           ">>> date_time_offset_column([\"1970-01-01T00:00:01Z\", \"1970-01-01T01:00+01:00\"])\n"
+           "array('q', [0, 3600])\n"
+           ">>> date_time_offset_column([\"1970-01-01T00:00:01\"], faults=\"nat\")\n"
+           "array('q', [-9223372036854775808])\n\n"
+           "NumPy takes a column as it is, by `numpy.frombuffer(column, \"timedelta64[s]\")`.\n"),
+    METHOD(date_column,
+           "(texts, config=None, *, timestamps=False, faults='raise', newline='\\r\\n', empty='error', lines=False)",
+           "The days from 1970-01-01 to each date, as an `array.array(\"q\")`.\n\n"
+           "The arguments mean what they do in `date_time_column`. Each text is taken as by `date`: with `timestamps=True` it may be a\n"
+           "timestamp, if it is a midnight. The year 0 is accepted, although `date` has no such value.\n\n"
+           ">>> date_column(b\"1970-01-02\\n1969-12-31\\n\")\n"
+           "array('q', [1, -1])\n"
+           ">>> date_column([\"1970-01-02\", None, \"1970-01-02T00:00\"], faults=\"nat\")\n"
+           "array('q', [1, -9223372036854775808, -9223372036854775808])\n\n"
+           "NumPy takes a column as it is, by `numpy.frombuffer(column, \"datetime64[D]\")`.\n"),
+    METHOD(time_column,
+           "(texts, config=None, *, strict=False, faults='raise', newline='\\r\\n', empty='error', lines=False)",
+           "The microseconds after midnight that the clock of each time shows, as an `array.array(\"q\")`.\n\n"
+           "The arguments mean what they do in `date_time_column`. Each text is taken as by `time`, or with `strict=True` as by\n"
+           "`time_strict`. The clock is read whatever the offset is, which `time_offset_column` reads.\n\n"
+           ">>> time_column([\"12:13:14.5\", None, \"12:13:14.5+01:00\"])\n"
+           "array('q', [43994500000, -9223372036854775808, 43994500000])\n\n"
+           "NumPy takes a column as it is, by `numpy.frombuffer(column, \"timedelta64[us]\")`.\n"),
+    METHOD(time_offset_column,
+           "(texts, config=None, *, strict=False, faults='raise', newline='\\r\\n', empty='error', lines=False)",
+           "The seconds of the offset of each time, positive east of UTC, as an `array.array(\"q\")`.\n\n"
+           "The arguments are those of `time_column`. A time without an offset fails with `tz_required`.\n\n"
+           ">>> time_offset_column(b\"12:13Z\\n12:13+01:00\\n\")\n"
+           "array('q', [0, 3600])\n\n"
+           "NumPy takes a column as it is, by `numpy.frombuffer(column, \"timedelta64[s]\")`.\n"),
+    METHOD(duration_column, "(texts, config=None, *, faults='raise', newline='\\r\\n', empty='error', lines=False)",
+           "The microseconds of each duration, with its sign, as an `array.array(\"q\")`.\n\n"
+           "The arguments mean what they do in `date_time_column`. Each text is taken as by `duration`. One of 2**63 microseconds or\n"
+           "more, which are over 106,751,991 days, is refused with `number_too_large`.\n\n"
+           "Hand a timedelta over by `text`: the sign of its `str()` covers the days alone, and here the whole text.\n\n"
+           ">>> duration_column(b\"PT1.5S\\n-00:01:00\\n\")\n"
+           "array('q', [1500000, -60000000])\n"
+           ">>> duration_column([\"-1 day, 23:59:59\", text(datetime.timedelta(seconds=-1))])\n"
+           "array('q', [-172799000000, -1000000])\n"
+           ">>> duration_column([\"P106751992D\"])\n"
+           "Traceback (most recent call last):\n"
+           "speedate.Fault: number_too_large in text 0: expected a duration of less than 2^63 microseconds: 'P106751992D'\n\n"
+           "NumPy takes a column as it is, by `numpy.frombuffer(column, \"timedelta64[us]\")`.\n"),
+    METHOD(text, "(value)",
+           "The one text of a value. A year is 365 days, a month 30: 400 days are `P1Y35D`, which other readers may refuse.\n\n"
+           "It refuses with a `ValueError` an offset that is not whole minutes, a time in a zone whose offset depends on the\n"
+           "date, and a value of a subclass that says more than its base class, such as nanoseconds.\n\n"
+           ">>> text(date_time(\"2020-02-29 12:13Z\")), text(time(\"12:13:14,5\")), text(datetime.date(2020, 2, 29))\n"
+           "('2020-02-29T12:13:00Z', '12:13:14.500000', '2020-02-29')\n"
+           ">>> text(datetime.timedelta(microseconds=-1))\n"
+           "'-PT0.000001S'\n"),
+    {"_words", call_words, METH_O, "_words(code)\n--\n\nThe name and the documentation of a fault."},
+    {"_found", call_found, METH_VARARGS,
+     "_found(code, source, call)\n--\n\nThe place of an error, the end of its part and what was expected, from what a Fault keeps."},
+    {NULL, NULL, 0, NULL},
+};
+
+static PyModuleDef_Slot slots[] = {
+    {Py_mod_exec, start},
+#if PY_VERSION_HEX >= 0x030D0000
+    /* Before, datetime has no functions for C in an interpreter with a lock of its own. */
+    {Py_mod_multiple_interpreters, Py_MOD_PER_INTERPRETER_GIL_SUPPORTED},
+#endif
+    {0, NULL},
+};
+
+static struct PyModuleDef definition = {
+    PyModuleDef_HEAD_INIT,
+    .m_name = "speedate._speedate",
+    .m_doc = "The calls of speedate.",
+    .m_size = sizeof(State),
+    .m_methods = methods,
+    .m_slots = slots,
+    .m_traverse = traverse,
+    .m_free = release,
+};
+
+PyMODINIT_FUNC PyInit__speedate(void) {
+    return PyModuleDef_Init(&definition);
+}
