@@ -83,7 +83,8 @@ pub fn read_column_with_errors<R: LineReader>(
 }
 
 /// Reads the lines of a text as numbers, as many as there is room for, and the numbers of their errors,
-/// where there is a place for them.
+/// where there is a place for them. It is not inlined, so that each reader's loop, with the parser in
+/// it, is compiled once.
 #[inline(never)]
 fn fill<R: LineReader>(
     text: &[u8],

@@ -112,7 +112,8 @@ impl DurationUnit {
     }
 
     /// The whole seconds and the microseconds of a fraction of this unit that has any number of digits:
-    /// out of line, since it is long, and few fractions have more than six.
+    /// out of line, since it is long, and few fractions have more than six. It cuts off whole seconds
+    /// first, because `nearest_microseconds` does not show whether rounding reached a second.
     #[inline(never)]
     fn long_fraction(&self, digits: &[u8]) -> (u32, u32)
         requires { IsTrue (list_all is_ascii_digit digits.now) }

@@ -277,7 +277,8 @@ pub(crate) fn digit_by_digit(digits: &[u8]) -> Result<u64, usize>
 }
 
 /// The number that the two digits from `place` on spell: 7 for `b"07"` at place 0. `None` if one of the
-/// two bytes is no digit. The text has both, which is a condition on the caller.
+/// two bytes is not a digit. The text has both, which is a condition on the caller. The two tests are
+/// apart: joining them with `&&` was rejected.
 pub fn two_digits(bytes: &[u8], place: usize) -> Option<u8>
     requires { place + 2 ≤ length bytes.now }
     ensures value { result ≡ (if two_digits_at bytes.now place
