@@ -1,4 +1,5 @@
-"""Runs the blocks of a document that have no prompt: python3 examples.py DOCUMENT, in a folder with what they read.
+"""Runs the blocks of a document that have no prompt, and the rows of its tables: python3 examples.py DOCUMENT, in a folder
+with what they read.
 
 What reads a frame of pandas runs on one that is sorted, on one that is filtered and on the partitions of Dask too, and on a
 file with each word that pandas takes for a missing value. A block whose modules are not there is left out, and a line says
@@ -27,18 +28,14 @@ CASES = {
         "pathlib.Path('payments.csv').write_text(pathlib.Path('payments.csv').read_text() + 'x,29.2.2020\\nx,2020-02-29T00:00Z\\nx,never\\n')",
         "rows", "[3, 5]"),
     "csv.DictReader": ("import csv; file = pathlib.Path('payments.csv'); file.write_text('\\ufeff' + ''.join(file.open().readlines()[:4]))", "list(column)", "[1793520000000000, -2**63, 1793608200000000]"),
-    ".read()": ("import numpy", "[str(it) for it in moments]", "['1970-01-01T00:00:01.000000', *['NaT'] * 2, '1970-01-01T00:00:02.000000', *['NaT'] * 3]"),
-    "shown": (
-        "import numpy; opens = ['2026-11-27T09:00:00+05:30', '2026-11-27T08:30:00.5Z', '2026-11-27T10:00']; "
-        "clocks, offsets = speedate.date_time_clock_column(opens), speedate.date_time_offset_column(opens, faults='nat')",
-        "[str(it) for it in moments]", "['2026-11-27T03:30:00.000000', '2026-11-27T08:30:00.500000', 'NaT']"),
+    "days.csv": (
+        "import numpy; pathlib.Path('days.csv').write_text('name,day\\nrent,2026-11-01\\nfood,\\nlamp,1970-01-02\\n')", "frame['day'].tolist()",
+        "[pandas.Timestamp('2026-11-01'), pandas.NaT, pandas.Timestamp('1970-01-02')]"),
+    "opens": (
+        "import numpy; opens = ['2026-11-27T09:00:00+05:30', '2026-11-27T08:30:00.5Z', None, '2026-11-27T10:00']",
+        "[str(it) for it in moments]", "['2026-11-27T03:30:00.000000', '2026-11-27T08:30:00.500000', 'NaT', 'NaT']"),
     "mmap": ("import mmap", "[it for it in column if it > 0]", "[1000000, 2000000]"),
     "BaseModel": ("from pydantic_fields import *", "Payment(day='2020-02-29', wait='PT90M').wait", "datetime.timedelta(seconds=5400)"),
-    "dask": (
-        "import dask.bag; from dask_lines import answered; dask.config.set(scheduler='synchronous')",
-        "answers.compute()",
-        "[open('wanted_lines', 'rb').read()]",
-    ),
 }
 
 
@@ -157,6 +154,44 @@ def check_ways(text):
         assert told == wanted, f"{row} has to be {told}"
 
 
+def rows_of(text, head):
+    """The cells of each row of the table that begins with a head."""
+    table = re.search(rf"^\| {head} \|.*\n.*\n((?:\|.*\n)+)", text, re.M)[1]
+    return [[cell.strip() for cell in row[1:-1].split("|")] for row in table.splitlines()]
+
+
+def what_becomes(item, **named):
+    """What a column does with an item, in a word of the table."""
+    try:
+        [number] = speedate.date_time_column([item], **named)
+    except speedate.Refusal as refusal:
+        return f"`{refusal.name}`"
+    except TypeError:
+        return "`TypeError`"
+    return "NaT" if number == -(2**63) else "accepted"
+
+
+def check_items(text):
+    """The table of what is missing and what is refused."""
+    given, count = {"pandas": sys.modules.get("pandas"), "speedate": speedate, "what_becomes": what_becomes}, 0
+    for items, alone, options, then in rows_of(text, "Item"):
+        for item in re.findall("`(.*?)`", items):
+            if "pandas" in item and not given["pandas"]:
+                print(f"not tried: {item}, since there is no pandas")
+                continue
+            told = [eval(f"what_becomes({item})", given), eval(f"what_becomes({item}, {options.strip('`')})", given) if options else ""]
+            assert told == [alone, then], f"{item} is {told}"
+            count += 1
+    assert count > 10, count
+
+
+def check_mended(document):
+    """The table of what other programs print: each text is refused, and the line makes the moment of it."""
+    for printer, text, line in rows_of(document, "Printed by"):
+        text, wanted = text.strip("`"), datetime.datetime(2026, 11, 1, 0 if "midnight" in printer else 8, tzinfo=datetime.timezone.utc)
+        assert what_becomes(text).startswith("`") and speedate.date_time(eval(line.strip("`"), {"text": text, "re": re})) == wanted, printer
+
+
 def read_by(call, given):
     told = eval(call, given)
     return told["moment"] if hasattr(told, "columns") else told
@@ -178,7 +213,9 @@ for block in re.findall(r"^```python\n((?!>>>).*?)^```$", text, re.M | re.S):
     exec(block, names)
     for _, value, wanted in cases:
         assert eval(value, names) == eval(wanted, names), f"{value} is {eval(value, names)} after\n{block}"
-    if "frame = pandas.read_csv" in block:
+    if "refused = " in block:
         check_frames(block)
         check_missing_words(block)
 check_ways(text)
+check_items(text)
+check_mended(text)
