@@ -3,12 +3,14 @@ references, interpreters and threads. An argument is how many calls are drawn.""
 import array
 import collections
 import copy
+import ctypes
 import datetime
 import gc
 import importlib.util
 import inspect
 import itertools
 import io
+import mmap
 import pathlib
 import random
 import sys
@@ -148,6 +150,38 @@ def drawn_column(draw, name):
         lambda: items, lambda: tuple(items), lambda: iter(items), lambda: lines, lambda: bytearray(lines), lambda: memoryview(lines + end),
         lambda: memoryview(b"x".join(lines[i:i + 1] for i in range(len(lines))))[::2], lambda: array.array("b", lines), lambda: io.BytesIO(lines + end),
         lambda: io.StringIO(lines.decode("utf-8", "replace"), newline="")])
+
+
+def array_of(numpy, items):
+    """An array of objects, whatever these are."""
+    made = numpy.empty(len(items), object)
+    for place, it in enumerate(items):
+        made[place] = it
+    return made
+
+
+def kinds_of_items(items):
+    """What makes each kind of input that has items."""
+    numpy, pandas = installed("numpy"), installed("pandas")
+    yield from (lambda: items, lambda: tuple(items), lambda: iter(items), lambda: (it for it in items), lambda: dict(enumerate(items)).values(), lambda: collections.deque(items))
+    if numpy:
+        yield lambda: array_of(numpy, items)
+    if numpy and pandas:
+        yield from (lambda: pandas.Series(array_of(numpy, items), index=range(len(items), 0, -1)), lambda: pandas.Index(array_of(numpy, items)))
+
+
+def kinds_of_lines(lines):
+    """What makes each kind of input that has lines of bytes."""
+    spread = memoryview(b"x".join(lines[i:i + 1] for i in range(len(lines))))[::2]
+    yield from (
+        lambda: lines, lambda: bytearray(lines), lambda: memoryview(lines), lambda: spread,
+        lambda: array.array("b", lines), lambda: (ctypes.c_ubyte * len(lines))(*lines), lambda: io.BytesIO(lines), lambda: mapped(lines))
+
+
+def mapped(lines):
+    made = mmap.mmap(-1, len(lines))
+    made.write(lines)
+    return made
 
 
 def drawn_faults(draw, name):
@@ -323,9 +357,9 @@ except speedate.Fault as fault:
 """
 
 
-def interpreters():
-    """The module of interpreters, if there is one."""
-    for name in ("_interpreters", "_xxsubinterpreters"):
+def installed(*names):
+    """The first module of some that is there, or `None`."""
+    for name in names:
         try:
             return importlib.import_module(name)
         except ImportError:
@@ -374,21 +408,23 @@ class Extension(unittest.TestCase):
         print(dict(kinds.most_common()))
 
     def test_drawn_columns(self):
-        """Columns of many texts and lines, beside as many calls of one text."""
+        """Columns of many texts and lines, in each kind of input, beside as many calls of one text."""
         draw, numbers = random.Random(COUNT), collections.Counter()
-        for name in [*COLUMNS] * 8:
+        for name in [*COLUMNS] * 4:
             texts = [drawn_text(draw, name) for _ in range(min(COUNT // 10, 2_000))]
             options = {it.name: same(DRAWN[it.name](draw, name)) for it in PARAMETERS[name] if it.name in DRAWN and it.name != "strict"}
             if draw.random() < 0.5:
                 options["config"] = configured("infer", None, draw.choice(["error", "truncate"]), draw.choice(["lax", "strict"]))
             lines = joined(texts, draw.choice([b"\n", b"\r\n"]))
-            for make in (lambda: texts, lambda: lines, lambda: bytearray(lines), lambda: io.BytesIO(lines)):
-                for faults in (lambda: "nat", list, dict):
-                    call = name, [anew(make)], {**options, "faults": anew(faults)}
-                    self.assertTrue(outcome(speedate, *call) == outcome(oracle, *call), (name, type(make())))
+            for faults in (lambda: "nat", list, dict):
+                for kinds in (kinds_of_items(texts), kinds_of_lines(lines)):
+                    first, *others = [(name, [anew(make)], {**options, "faults": anew(faults)}) for make in kinds]
+                    wanted = outcome(oracle, *first)
+                    for call in (first, *others):
+                        self.assertTrue(outcome(speedate, *call) == wanted, (name, type(call[1][0](speedate))))
             numbers[name] += sum(it != -(2**63) for it in getattr(speedate, name)(texts, faults="nat"))
         for name in COLUMNS:
-            self.assertGreater(numbers[name], 8 * min(COUNT // 10, 2_000) // 20, name)
+            self.assertGreater(numbers[name], 4 * min(COUNT // 10, 2_000) // 20, name)
 
     def test_wrong_types(self):
         for name, positional, named in wrong_calls():
@@ -565,7 +601,7 @@ class Extension(unittest.TestCase):
             fail_import("datetime", datetime_CAPI=5)
 
     def test_interpreters(self):
-        module = interpreters()
+        module = installed("_interpreters", "_xxsubinterpreters")
         if module is None:
             self.skipTest("this Python has no module of interpreters")
         for own_lock in (False, True):
