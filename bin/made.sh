@@ -66,7 +66,7 @@ build_in() {
     for it in "$root"/*; do
         [ ! -d "$build/${it##*/}" ] || find "$build/${it##*/}" -name out -prune -o -type f -exec rm -f {} +
     done
-    mkdir -p "$build/out" && true >"$build/.build" && (cd "$root" && tar cf - --exclude=out --exclude=.git --exclude=".${build#"$root"}" .) |
+    mkdir -p "$build/out" && true >"$build/.build" && (cd "$root" && tar cf - --exclude=out --exclude=target --exclude=.git --exclude=".${build#"$root"}" .) |
         tar xf - -C "$build" --mode=u+w || fail "the sources cannot be copied to $build"
     for it in "$root"/out/speedate_c-*; do
         [ ! -f "$it" ] || cp "$it" "$build/out" || fail "$it cannot be copied"

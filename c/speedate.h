@@ -582,7 +582,7 @@ SPEEDATE_NODISCARD int speedate_duration_compare(SpeedateDuration first, Speedat
 SPEEDATE_NODISCARD int speedate_duration_signed_total_seconds(SpeedateDuration duration, int64_t *out);
 /* The whole milliseconds of a duration, cut toward zero, with its sign. */
 SPEEDATE_NODISCARD int speedate_duration_signed_total_ms(SpeedateDuration duration, int64_t *out);
-/* The microseconds of a duration beyond its whole seconds, with its sign. */
+/* The microseconds of a duration beyond its whole seconds, with its sign: -500000 for -PT1.5S. */
 SPEEDATE_NODISCARD int speedate_duration_signed_microseconds(SpeedateDuration duration, int32_t *out);
 
 /* The duration of a number of microseconds with a sign: -PT1.5S for -1500000. Each number of 64 bits is one. */
@@ -616,8 +616,8 @@ SPEEDATE_NODISCARD int speedate_duration_before_date(SpeedateDuration duration, 
 /* A column is the numbers of the lines of a text, one for each. A line is ended by a line feed, or by the end of the
  * text. An empty line is a line. "Columns" in GRAMMAR.md has the rules. */
 
-/* How a column is read. In each field but at_end 0 is the default. A field that a call does not use has to be in range
- * too. What is said of later versions at SpeedateConfig holds here too. */
+/* How a column is read. In each field but at_end 0 is the default, so a struct of zeros is not. A field that a call does
+ * not use has to be in range too. What is said of later versions at SpeedateConfig holds here too. */
 typedef struct SpeedateColumnConfig {
     /* 1, the default, if the end of the text ends its last line. 0 if more text may follow: what stands after the last
      * line feed is then left for a further call, so that half a line is never read as a whole one. */
