@@ -130,6 +130,8 @@ export type LineRefusal = { readonly index: number } & Reason;
  * is appended to it, and has in the column the number that is no other line's. */
 export type ColumnOptions = {
   refusals?: LineRefusal[];
+  /** How many refusals are appended at most; any number, if this is left out. Further lines are refused as well, and have their number. */
+  maxRefusals?: number;
   /** How many bytes of a line are kept until its end comes; any number, if this is left out. With one more the call throws a
    * RangeError, whose `name` is `LineTooLong`, with the `index` of the line. */
   maxLineBytes?: number;
@@ -139,10 +141,12 @@ export type DateTimeColumnOptions = DateTimeOptions & ColumnOptions;
 /** The offset of a timestamp moves no clock. */
 export type DateTimePartColumnOptions = DateTimeFormOptions & ColumnOptions;
 export type TimeColumnOptions = StrictOptions & ColumnOptions;
+export type DurationColumnOptions = DurationOptions & ColumnOptions;
 /** Reads a column in pieces, which may end anywhere: `read` gives the numbers of the lines that end in a piece, and keeps the line
  * that does not. `end` gives those of what is left, of a last piece too. Indices count from the first piece on. Once a call has
- * thrown for a line, or `end` was called, each further call is a TypeError. */
-export type ColumnReader<Column> = { read(text: Text): Column; end(text?: Text): Column };
+ * thrown for a line, or `end` was called, each further call is a TypeError. With a list of refusals, `refused` is how many lines were
+ * refused, also those beyond `maxRefusals`. */
+export type ColumnReader<Column> = { read(text: Text): Column; end(text?: Text): Column; readonly refused: number };
 /** The days from 1970-01-01 to the date of each line: 1 of `1970-01-02`, and -2147483648 of a line that is refused. A line is ended
  * by a line feed, with a carriage return before it or without, or by the end of the text. */
 export function dateColumn(text: Text, options?: DateColumnOptions): Int32Array;
@@ -170,6 +174,11 @@ export function timeColumn(text: Text, options: TimeColumnOptions & { unit: "us"
 export function timeColumn(text: Text, options: TimeColumnOptions & { unit?: "ms" | "us" }): Float64Array | BigInt64Array;
 /** The seconds of the offset of each time, as `dateTimeOffsetColumn` gives those of date-times. */
 export function timeOffsetColumn(text: Text, options?: TimeColumnOptions): Int32Array;
+/** The milliseconds of each duration, with its sign: -1500.5 of `-PT1.5005S`, or the microseconds, as `dateTimeClockColumn` gives
+ * those of date-times. `number_too_large` from 2 ** 63 microseconds on, over 106,751,991 days. */
+export function durationColumn(text: Text, options?: DurationColumnOptions & { unit?: "ms" }): Float64Array;
+export function durationColumn(text: Text, options: DurationColumnOptions & { unit: "us" }): BigInt64Array;
+export function durationColumn(text: Text, options: DurationColumnOptions & { unit?: "ms" | "us" }): Float64Array | BigInt64Array;
 /** Reads a column of dates in pieces. */
 export function dateColumnReader(options?: DateColumnOptions): ColumnReader<Int32Array>;
 /** Reads a column of date-times in pieces. */
@@ -185,6 +194,9 @@ export function timeColumnReader(options?: TimeColumnOptions & { unit?: "ms" }):
 export function timeColumnReader(options: TimeColumnOptions & { unit: "us" }): ColumnReader<BigInt64Array>;
 export function timeColumnReader(options: TimeColumnOptions & { unit?: "ms" | "us" }): ColumnReader<Float64Array | BigInt64Array>;
 export function timeOffsetColumnReader(options?: TimeColumnOptions): ColumnReader<Int32Array>;
+export function durationColumnReader(options?: DurationColumnOptions & { unit?: "ms" }): ColumnReader<Float64Array>;
+export function durationColumnReader(options: DurationColumnOptions & { unit: "us" }): ColumnReader<BigInt64Array>;
+export function durationColumnReader(options: DurationColumnOptions & { unit?: "ms" | "us" }): ColumnReader<Float64Array | BigInt64Array>;
 
 /** The date of a timestamp: 1970-01-02 of 86400 seconds. `date_not_exact` where that is no midnight, unless `exact` is false;
  * `date_too_small` or `date_too_large` outside the years 0 to 9999. */

@@ -25,11 +25,16 @@ COLUMN.text = COLUMN.errors + LINES_AT_ONCE;
 /** The sizes of the strings that are copied unit by unit. */
 const SHORT_SIZES = Array.from({ length: 65 }, (_, size) => BigInt(size));
 const SECONDS_IN_DAY = 86400;
-const CODE = { tzRequired: 19, dateTooSmall: 38 };
+const CODE = { tooShort: 1, invalidCharTzSign: 14, tzRequired: 19, dateTooSmall: 38 };
 const MISSING = { error: 0, utc: 1 };
 /** The kinds of calls in C, on which it depends what is expected, by what a text of one may be. */
 const NONE = 0;
-const KINDS = { date: { lax: 1, timestamps: 2 }, time: { lax: 3, strict: 4 }, dateTime: { lax: 5, timestamps: 6, strict: 7 }, duration: { lax: 8 } };
+const KINDS = {
+  date: { lax: 1, timestamps: 2 }, time: { lax: 3, strict: 4 }, dateTime: { lax: 5, timestamps: 6, strict: 7 }, duration: { lax: 8 },
+  // Kinds of this package: an offset is required. The strict kinds of C require one too.
+  offset: { lax: 9, strict: 4 }, instant: { lax: 10, timestamps: 10, strict: 7 },
+};
+const WITH_OFFSET = { 9: KINDS.time, 10: KINDS.dateTime };
 const kindOf = (kinds, { timestamps, strict }) => (timestamps !== undefined ? kinds.timestamps : strict === 1 ? kinds.strict : kinds.lax);
 
 export class SpeedateError extends RangeError {
@@ -80,12 +85,20 @@ class Library {
   }
 }
 
-function decoded(base64) {
-  if (Uint8Array.fromBase64 !== undefined) return Uint8Array.fromBase64(base64);
-  const units = atob(base64);
-  const bytes = new Uint8Array(units.length);
-  for (let i = 0; i < bytes.length; i++) bytes[i] = units.charCodeAt(i);
-  return bytes;
+function decoded(text) {
+  // As bin/build_js writes it: in hexadecimal all bytes, and then the place of each among them, in one digit or two.
+  const digits = [];
+  let count = 0;
+  for (let unit = 33; unit < 127; unit++) if (!'"&<\\|'.includes(String.fromCharCode(unit))) digits[unit] = count++;
+  const order = Array.from({ length: 256 }, (_, i) => parseInt(text.slice(2 * i, 2 * i + 2), 16));
+  const bytes = new Uint8Array(text.length);
+  let size = 0;
+  for (let i = 512; i < text.length; i++) {
+    const digit = digits[text.charCodeAt(i)];
+    const beyond = digit - count + 2;
+    bytes[size++] = order[beyond < 0 ? digit : count - 2 + beyond * count + digits[text.charCodeAt(++i)]];
+  }
+  return bytes.subarray(0, size);
 }
 
 const mapped = (all, map) => Object.fromEntries(Object.entries(all).map(([name, it]) => [name, map(it)]));
@@ -122,11 +135,14 @@ function told(call, ...numbers) {
 }
 
 const faultOf = (code, kind) => faults[kind]?.[code] ?? newFault(code, kind);
+/** If an offset is required, the phrase of the call in C may name a text without one: then another phrase of C is taken. */
 function newFault(code, kind) {
-  kept.view.setInt32(PART.kind, kind, true);
+  const { strict, lax } = WITH_OFFSET[kind] ?? { strict: kind, lax: kind };
+  kept.view.setInt32(PART.kind, code === CODE.tooShort ? strict : lax, true);
+  const phrase = lax !== kind && code === CODE.invalidCharTzSign ? CODE.tzRequired : code;
   const it = {
     fault: told(calls.speedate_code_name, code), code, message: told(calls.speedate_code_documentation, code),
-    expected: told(calls.speedate_code_expected, code, address.part),
+    expected: told(calls.speedate_code_expected, phrase, address.part),
   };
   (faults[kind] ??= [])[code] = it;
   return it;
@@ -248,7 +264,7 @@ const CHOICES = {
 /** No options as numbers. All names are its own: a prototype may have them too. */
 const noNumbers = () => ({
   timestamps: undefined, timestampOffset: undefined, overflow: undefined, isoOrder: undefined, strict: undefined, exact: undefined,
-  missingOffset: undefined, unit: undefined, refusals: undefined, maxLineBytes: undefined,
+  missingOffset: undefined, unit: undefined, refusals: undefined, maxRefusals: undefined, maxLineBytes: undefined,
 });
 const NO_OPTIONS = noNumbers();
 
@@ -263,9 +279,9 @@ function offsetOption(value) {
   throw new TypeError("timestampOffset has to be an integer, less than 86400 either way");
 }
 
-function sizeOption(value) {
+function sizeOption(value, name) {
   if (Number.isInteger(value) && value >= 0) return value;
-  throw new TypeError("maxLineBytes has to be an integer, and not negative");
+  throw new TypeError(`${name} has to be an integer, and not negative`);
 }
 
 function listOption(value) {
@@ -281,7 +297,7 @@ function isPlain(it) {
 function optionOf(value, name) {
   if (name === "timestampOffset") return offsetOption(value);
   if (name === "refusals") return listOption(value);
-  if (name === "maxLineBytes") return sizeOption(value);
+  if (name === "maxLineBytes" || name === "maxRefusals") return sizeOption(value, name);
   return choiceOf(value, CHOICES[name], name);
 }
 
@@ -297,10 +313,11 @@ function numbersOf(options, names) {
     numbers[name] = optionOf(value, name);
   }
   if (Object.getOwnPropertySymbols(options).length > 0) throw new TypeError("a symbol is no option");
-  const { timestamps, timestampOffset, strict } = numbers;
+  const { timestamps, timestampOffset, strict, refusals, maxRefusals } = numbers;
   if (strict === 1 && timestamps !== undefined) throw new TypeError("strict and timestamps exclude each other");
   const isOffsetAlone = timestampOffset !== undefined && timestamps === undefined && names.includes("timestamps");
   if (isOffsetAlone) throw new TypeError("timestampOffset needs timestamps");
+  if (maxRefusals !== undefined && refusals === undefined) throw new TypeError("maxRefusals needs refusals");
   return numbers;
 }
 
@@ -447,7 +464,7 @@ const DURATION = {
 };
 const ALL_KINDS = [DATE, TIME, DATE_TIME, DURATION];
 const WITH_DATE = [DATE, DATE_TIME];
-const WITH_OFFSET = [TIME, DATE_TIME];
+const HAS_OFFSET = [TIME, DATE_TIME];
 const JUST = { date: [DATE], dateTime: [DATE_TIME], duration: [DURATION] };
 
 /** A value of one of these kinds as it was given: its kind, and its fields, whose names mostly come in their order. */
@@ -502,13 +519,10 @@ function check(it, place) {
 // Each reader has a function of its own, which takes the short way for a short string without options: an engine compiles a
 // function for what it has seen there, and here it sees one reader.
 
+const OF_DATE_TIME = ["strict", "timestamps", "timestampOffset", "overflow"];
 const OPTIONS_OF = {
-  date: ["timestamps"], time: ["strict", "overflow"], dateTime: ["strict", "timestamps", "timestampOffset", "overflow", "missingOffset"],
-  duration: ["overflow", "isoOrder"], dateFront: [], front: ["overflow"], dateColumn: ["timestamps", "refusals", "maxLineBytes"],
-  dateTimeColumn: ["strict", "timestamps", "timestampOffset", "overflow", "missingOffset", "unit", "refusals", "maxLineBytes"],
-  dateTimeClockColumn: ["strict", "timestamps", "timestampOffset", "overflow", "unit", "refusals", "maxLineBytes"],
-  dateTimeOffsetColumn: ["strict", "timestamps", "timestampOffset", "overflow", "refusals", "maxLineBytes"],
-  timeColumn: ["strict", "overflow", "unit", "refusals", "maxLineBytes"], timeOffsetColumn: ["strict", "overflow", "refusals", "maxLineBytes"],
+  date: ["timestamps"], time: ["strict", "overflow"], dateTime: [...OF_DATE_TIME, "missingOffset"], duration: ["overflow", "isoOrder"],
+  dateFront: [], front: ["overflow"], column: ["refusals", "maxRefusals", "maxLineBytes"],
 };
 
 // Each writes the value, or the part for which the text is refused. A line of a column is a text too, at another address.
@@ -526,24 +540,25 @@ function callDateTime(library, size, it, text = address.text) {
   const lax = it.strict === 1 ? inC.speedate_datetime_parse_or_part_strict : inC.speedate_datetime_parse_or_part_text;
   const parse = it.timestamps !== undefined ? inC.speedate_datetime_parse_or_part : lax;
   const code = parse(text, size, putConfig(library, it), address.out, address.part);
-  return code === 0 && it.missingOffset !== undefined ? withOffset(library, size, it) : code;
+  if (it.missingOffset === undefined) return code;
+  if (it.missingOffset === MISSING.error) library.view.setInt32(PART.kind, kindOf(KINDS.instant, it), true);
+  return code === 0 ? withOffset(library, size, it) : code;
 }
 /** The code of a date-time that was read. Without an offset it gets that of UTC, or is refused, at its end. */
-function withOffset({ view }, size, numbers) {
+function withOffset({ view }, size, { missingOffset }) {
   const at = PLACE.out + 4;
   if (offsetOf(view, at) !== null) return 0;
-  if (numbers.missingOffset === MISSING.error) {
+  if (missingOffset === MISSING.error) {
     view.setBigUint64(PART.place, size, true);
     view.setBigUint64(PART.end, size, true);
-    view.setInt32(PART.kind, kindOf(KINDS.dateTime, numbers), true);
     return CODE.tzRequired;
   }
   view.setUint8(at + 3, 1);
   view.setInt32(at + 8, 0, true);
   return 0;
 }
-const callDuration = (library, size, it) =>
-  library.calls.speedate_duration_parse_or_part(address.text, size, putConfig(library, it), address.out, address.part);
+const callDuration = (library, size, it, text = address.text) =>
+  library.calls.speedate_duration_parse_or_part(text, size, putConfig(library, it), address.out, address.part);
 const callDateFront = ({ calls }, size) =>
   calls.speedate_date_parse_or_part_front(address.text, size, address.out, address.taken, address.part);
 const callTimeFront = (library, size, it) =>
@@ -719,13 +734,16 @@ export function schema(kind, options) {
 
 // ---- Columns ----
 
+/** The number of a line that is refused. */
+const SMALLEST = -(2n ** 63n);
 /** The milliseconds of the microseconds at this place: the nearest double, or NaN of a line that is refused. */
 function millisecondsAt(view, at) {
   const microseconds = view.getInt32(at + 4, true) * 2 ** 32 + view.getUint32(at, true);
   if (Number.isSafeInteger(microseconds)) return microseconds / 1000;
-  if (microseconds === -(2 ** 63)) return NaN;
   const exact = view.getBigInt64(at, true);
-  return Number(exact / 1000n) + Number(exact % 1000n) / 1000;
+  const milliseconds = Number(exact / 1000n);
+  if (Number.isSafeInteger(milliseconds)) return milliseconds + Number(exact % 1000n) / 1000;
+  return exact === SMALLEST ? NaN : Number(`${exact}e-3`);
 }
 
 /** How the numbers of a column are handed out. One takes as many bytes as in C. */
@@ -733,10 +751,10 @@ const INTEGERS = { Numbers: Int32Array, numberAt: (view, at) => view.getInt32(at
 const MILLISECONDS = { Numbers: Float64Array, numberAt: millisecondsAt };
 const MICROSECONDS = { Numbers: BigInt64Array, numberAt: (view, at) => view.getBigInt64(at, true) };
 
-/** A column of which pieces come: how it is read, and a line of it alone, of which kind, how many lines it had, what it has of an
- * unfinished one, as so many bytes of an array, and half a pair that ended a string. */
+/** A column of which pieces come: how it is read, and a line of it alone, of which kind, how many lines it had, and how many were
+ * refused, what it has of an unfinished one, as so many bytes of an array, and half a pair that ended a string. */
 const columnOf = (name, callLine, kinds, handedOut, numbers) =>
-  ({ name, callLine, kind: kindOf(kinds, numbers), ...handedOut, numbers, lines: 0, unfinished: new Uint8Array(0), size: 0, half: "", hasEnded: false });
+  ({ name, callLine, kind: kindOf(kinds, numbers), ...handedOut, numbers, lines: 0, refused: 0, unfinished: new Uint8Array(0), size: 0, half: "", hasEnded: false });
 
 /** Adds bytes to what is unfinished. The array doubles, so that many small pieces take no more room than a large one. */
 function addUnfinished(column, bytes) {
@@ -805,7 +823,7 @@ function readLines(column, isEnd, parts, refusals) {
     const error = view.getInt32(COLUMN.progress + 16, true);
     if (error !== 0) {
       const index = column.lines + lines;
-      throw Object.assign(new SpeedateError(faultOf(error, column.kind)), { ...partOfLine(library, next, end, column), index });
+      throw Object.assign(new SpeedateError(faultOf(error, column.kind)), { ...partOfLine(library, next, end, column, error), index });
     }
     parts.push(numbersIn(view, lines, column));
     if (hasErrors) addRefusals(refusals, bytes.subarray(COLUMN.errors, COLUMN.errors + lines), column);
@@ -822,21 +840,23 @@ function numbersIn(view, lines, { Numbers, numberAt }) {
   return numbers;
 }
 
-/** Adds the refusals among the next lines of a column. */
-function addRefusals(refusals, errors, { kind, lines }) {
+/** Adds the refusals among the next lines of a column, as long as it may have more. */
+function addRefusals(refusals, errors, column) {
+  const { kind, lines, numbers: { maxRefusals = Infinity } } = column;
   for (let i = 0; i < errors.length; i++) {
-    if (errors[i] === 0) continue;
+    if (errors[i] === 0 || ++column.refused > maxRefusals) continue;
     refusals.push({ index: lines + i, ...faultOf(errors[i], kind) });
   }
 }
 
-/** The part for which the line is refused that ends a column, in bytes. What a column alone refuses lacks an offset, at its end. */
-function partOfLine(library, at, textEnd, { callLine, numbers }) {
+/** The part for which the line is refused that ends a column, in bytes. What a column alone refuses lacks an offset, at its end, or
+ * is too long a duration. */
+function partOfLine(library, at, textEnd, { callLine, numbers }, error) {
   const { bytes, view } = library;
   const feed = bytes.subarray(at, textEnd).indexOf(LINE_FEED);
   const end = feed < 0 ? textEnd : at + feed;
   const size = (end > at && bytes[end - 1] === CARRIAGE_RETURN ? end - 1 : end) - at;
-  if (callLine(library, BigInt(size), numbers, BigInt(library.start + at)) === 0) return { place: size, end: size };
+  if (callLine(library, BigInt(size), numbers, BigInt(library.start + at)) === 0) return { place: error === CODE.tzRequired ? size : 0, end: size };
   return { place: view.getUint32(PART.place, true), end: view.getUint32(PART.end, true) };
 }
 
@@ -878,22 +898,28 @@ function concatenated(parts, Numbers) {
 
 /** What begins a column by its options: its call in C, that of one line, the kinds of its lines, the options that it has, and how
  * its numbers are handed out. */
-const beginner = (name, callLine, kinds, names, handedOutBy) => (options) => {
-  const numbers = numbersOf(options, names);
+const beginner = (name, callLine, kindsBy, names, handedOutBy) => (options) => {
+  const numbers = numbersOf(options, [...names, ...OPTIONS_OF.column]);
   start();
-  return columnOf(name, callLine, kinds, handedOutBy(numbers), numbers);
+  return columnOf(name, callLine, kindsBy(numbers), handedOutBy(numbers), numbers);
 };
 const asIntegers = () => INTEGERS;
 const inUnit = ({ unit }) => (unit === 1 ? MICROSECONDS : MILLISECONDS);
-const newDateColumn = beginner("date_column", callDate, KINDS.date, OPTIONS_OF.dateColumn, asIntegers);
-const newDateTimeColumn = beginner("datetime_column", callDateTime, KINDS.dateTime, OPTIONS_OF.dateTimeColumn, inUnit);
-const newDateTimeClockColumn = beginner("datetime_clock_column", callDateTime, KINDS.dateTime, OPTIONS_OF.dateTimeClockColumn, inUnit);
-const newDateTimeOffsetColumn = beginner("datetime_offset_column", callDateTime, KINDS.dateTime, OPTIONS_OF.dateTimeOffsetColumn, asIntegers);
-const newTimeColumn = beginner("time_column", callTime, KINDS.time, OPTIONS_OF.timeColumn, inUnit);
-const newTimeOffsetColumn = beginner("time_offset_column", callTime, KINDS.time, OPTIONS_OF.timeOffsetColumn, asIntegers);
+const always = (it) => () => it;
+const instantOrUtc = ({ missingOffset }) => (missingOffset === MISSING.utc ? KINDS.dateTime : KINDS.instant);
+const newDateColumn = beginner("date_column", callDate, always(KINDS.date), OPTIONS_OF.date, asIntegers);
+const newDateTimeColumn = beginner("datetime_column", callDateTime, instantOrUtc, [...OPTIONS_OF.dateTime, "unit"], inUnit);
+const newDateTimeClockColumn = beginner("datetime_clock_column", callDateTime, always(KINDS.dateTime), [...OF_DATE_TIME, "unit"], inUnit);
+const newDateTimeOffsetColumn = beginner("datetime_offset_column", callDateTime, always(KINDS.instant), OF_DATE_TIME, asIntegers);
+const newTimeColumn = beginner("time_column", callTime, always(KINDS.time), [...OPTIONS_OF.time, "unit"], inUnit);
+const newTimeOffsetColumn = beginner("time_offset_column", callTime, always(KINDS.offset), OPTIONS_OF.time, asIntegers);
+const newDurationColumn = beginner("duration_column", callDuration, always(KINDS.duration), [...OPTIONS_OF.duration, "unit"], inUnit);
 const readerOf = (column) => ({
   read: (text) => readPiece(column, text, false),
   end: (text = "") => readPiece(column, text, true),
+  get refused() {
+    return column.refused;
+  },
 });
 
 export function dateColumn(text, options) {
@@ -914,6 +940,9 @@ export function timeColumn(text, options) {
 export function timeOffsetColumn(text, options) {
   return readPiece(newTimeOffsetColumn(options), text, true);
 }
+export function durationColumn(text, options) {
+  return readPiece(newDurationColumn(options), text, true);
+}
 export function dateColumnReader(options) {
   return readerOf(newDateColumn(options));
 }
@@ -931,6 +960,9 @@ export function timeColumnReader(options) {
 }
 export function timeOffsetColumnReader(options) {
   return readerOf(newTimeOffsetColumn(options));
+}
+export function durationColumnReader(options) {
+  return readerOf(newDurationColumn(options));
 }
 
 // ---- Timestamps ----
@@ -1061,7 +1093,7 @@ export function totalSeconds(duration) {
 }
 
 export function inTimezone(value, offsetSeconds) {
-  const it = given(value, "value", WITH_OFFSET);
+  const it = given(value, "value", HAS_OFFSET);
   const offset = integer32(offsetSeconds, "offsetSeconds");
   acceptOf(it.kind.calls.inTimezone(putFirst(it), offset, address.out), it);
   return it.kind.read(kept);

@@ -17,7 +17,7 @@ const source = (name) => readFileSync(`${root}/${name}`, "utf8");
 /** What the page to try shows by its address and after each step of a visitor; what is wrong with how it looks and is reached,
  * which should be nothing; the calls that it shows; and the least milliseconds in which it shows what a typed text is: the
  * machine may be busy. */
-async function visit({ SAID, MARKED, OFFERED, GUESSED }) {
+async function visit({ SAID, MARKED, OFFERED, GUESSED, TABLES }) {
   const form = document.forms[0];
   const [nav, options, main, status] = ["nav", "details", "main", "[role=status]"].map((it) => document.querySelector(it));
   const sleep = (milliseconds) => new Promise((resolve) => setTimeout(resolve, milliseconds));
@@ -85,8 +85,34 @@ async function visit({ SAID, MARKED, OFFERED, GUESSED }) {
     return [...told, shown().replace(/, .*/, "")];
   });
   form.reset();
+  let copied;
+  Object.defineProperty(navigator, "clipboard", { value: { writeText: async (it) => (copied = it) } });
+  const tableShown = () => [
+    main.querySelector("h2").textContent, all(".languages button", (it) => (it.getAttribute("aria-pressed") === "true" ? `[${it.textContent}]` : it.textContent)).join(),
+    ...all("tbody tr", (row) => Array.from(row.cells, (it) => it.textContent).join(" | ")),
+  ];
+  const tables = TABLES.map(([text, fields, clicked]) => {
+    form.reset();
+    for (const [name, value] of Object.entries(fields)) form[name].value = value;
+    type(text);
+    for (const it of clicked) all("section button", (it) => it).find(({ textContent }) => textContent.startsWith(it)).click();
+    all(".copy", (it) => it.click());
+    return [text, fields, clicked, tableShown(), all("p > button", (it) => it.textContent).join(), copied];
+  });
+  form.reset();
+  const many = Array.from({ length: 10000 }, (_, i) => (i % 1000 ? `2020-02-29T12:13:${10 + (i % 50)}.5+01:00` : `line ${i}`)).join("\n");
+  const leastOfMany = Math.min(...[1, 2, 3, 4].map(() => type(many)));
+  const rowsShown = () => [main.querySelector("h2").textContent, all("tbody tr", (it) => it).length];
+  const press = (name) => all("section button", (it) => it).find((it) => it.textContent.startsWith(name)).click();
+  const ofMany = [rowsShown()];
+  for (const name of ["Show more", "Only refused", "Only refused"]) press(name), ofMany.push(rowsShown());
+  press("Copy as CSV");
+  ofMany.push([copied.split("\r\n").length, copied.split("\r\n").at(-2)]);
+  await sleep(450);
+  ofMany.push(location.hash);
   const least = Math.min(...Array.from(typed, (_, i) => type(typed.slice(0, i + 1))));
-  steps.push(changes, main.querySelector(".said").textContent, all(".said span, dd span", (it) => `${it.className} ${it.textContent}`).join("|"));
+  changes = 0;
+  steps.push(main.querySelector(".said").textContent, all(".said span, dd span", (it) => `${it.className} ${it.textContent}`).join("|"));
   await sleep(900);
   steps.push(changes, location.search + location.hash, status.textContent);
   type("12:13");
@@ -98,15 +124,17 @@ async function visit({ SAID, MARKED, OFFERED, GUESSED }) {
   type("");
   await sleep(900);
   steps.push(main.textContent, status.textContent);
-  // What is pasted, and what a link has, may have the end of a line. A key gives none.
-  const link = nav.appendChild(Object.assign(document.createElement("a"), { href: "#text=2020%0D%0A-02-29" }));
+  // What a link has may be a carriage return. A key ends a line only where the text has lines.
+  const link = nav.appendChild(Object.assign(document.createElement("a"), { href: "#text=2020%0D-02-29" }));
   link.click();
   link.remove();
   steps.push(shown(), main.querySelector("code").textContent, form.text.getBoundingClientRect().height > 50);
-  type("2020-02\n-29");
-  const enter = new InputEvent("beforeinput", { inputType: "insertLineBreak", bubbles: true, cancelable: true });
-  form.text.dispatchEvent(enter);
-  steps.push(shown(), main.querySelector("code").textContent, enter.defaultPrevented);
+  for (const it of ["2020-02-29", "2020-02\n-29"]) {
+    type(it);
+    const enter = new InputEvent("beforeinput", { inputType: "insertLineBreak", bubbles: true, cancelable: true });
+    form.text.dispatchEvent(enter);
+    steps.push(enter.defaultPrevented);
+  }
 
   const wrong = [];
   const has = (holds, what) => holds || wrong.push(what);
@@ -125,7 +153,7 @@ async function visit({ SAID, MARKED, OFFERED, GUESSED }) {
       const { borderBottomWidth, borderBottomColor } = getComputedStyle(mark);
       has(parseFloat(borderBottomWidth) >= 2 && 1.05 / (light(borderBottomColor) + 0.05) >= 3, `${name}: the line of ${mark.textContent}`);
       const { left, right, width, height } = mark.getBoundingClientRect();
-      const line = mark.closest(".why").getBoundingClientRect();
+      const line = mark.closest(".why, td").getBoundingClientRect();
       has(width >= 8 && height >= 12 && left >= line.left && right <= line.right + 0.5, `${name}: ${mark.textContent} from ${left} to ${right}`);
     }
   };
@@ -159,7 +187,7 @@ async function visit({ SAID, MARKED, OFFERED, GUESSED }) {
     for (const it of all("dd", (it) => it)) has(it.scrollWidth <= it.clientWidth, `${name}: ${it.textContent} in one line`);
     for (const section of all("section", (it) => it)) {
       const languages = section.querySelector("[role=group]");
-      if (languages === null) continue;
+      if (languages === null || section.querySelector("table") !== null) continue;
       const value = section.querySelector("dd:last-child").textContent;
       const [copy] = Array.from(section.querySelectorAll("button")).slice(-1);
       has(copy.textContent === "Copy" && !languages.contains(copy), "a button that copies, and is no language");
@@ -181,7 +209,7 @@ async function visit({ SAID, MARKED, OFFERED, GUESSED }) {
   }
   type("12:1x");
   has(nav.querySelector("[aria-current]") === null, "no example is marked if none is chosen");
-  report({ width: innerWidth, steps, marks, offers, guesses, wrong, calls, least });
+  report({ width: innerWidth, steps, marks, offers, guesses, tables, ofMany, wrong, calls, least, leastOfMany });
 }
 /** Texts, and what the page says of each. */
 const SAID = {
@@ -251,6 +279,7 @@ const OFFERED = [
   ["2020-02-29 ", {}, ["Not a date: spaces and line ends around it are not read: drop them"], "Options", "Date: 2020-02-29"],
   ["\n 12:13:14Z\n", { strict: true }, ["Not a time: spaces and line ends around it are not read: drop them"], "Options, strict: true", "Time: 12:13:14Z"],
   ["2021-02-29 ", {}, [], "Options", "Not a date: out_of_range_day"],
+  ["2020-02-29T12:13", { missingOffset: "error" }, ["Not a date-time: an offset is required: allow none"], "Options", "Date-time: 2020-02-29T12:13:00"],
 ];
 /** Texts in other forms: the titles, what may be meant, what else is said, and what is shown first after a click. */
 const GUESSED = [
@@ -267,9 +296,34 @@ const GUESSED = [
   ["30.02.2020", {}, "Not one of the four kinds", "", "", "Not one of the four kinds: invalid_char_year"],
   ["never", {}, "Not a date", "", "", "Not a date: too_short"],
 ];
+/** Texts of several lines with options, what is clicked, the table, what is offered, and what is copied. */
+const TABLES = [
+  ["2020-02-29\n2021-02-29\r\n12:13\n", {}, [], [
+    "1 of 3 lines is a date", "[Dates: 1],Times: 1,Date-times: 0,Durations: 1",
+    "1 | 2020-02-29 | 2020-02-29", "2 | 2021-02-29 | expected a day that the month has, from character 9 on", "3 | 12:13 | expected a date: YYYY-MM-DD, at the end",
+  ], "", "line,text,value,fault,place,end,expected\r\n1,2020-02-29,2020-02-29,,,,\r\n2,2021-02-29,,out_of_range_day,8,10,a day that the month has\r\n3,12:13,,too_short,5,5,a date: YYYY-MM-DD\r\n"],
+  ["12:13\n2021-02-29", {}, ["Durations", "Only refused"], [
+    "1 of 2 lines is a duration", "Dates: 0,Times: 1,Date-times: 0,[Durations: 1]", "2 | 2021-02-29 | expected digits of the hours, then a colon, at character 5",
+  ], "", "line,text,value,fault,place,end,expected\r\n1,12:13,PT12H13M,,,,\r\n2,2021-02-29,,invalid_char_hour,4,5,\"digits of the hours, then a colon\"\r\n"],
+  ["29.02.2020\n\n2 days, \"x\"", {}, [], [
+    "0 of 3 lines are dates", "[Dates: 0],Times: 0,Date-times: 0,Durations: 0",
+    "1 | 29.02.2020 | expected four digits of the year, at characters 1 to 4. A guess of this page: 2020-02-29", "2 |  | expected a date: YYYY-MM-DD, at the end",
+    "3 | 2 days, \"x\" | expected four digits of the year, at characters 1 to 4",
+  ], "", "line,text,value,fault,place,end,expected\r\n1,29.02.2020,,invalid_char_year,0,4,four digits of the year\r\n2,,,too_short,0,0,a date: YYYY-MM-DD\r\n3,\"2 days, \"\"x\"\"\",,invalid_char_year,0,4,four digits of the year\r\n"],
+  ["2020-02-29T12:13\n2020-02-29T12:13:14.1234567Z", { missingOffset: "error" }, [], [
+    "0 of 2 lines are date-times", "Dates: 0,Times: 0,[Date-times: 0],Durations: 0",
+    "1 | 2020-02-29T12:13 | expected an offset: Z or +01:00, at the end", "2 | 2020-02-29T12:13:14.1234567Z | expected at most six digits of a second's fraction, at character 27",
+  ], "an offset is required: allow none", "line,text,value,fault,place,end,expected\r\n1,2020-02-29T12:13,,tz_required,16,16,an offset: Z or +01:00\r\n2,2020-02-29T12:13:14.1234567Z,,second_fraction_too_long,26,27,at most six digits of a second's fraction\r\n"],
+  ["P999999999D\nPT1M\n", {}, [], ["All 2 lines are durations", "Dates: 0,Times: 0,Date-times: 0,[Durations: 2]", "1 | P999999999D | P2739726Y9D", "2 | PT1M | PT1M"], "",
+    "line,text,value,fault,place,end,expected\r\n1,P999999999D,P2739726Y9D,,,,\r\n2,PT1M,PT1M,,,,\r\n"],
+];
+const OF_MANY = [
+  ["9,990 of 10,000 lines are date-times", 100], ["9,990 of 10,000 lines are date-times", 1100], ["9,990 of 10,000 lines are date-times", 10], ["9,990 of 10,000 lines are date-times", 100],
+  [10002, "10000,2020-02-29T12:13:59.5+01:00,2020-02-29T12:13:59.500000+01:00,,,,"], "",
+];
 const STEPS = [
   "Not a date: out_of_range_day, Date-time: out_of_range_day, Duration: invalid_char_hour, Time: invalid_char_time_sep",
-  "../docs/GRAMMAR.md#fault-out_of_range_day",
+  "grammar.html#fault-out_of_range_day",
   true,
   "2021-02-29",
   "Duration: PT1H30M, Date: too_short, Time: invalid_char_hour, Date-time: too_short",
@@ -281,7 +335,6 @@ const STEPS = [
   "Thursday, 1 January 1970, 00:00:01, 0:01:30 east of UTC: 23:58:31 UTC on the day before",
   ...Object.values(SAID),
   "A year counts as 365 days, a month as 30.", "", "", "",
-  0,
   "Saturday, 29 February 2020, 12:13:14.5, 1:30 east of UTC: 10:43:14.5 UTC",
   "date Saturday, 29 February 2020|time 12:13:14.5|offset 1:30 east of UTC|date 2020-02-29|time 12:13:14.5|offset +01:30|date 2020-02-29|time 12:13:14.500000|offset +01:30",
   1,
@@ -293,11 +346,8 @@ const STEPS = [
   "Type a text, or choose an example.",
   "",
   "Not a date: invalid_char_date_sep, Date-time: invalid_char_date_sep, Duration: invalid_char_hour, Time: invalid_char_time_sep",
-  "2020U+000DU+000A-02-29",
-  true,
-  "Not a date: invalid_char_date_sep, Date-time: invalid_char_date_sep, Duration: invalid_char_hour, Time: invalid_char_time_sep",
-  "2020-02U+000A-29",
-  true,
+  "2020U+000D-02-29",
+  true, true, false,
 ];
 
 /** The rows, the examples and the drawn texts. */
@@ -323,7 +373,7 @@ async function readAll() {
 async function askNothing() {
   const form = document.forms[0];
   const before = await (await fetch("asked")).json();
-  for (const it of ["2020-02-29", "secret", "P1D\n"]) {
+  for (const it of ["2020-02-29", "secret", "secret\nPT1M", "P1D\n"]) {
     form.text.value = it;
     form.text.dispatchEvent(new Event("input", { bubbles: true }));
     await new Promise((resolve) => setTimeout(resolve, 400));
@@ -359,7 +409,7 @@ files["served.html"] = `${source("out/try.html")}${reporting}<script type="modul
 files["all.html"] = `<!DOCTYPE html>${reporting}
   <script type="importmap">{ "imports": { "speedate": "./speedate.js", "node:assert/strict": "./shim.mjs", "node:fs": "./shim.mjs" } }</script>
   <script type="module">(${readAll})()</script>`;
-writeFileSync("try.html", `${source("out/try.html")}${reporting}<script type="module">(${visit})(${JSON.stringify({ SAID: Object.keys(SAID), MARKED: Object.keys(MARKED), OFFERED, GUESSED })})</script>`);
+writeFileSync("try.html", `${source("out/try.html")}${reporting}<script type="module">(${visit})(${JSON.stringify({ SAID: Object.keys(SAID), MARKED: Object.keys(MARKED), OFFERED, GUESSED, TABLES })})</script>`);
 writeFileSync("frames.html", `<!DOCTYPE html><body><script>
   const frames = [[320, "try.html#text=2021-02-29"], [360, "try.html#text=2021-02-29"], [1280, "try.html#text=2021-02-29"], [100, "http://127.0.0.1:${port}/all.html"], [100, "http://127.0.0.1:${port}/served.html#text=secret"]];
   const add = ([width, src]) => document.body.append(Object.assign(document.createElement("iframe"), { width, src, height: 800 }));
@@ -384,9 +434,10 @@ assert.deepEqual(all.drawn, { ...readDrawn(), wrong: [] });
 assert.deepEqual(all.without, WITHOUT);
 assert.equal(all.handedOver, "PT1H30M");
 for (const [i, width] of [320, 360, 1280].entries()) {
-  const { calls, least, ...others } = visits[i];
-  assert.deepEqual(others, { width, steps: STEPS, marks: Object.values(MARKED), offers: OFFERED, guesses: GUESSED, wrong: [] });
+  const { calls, least, leastOfMany, ...others } = visits[i];
+  assert.deepEqual(others, { width, steps: STEPS, marks: Object.values(MARKED), offers: OFFERED, guesses: GUESSED, tables: TABLES, ofMany: OF_MANY, wrong: [] });
   assert.ok(least < 16, `what is typed is shown after ${least} milliseconds`);
+  assert.ok(leastOfMany < 100, `10,000 lines are shown after ${leastOfMany} milliseconds`);
 }
 
 // ---- The calls that the page shows: those of JavaScript give the value, those of C are compiled, the others have names that are there ----
@@ -409,6 +460,6 @@ for (const [code] of of("Python"))
     assert.match(inPython, new RegExp(called ? `\\b(def|class) ${called}\\b` : `\\b${named}: `), code);
 const inRust = readdirSync(`${root}/rust/src`).map((it) => source(`rust/src/${it}`)).join("");
 for (const [code] of of("Rust").filter(([it]) => !it.startsWith("//")))
-  for (const [word] of code.replace(/"[^"]*"|^let \w+|&?\bconfig\b/gm, "").matchAll(/[A-Za-z]\w+/g)) assert.match(inRust, new RegExp(`\\b${word}\\b`), code);
+  for (const [word] of code.replace(/"[^"]*"|\/\/.*|^let \w+|&?\bconfig\b/gm, "").matchAll(/[A-Za-z]\w+/g)) assert.match(inRust, new RegExp(`\\b${word}\\b`), code);
 console.log(`${engine}: the page, the rows and the drawn texts${all.temporal === "undefined" ? "" : ", these beside Temporal too"}`);
 process.exit();

@@ -7,7 +7,8 @@ import { setFlagsFromString } from "node:v8";
 import { runInNewContext } from "node:vm";
 import {
   dateColumn, dateColumnReader, dateTimeClockColumn, dateTimeClockColumnReader, dateTimeColumn, dateTimeColumnReader, dateTimeFromTimestamp, dateTimeOffsetColumn,
-  dateTimeOffsetColumnReader, daysBetween, epochMilliseconds, inTimezone, parseDate, parseDateTime, safeParseDate, safeParseDateTime, safeParseTime, SpeedateError, timeColumn,
+  dateTimeOffsetColumnReader, daysBetween, durationColumn, durationColumnReader, epochMilliseconds, inTimezone, parseDate, parseDateTime, safeParseDate, safeParseDateTime,
+  safeParseDuration, safeParseTime, SpeedateError, timeColumn,
   timeColumnReader, timeOffsetColumn, timeOffsetColumnReader, toDate,
 } from "speedate";
 
@@ -43,11 +44,22 @@ function lacksOffset(line) {
   return { ...refusal, place: line.length, end: line.length };
 }
 
+/** A refusal of a column that requires an offset, by the call that requires none: its phrase names no text without one. */
+function namesOffset({ expected, ...refusal }, safeParse, { strict }) {
+  if (refusal.fault === "too_short") return { ...refusal, expected: safeParse("", { strict: true }).expected };
+  return { ...refusal, expected: refusal.fault === "invalid_char_tz_sign" && !strict ? TZ_REQUIRED.expected : expected };
+}
+
 /** What a line has in a column of date-times. */
 function moment(line, { missingOffset, unit, refusals, ...options }) {
   const { ok, value, ...refusal } = safeParseDateTime(Buffer.from(line), options);
   const refused = { number: unit === "us" ? TOO_FEW_MICROSECONDS : NaN };
-  if (!ok) return { ...refused, refusal };
+  if (!ok && missingOffset === "utc") return { ...refused, refusal };
+  if (!ok) {
+    const its = namesOffset(refusal, safeParseDateTime, options);
+    assert.deepEqual(safeParseDateTime(Buffer.from(line), { ...options, missingOffset: "error" }), { ok: false, ...its }, line);
+    return { ...refused, refusal: its };
+  }
   if (value.offsetSeconds === null && missingOffset !== "utc") {
     const refusal = lacksOffset(line);
     assert.deepEqual(safeParseDateTime(line, { ...options, missingOffset: missingOffset ?? "error" }), { ok: false, ...refusal }, line);
@@ -69,10 +81,22 @@ const clockBy = (safeParse, date) => (line, { unit, refusals, ...options }) => {
 /** What a line has in a column of offsets, by the call of its text. */
 const offsetBy = (safeParse) => (line, { refusals, ...options }) => {
   const { ok, value, ...refusal } = safeParse(Buffer.from(line), options);
-  if (!ok) return { number: SMALLEST, refusal };
+  if (!ok) return { number: SMALLEST, refusal: namesOffset(refusal, safeParse, options) };
   if (value.offsetSeconds !== null) return { number: value.offsetSeconds };
   return { number: SMALLEST, refusal: lacksOffset(line) };
 };
+
+const TOO_LARGE = { fault: "number_too_large", code: 97, message: "the number of a line does not fit 64 bits", expected: "a duration of less than 2^63 microseconds", place: 0 };
+/** What a line has in a column of durations. */
+function length(line, { unit, refusals, ...options }) {
+  const { ok, value, ...refusal } = safeParseDuration(Buffer.from(line), options);
+  const refused = { number: unit === "us" ? TOO_FEW_MICROSECONDS : NaN };
+  if (!ok) return { ...refused, refusal };
+  const seconds = BigInt(value.days) * 86400n + BigInt(value.seconds);
+  const microseconds = seconds * 1000000n + BigInt(value.milliseconds * 1000 + value.microseconds);
+  if (microseconds >= 2n ** 63n || microseconds <= TOO_FEW_MICROSECONDS) return { ...refused, refusal: { ...TOO_LARGE, end: line.length } };
+  return { number: inUnit(microseconds, unit) };
+}
 
 const asIntegers = () => Int32Array;
 const byUnit = ({ unit }) => (unit === "us" ? BigInt64Array : Float64Array);
@@ -120,6 +144,10 @@ const DATE_TIMES = [
 const TIMES = [
   "0#:1#", "1#:2#:3#", "2#:5#:0#.######", "1#:2#:3#.#######Z", "0#:0#:0#,5+0#:##", "1#:2#:3#\u22121#:3#", "1#:2#:3#.######-1#:3#", "2#:##Z", "12:13:14Z", "", "x", "12:13 PM",
 ];
+const DURATIONS = [
+  "P1DT2H", "-PT#M", "PT0.######S", "-PT#####.######S", "0#:1#", "-1#:2#:3#.#######", "2 days, 1#:1#", "P1D1Y", "P#Y#M#D", "P10675199#D", "-P106751991DT4H54.77580#S", "P105######DT4H54.77####S", "P999999999D",
+  "", "x", "1 day, 24:00", "P1D\u2212",
+];
 const LINE_ENDS = ["\n", "\n", "\n", "\r\n", "\r\r\n", "\n\n", "\r"];
 const anyOf = (choices) => Object.fromEntries(Object.entries(choices).map(([name, all]) => [name, one(all)]).filter(([, it]) => it !== undefined));
 const OVERFLOW = { overflow: [undefined, "error", "truncate"] };
@@ -147,6 +175,7 @@ const KINDS = [
   },
   { column: timeColumn, newReader: timeColumnReader, of: clockBy(safeParseTime, EPOCH), Numbers: byUnit, forms: TIMES, drawn: () => anyOf({ ...STRICT, ...UNIT }) },
   { column: timeOffsetColumn, newReader: timeOffsetColumnReader, of: offsetBy(safeParseTime), Numbers: asIntegers, forms: TIMES, drawn: () => anyOf(STRICT) },
+  { column: durationColumn, newReader: durationColumnReader, of: length, Numbers: byUnit, forms: DURATIONS, drawn: () => anyOf({ isoOrder: [undefined, "lax", "strict"], ...OVERFLOW, ...UNIT }) },
 ];
 const refusedOnes = KINDS.map(() => 0);
 const acceptedOnes = KINDS.map(() => 0);
@@ -201,7 +230,7 @@ const DAYS_TEXT = "2020-02-29\r\n\n2021-02-29\n1969-12-31\n\r\n0000-01-01\n";
 const TIMES_TEXT = "12:13:14.5Z\r\n\n24:00\n12:13\u221201:00\r\n\r\n00:00:00.000001+23:59";
 for (const [kind, text, options] of [
   [KINDS[0], DAYS_TEXT, {}], [KINDS[1], TEXT, {}], [KINDS[1], `${TEXT}\n`, { unit: "us" }], [KINDS[1], `${TEXT}\r\n`, { overflow: "truncate" }],
-  [KINDS[2], TEXT, {}], [KINDS[3], TEXT, {}], [KINDS[4], TIMES_TEXT, { unit: "us" }], [KINDS[5], TIMES_TEXT, {}],
+  [KINDS[2], TEXT, {}], [KINDS[3], TEXT, {}], [KINDS[4], TIMES_TEXT, { unit: "us" }], [KINDS[5], TIMES_TEXT, {}], [KINDS[6], "PT1.5S\r\n\nP999999999D\n-00:01\u2212\r\n1 day", {}],
 ]) {
   const bytes = Buffer.from(text);
   const { first, ...whole } = expected(kind, text, options);
@@ -328,6 +357,25 @@ for (const [maxLineBytes, size, index] of [[20, 20], [20, 21, 0], [0, 0], [0, 1,
   const reader = dateColumnReader({ maxLineBytes: 10 });
   for (let i = 0; i < 10; i++) assert.equal(reader.read("1970-01-02\n1970-01").length + reader.read("-02\n").length, 2);
   assert.throws(() => reader.read("1970-01-02\n1970-01-020"), { name: "LineTooLong", index: 21 });
+}
+for (const [maxRefusals, listed] of [[0, []], [1, [1]], [2, [1, 2]], [4, [1, 2, 4, 5]], [9, [1, 2, 4, 5]], [undefined, [1, 2, 4, 5]]]) {
+  // What is not listed is refused and counted too.
+  const lines = ["1970-01-02", "x", "y", "1970-01-04", "z", "x"];
+  const refusals = [];
+  const reader = dateColumnReader({ refusals, maxRefusals });
+  const numbers = [...reader.read(lines.slice(0, 2).join("\n") + "\n"), ...reader.read(lines.slice(2, 5).join("\n")), ...reader.end(`\n${lines[5]}`)];
+  assert.deepEqual([numbers, refusals.map((it) => it.index), reader.refused], [[1, SMALLEST, SMALLEST, 3, SMALLEST, SMALLEST], listed, 4]);
+  const all = [];
+  assert.deepEqual([...dateColumn(lines.join("\n"), { refusals: all, maxRefusals })], numbers);
+  assert.deepEqual(all, refusals);
+}
+{
+  const before = held();
+  const refusals = [];
+  const reader = dateTimeColumnReader({ refusals, maxRefusals: 100 });
+  for (let i = 0; i < 50; i++) reader.read("\n".repeat(100000));
+  assert.deepEqual([refusals.length, refusals.at(-1).index, reader.refused], [100, 99, 5000000]);
+  assert.ok(held() < before + 100, "what is not listed takes no room");
 }
 assert.equal(thrown(() => dateColumn(Buffer.alloc(2 ** 28, "0"))).index, 0);
 // What is collected is given back a little later.

@@ -35,7 +35,7 @@ const ofDuration = [duration, [...noValue, date, time, dateTime]];
 const ofDateTime = [dateTime, [...noValue, date, time, duration]];
 const ofMove = [[dateTime, [...noValue, time, duration]], ofDuration];
 const ofColumn = [["", noText], [undefined, noOptions]];
-const columns = ["dateColumn", "dateTimeColumn", "dateTimeClockColumn", "dateTimeOffsetColumn", "timeColumn", "timeOffsetColumn"];
+const columns = ["dateColumn", "dateTimeColumn", "dateTimeClockColumn", "dateTimeOffsetColumn", "timeColumn", "timeOffsetColumn", "durationColumn"];
 const CALLS = {
   ...Object.fromEntries(readers.map((it) => [it, [["x", noText], [undefined, noOptions]]])),
   dateFromTimestamp: ofTimestamp, timeFromTimestamp: ofTimestamp, dateTimeFromTimestamp: ofTimestamp,
@@ -116,15 +116,16 @@ for (const name of readers) {
 }
 assert.throws(() => parseDateTime("x", { strict: true, timestamps: "s" }), /strict and timestamps/);
 assert.throws(() => parseDateTime("x", { timestampOffset: 0 }), /timestampOffset/);
-const OF_COLUMNS = { maxLineBytes: ["1", -1, 0.5, NaN, Infinity, 1n, null], missingOffset: OPTIONS.missingOffset[1], unit: ["", "s", "MS", 0, null], refusals: [true, null, 0, "", {}, { length: 0 }, new Set()] };
+const noSizes = ["1", -1, 0.5, NaN, Infinity, 1n, null];
+const OF_COLUMNS = { maxLineBytes: noSizes, maxRefusals: noSizes, missingOffset: OPTIONS.missingOffset[1], unit: ["", "s", "MS", 0, null], refusals: [true, null, 0, "", {}, { length: 0 }, new Set()] };
+const OF_DATE_TIMES = ["timestamps", "overflow", "strict", "timestampOffset"];
 const columnOptions = {
-  dateColumn: ["timestamps", "refusals", "maxLineBytes"], dateTimeColumn: ["timestamps", "overflow", "strict", "timestampOffset", ...Object.keys(OF_COLUMNS)],
-  dateTimeClockColumn: ["timestamps", "overflow", "strict", "timestampOffset", "unit", "refusals", "maxLineBytes"],
-  dateTimeOffsetColumn: ["timestamps", "overflow", "strict", "timestampOffset", "refusals", "maxLineBytes"],
-  timeColumn: ["overflow", "strict", "unit", "refusals", "maxLineBytes"], timeOffsetColumn: ["overflow", "strict", "refusals", "maxLineBytes"],
+  dateColumn: ["timestamps"], dateTimeColumn: [...OF_DATE_TIMES, "missingOffset", "unit"], dateTimeClockColumn: [...OF_DATE_TIMES, "unit"], dateTimeOffsetColumn: OF_DATE_TIMES,
+  timeColumn: ["overflow", "strict", "unit"], timeOffsetColumn: ["overflow", "strict"], durationColumn: ["overflow", "isoOrder", "unit"],
 };
 assert.deepEqual(Object.keys(columnOptions), columns);
-for (const [name, has] of Object.entries(columnOptions)) {
+for (const [name, its] of Object.entries(columnOptions)) {
+  const has = [...its, "refusals", "maxRefusals", "maxLineBytes"];
   for (const option of Object.keys({ ...OPTIONS, ...OF_COLUMNS, exact: [] })) {
     const isNamed = (error) => error instanceof TypeError && error.message.includes(option);
     const besides = option === "timestampOffset" && has.includes(option) ? { timestamps: "s" } : {};
@@ -137,6 +138,7 @@ for (const [name, has] of Object.entries(columnOptions)) {
 assert.throws(() => speedate.dateTimeColumn("", { strict: true, timestamps: "s" }), /strict and timestamps/);
 assert.throws(() => speedate.dateTimeColumn("", { timestampOffset: 0 }), /timestampOffset/);
 assert.throws(() => speedate.dateTimeOffsetColumn("", { strict: true, timestamps: "s" }), /strict and timestamps/);
+assert.throws(() => speedate.dateColumn("", { maxRefusals: 1 }), /maxRefusals needs refusals/);
 assert.throws(() => speedate.dateTimeClockColumn("", { timestampOffset: 0 }), /timestampOffset/);
 
 // ---- A missing offset ----
@@ -205,6 +207,11 @@ for (const [call, text, options, expected] of [
   ["DateTime", "2020-02-29 12:13:14Z", { strict: true }, "T or t, then a time"],
   ["DateTime", "1x", { timestamps: "s" }, "a date-time, as YYYY-MM-DDTHH:MM:SS, or a number"],
   ["DateTime", "2020-02-29T12:13", { missingOffset: "error" }, "an offset: Z or +01:00"],
+  ["DateTime", "2020-02-29T12:13 Z", { missingOffset: "error" }, "an offset: Z or +01:00"],
+  ["DateTime", "2020-02-29T12:13 Z", { missingOffset: "utc" }, "after the clock at most an offset: Z or +01:00"],
+  ["DateTime", "2020-2-9", { missingOffset: "error" }, "a date-time with an offset, as YYYY-MM-DDTHH:MM:SSZ"],
+  ["DateTime", "1x", { timestamps: "s", missingOffset: "error" }, "a date-time with an offset, as YYYY-MM-DDTHH:MM:SSZ"],
+  ["DateTime", "2020-02-29 12:13:14Z", { strict: true, missingOffset: "error" }, "T or t, then a time"],
   ["DateTimeFront", "2020-02-29", undefined, "T, t, _ or a space, then a time"],
   ["Duration", "1 day, 24:00", undefined, "hours: up to 23 after days, or 10 digits up to 2,400,000,000"],
 ]) {
@@ -213,8 +220,19 @@ for (const [call, text, options, expected] of [
 }
 assert.equal(thrown(() => toDate({ ...dateTime, offsetSeconds: null })).expected, "a value that has an offset");
 assert.equal(thrown(() => addDays({ year: 9999, month: 12, day: 31 }, 1)).expected, "a date in the years 0000 to 9999");
-for (const [read, text] of [[speedate.dateTimeColumn, "2020-02-29T12:13"], [speedate.dateTimeOffsetColumn, "2020-02-29T12:13"], [speedate.timeOffsetColumn, "12:13"]])
-  assert.equal(thrown(() => read(text)).expected, "an offset: Z or +01:00");
+const { dateTimeColumn, dateTimeClockColumn, dateTimeOffsetColumn, timeColumn, timeOffsetColumn } = speedate;
+const inAnyForm = ["a date-time: YYYY-MM-DDTHH:MM or YYYY-MM-DDTHH:MM:SS", "a time: HH:MM or HH:MM:SS"];
+const withOffset = ["a date-time with an offset, as YYYY-MM-DDTHH:MM:SSZ", "a time with an offset: HH:MM:SSZ or HH:MM:SS+01:00"];
+for (const [read, text, phrase] of [
+  [dateTimeColumn, "2020-02-29T12:13", withOffset[0]], [dateTimeOffsetColumn, "2020-02-29T12:13", withOffset[0]], [timeOffsetColumn, "12:13", withOffset[1]],
+  [(text) => dateTimeColumn(text, { missingOffset: "utc" }), undefined, inAnyForm[0]], [dateTimeClockColumn, undefined, inAnyForm[0]], [timeColumn, undefined, inAnyForm[1]],
+]) {
+  assert.equal(thrown(() => read("x")).expected, phrase);
+  if (text) for (const it of [text, `${text} Z`]) assert.equal(thrown(() => read(it)).expected, "an offset: Z or +01:00");
+}
+assert.deepEqual(thrown(() => speedate.durationColumn("PT1S\nP106751992D")).toJSON(), {
+  name: "SpeedateError", message: "the number of a line does not fit 64 bits", fault: "number_too_large", code: 97, expected: "a duration of less than 2^63 microseconds", place: 0, end: 11, index: 1,
+});
 {
   const refusals = [];
   speedate.dateTimeColumn("2020-02-29 12:13Z\nx", { strict: true, refusals });
@@ -485,22 +503,20 @@ assert.throws(() => bare.parseDate("2020-02-29"), { constructor: Error, message:
 assert.throws(() => bare.init({}), TypeError);
 bare.init(new Module(readFileSync(require.resolve("speedate/speedate.wasm"))));
 assert.deepEqual([bare.parseDate("2020-02-29"), bare.format(bare.parseDuration("PT90M"))], [date, "PT1H30M"]);
-const inside = readFileSync(require.resolve("speedate/speedate.wasm")).toString("base64");
-for (const [name, count] of [["bare.js", 1], ["speedate.cjs", 1], ["speedate.js", 2]])
-  assert.equal(readFileSync(`node_modules/speedate/${name}`, "utf8").split(inside).length, count, `${name} has the module, or has it not`);
+for (const [name, isInside] of [["bare.js", false], ["speedate.cjs", false], ["speedate.js", true]])
+  assert.equal(/compiledOf\(decoded\("[^"]{100000}/.test(readFileSync(`node_modules/speedate/${name}`, "utf8")), isInside, `${name} has the module, or has it not`);
 WebAssembly.Module = Module;
 const { WebAssembly: there } = globalThis;
 delete globalThis.WebAssembly;
 const without = await copy("without");
 assert.throws(() => without.parseDate("2020-02-29"), { constructor: Error, message: /^speedate needs WebAssembly with BigInt and bulk memory \(Node 20/ });
 globalThis.WebAssembly = there;
-for (const fromBase64 of [undefined, (text) => Uint8Array.from(Buffer.from(text, "base64"))]) {
-  const { fromBase64: own } = Uint8Array;
-  Uint8Array.fromBase64 = fromBase64;
-  assert.deepEqual((await copy(`base64${fromBase64}`)).parseDate("2020-02-29"), date);
-  if (own) Uint8Array.fromBase64 = own;
-  else delete Uint8Array.fromBase64;
-}
+// The module that is inside is the file.
+const compiled = [];
+WebAssembly.Module = class { constructor(bytes) { compiled.push(Buffer.from(bytes)); throw new Error("not compiled"); } };
+assert.throws(() => without.parseDate("2020-02-29"), { message: /^speedate needs WebAssembly/ });
+WebAssembly.Module = Module;
+assert.ok(compiled[0].equals(readFileSync(require.resolve("speedate/speedate.wasm"))));
 
 // ---- The documents of the package: each link leads to a place in one of them ----
 

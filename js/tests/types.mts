@@ -89,6 +89,15 @@ const uses: Record<keyof typeof speedate, unknown> = {
     ((it: BigInt64Array): bigint => it[0])(speedate.timeColumnReader({ unit: "us" }).end("12:13")),
   ],
   timeOffsetColumnReader: ((it: Int32Array): number => it[0])(speedate.timeOffsetColumnReader({ strict: true }).end("12:13:14Z")),
+  durationColumn: [
+    ((it: Float64Array): number => it[0])(speedate.durationColumn("PT1S", { isoOrder: "strict", overflow: "truncate", unit: "ms" })),
+    ((it: BigInt64Array): bigint => it[0])(speedate.durationColumn(bytes, { unit: "us", refusals, maxRefusals: 1 })),
+  ],
+  durationColumnReader: [
+    ((it: Float64Array): number => it.length)(speedate.durationColumnReader().read(new Uint8Array(0))),
+    ((it: BigInt64Array): bigint => it[0])(speedate.durationColumnReader({ unit: "us" }).end("PT1S")),
+    same<number, speedate.ColumnReader<Int32Array>["refused"]>(true, speedate.durationColumnReader().refused),
+  ],
   dateFromTimestamp: same<SpeedateDate, ReturnType<typeof speedate.dateFromTimestamp>>(true, speedate.dateFromTimestamp(1n, "s", { exact: false })),
   timeFromTimestamp: same<SpeedateTime, ReturnType<typeof speedate.timeFromTimestamp>>(true, speedate.timeFromTimestamp(1, "us", { timestampOffset: 0 })),
   dateTimeFromTimestamp: same<SpeedateDateTime, ReturnType<typeof speedate.dateTimeFromTimestamp>>(true, speedate.dateTimeFromTimestamp(1n, "infer", { timestampOffset: 0 })),
@@ -148,6 +157,8 @@ const refused = [
   // @ts-expect-error
   () => speedate.timeColumn("", { timestamps: "s" }),
   // @ts-expect-error
+  () => speedate.durationColumn("", { strict: true }),
+  // @ts-expect-error
   () => speedate.dateTimeColumn(["2020-02-29T12:13Z"]),
   // @ts-expect-error
   () => speedate.dateTimeColumnReader({ refusals: true }),
@@ -180,7 +191,7 @@ declare const unit: "ms" | "us" | undefined;
 export const unions = () => [
   same<Float64Array | BigInt64Array, ReturnType<typeof ofUnion>>(true, ofUnion()),
   speedate.dateTimeClockColumn("", { unit }), speedate.timeColumn("", { unit }), speedate.dateTimeClockColumnReader({ unit }).end(),
-  speedate.timeColumnReader({ unit }).end(), speedate.dateTimeColumnReader({ unit, maxLineBytes: 100 }).end(),
+  speedate.timeColumnReader({ unit }).end(), speedate.durationColumn("", { unit }), speedate.durationColumnReader({ unit }).end(), speedate.dateTimeColumnReader({ unit, maxLineBytes: 100 }).end(),
 ];
 const ofUnion = () => speedate.dateTimeColumn("", { unit });
 
@@ -197,4 +208,6 @@ export const unsaid = [
   (it: Answer<SpeedateDate>) => it.place,
   // @ts-expect-error
   (it: LineRefusal) => it.place,
+  // @ts-expect-error
+  (it: speedate.ColumnReader<Int32Array>) => (it.refused = 1),
 ];
