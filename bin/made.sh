@@ -4,8 +4,27 @@
 
 . "$root/bin/at_end.sh"
 
-# What the program and the C functions stand on, lowest first.
+# What the programs and the C functions stand on, lowest first.
 libraries='speedate_base speedate_civil speedate'
+
+# is_listed CRATE: whether it is among the crates.
+is_listed() {
+    grep -q "^$1:" "$root/crates.txt"
+}
+
+# What the programs stand on besides, and the programs.
+engine=
+programs=speedate_lines
+! is_listed speedate_stream || engine=speedate_stream
+! is_listed speedate_cli || programs='speedate_lines speedate'
+
+# crate_of PROGRAM: prints the crate of a program.
+crate_of() {
+    case $1 in
+    speedate) echo speedate_cli ;;
+    *) echo "$1" ;;
+    esac
+}
 
 say() {
     echo "$name: $1" >&2
