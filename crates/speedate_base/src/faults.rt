@@ -13,16 +13,16 @@ use std::fmt;
 /// Why a text or a number was refused. Every refusal has exactly one of these, and `docs/GRAMMAR.md`
 /// has an example of each.
 ///
-/// It is printed by its snake-case name, as `too_short` for `TooShort`. There is no `Hash`; the name
-/// serves as a key, since no two errors have the same.
+/// It is printed by its snake-case name, as `too_short` for `TooShort`. It does not implement
+/// `Hash`; the name serves as a key, since no two errors have the same.
 #[derive(Clone, Copy, Debug, PartialEq, Eq)]
 pub enum ParseError {
     /// The text ends before what it must hold.
     TooShort,
     /// Bytes are left over after a whole value.
     ExtraCharacters,
-    /// No separator stands between date and time: `T`, `t`, a space or `_`; for the strict parsers `T` or
-    /// `t`.
+    /// The byte between date and time is not a separator: `T`, `t`, a space or `_`; for the strict
+    /// parsers `T` or `t`.
     InvalidCharDateTimeSep,
     /// A `-` is missing between year, month and day.
     InvalidCharDateSep,
@@ -59,11 +59,11 @@ pub enum ParseError {
     /// An offset is missing: of a value that is to be moved to another one, or of a text for the strict
     /// parsers.
     TzRequired,
-    /// The clock has no moment to tell, as one that stands before 1970.
+    /// The clock returns no moment, for example because it is before 1970.
     SystemTimeError,
     /// The month is not 1 to 12.
     OutOfRangeMonth,
-    /// The month has no such day.
+    /// The month does not have this day.
     OutOfRangeDay,
     /// The hour is over 23.
     OutOfRangeHour,

@@ -1,8 +1,8 @@
-//! What the parsers and printers of the library stand on: the errors, the configurations, whole
+//! What the parsers and printers of the library are built on: the errors, the configurations, whole
 //! numbers and decimals, digits and bytes at places of a text, the instants of timestamps, and the
 //! rounding of fractions.
 //!
-//! A crate that parses dates or times needs `speedate` alone, which gives the errors, the
+//! A crate that parses dates or times needs only `speedate`, which exports the errors, the
 //! configurations and the numbers. Use this crate to parse or print other forms.
 #![tactic(auto)]
 

@@ -38,7 +38,7 @@ pub fn int_parse_bytes(bytes: &[u8]) -> Option<i64>
     ensures answer { result ≡ whole_number bytes.now }
 {
     let (negative, start) = sign(bytes);
-    // A text of words shows here that it is no number.
+    // Most texts that are not numbers are refused here.
     if !byte_at(bytes, start).is_ascii_digit() {
         return None;
     }
@@ -51,7 +51,7 @@ fn signed_number(negative: bool, digits: &[u8]) -> Option<i64>
     ensures value { result ≡ (if run_length digits.now 0 == length digits.now
         then signed_answer negative (digits_value digits.now) else None) }
 {
-    // Digits of which the first is no zero fit only if they are few. This calls nothing, so that short
+    // Digits without zeros in front fit only if they are few. This calls nothing, so that short
     // numbers save no registers for a call.
     let digits = without_zeros(digits);
     if digits.len() > MOST_DIGITS {
@@ -66,10 +66,10 @@ fn signed_number(negative: bool, digits: &[u8]) -> Option<i64>
 /// The number that a text is: `IntFloat::Int(12)` for `"12"`, the decimal of the digits `1` and `50`
 /// for `"-1.50"`, `IntFloat::Err` for `"1.5e3"`.
 ///
-/// A whole number is one that [`int_parse_str`] parses. A decimal is one optional `+` or `-`, digits,
-/// one `.` and digits, with a digit on one side at least. There is no exponent and no float: a
-/// [`Decimal`] borrows its digits from the text, so it is exact at any length. Any other text, and a
-/// whole number that does not fit an `i64`, is `Err`.
+/// A whole number is one that [`int_parse_str`] parses. A decimal is one optional `+` or `-`,
+/// digits, one `.` and digits, with a digit on one side at least. There are no exponents and no
+/// floats: a [`Decimal`] borrows its digits from the text, so it is exact at any length. Any other
+/// text, and a whole number that does not fit an `i64`, is `Err`.
 #[inline(always)]
 pub fn float_parse_str(text: &str) -> IntFloat<'_>
     ensures answer { number_value result ≡ number_answer text.now }
@@ -86,7 +86,7 @@ pub fn float_parse_bytes(bytes: &[u8]) -> IntFloat<'_>
     ensures joined { JoinsToFloat result bytes.now }
 {
     let (negative, start) = sign(bytes);
-    // A text of words shows here that it is no number.
+    // Most texts that are not numbers are refused here.
     if !may_begin_digits(byte_at(bytes, start)) {
         return IntFloat::Err;
     }
@@ -99,8 +99,8 @@ pub fn float_parse_bytes(bytes: &[u8]) -> IntFloat<'_>
     }
 }
 
-/// Whether a byte is a digit, `.` or `/`. No number begins with `/`, but it stands between the others, so
-/// that one comparison tells them.
+/// Whether a byte is a digit, `.` or `/`. No number begins with `/`, but it lies between the
+/// others, so that one comparison finds them.
 #[inline(always)]
 fn may_begin_digits(byte: u8) -> bool
     ensures { result ≡ (nat_le full_stop byte && nat_le byte (digit 9)) }

@@ -1,9 +1,9 @@
-//! What a parser answers to a text that it refuses: the error alone, or with its place.
+//! What a parser answers to a text that it refuses: only the error, or the error with its place.
 
 use crate::faults::ParseError;
 
 /// What a parser answers to a text that it refuses, by the error and the byte at which it lies: for
-/// `b"2020-13-01"` either `OutOfRangeMonth` alone, or the same with byte 5.
+/// `b"2020-13-01"` either `OutOfRangeMonth`, or the same with byte 5.
 pub trait Refusal: Copy {
     ghost use Rattle.std.specs.Prelude.{◌≡◌, ◌≤◌, ℕ};
     ghost use Rattle.speedate_base.specs.Requirement.{ParseError};
@@ -17,8 +17,8 @@ pub trait Refusal: Copy {
     // The error of a refusal.
     ghost fault_of: { Self → ParseError };
 
-    /// The refusal with this error at this byte: `OutOfRangeMonth` for that error and byte 5, if the
-    /// refusal is the error alone.
+    /// The refusal with this error at this byte: `OutOfRangeMonth` for that error and byte 5, if
+    /// the refusal is only the error.
     fn refuse_at(fault: ParseError, place: usize) -> Self
         ensures refusal { result ≡ refusal fault place }
         ensures within { (size : ℕ) → place ≤ size → lies_within size result };
@@ -95,8 +95,8 @@ impl Refused {
 
     /// The place of a refusal, and none of a value: 5 for `OutOfRangeMonth` at byte 5.
     ///
-    /// If the answer is that of a table, and then of the table of a part that begins at a byte, it is the
-    /// place of the first row, of both tables in this order, that does not hold.
+    /// If the answer comes from a table, and then from the table of a part that begins at a byte,
+    /// it is the place of the first row, of both tables in this order, that does not hold.
     #[inline(always)]
     pub fn place_of<T: Copy>(answer: Result<T, Refused>) -> Option<usize>
         ensures place { result ≡ refused_place answer }

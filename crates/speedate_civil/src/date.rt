@@ -25,8 +25,8 @@ use text::TEXT_LENGTH;
 /// constant where it is used. Both are written as in Rust:
 /// `const NEW_YEAR: Date = Date { year: 2020, month: 1, day: 1 };`.
 ///
-/// `<` and [`Date::cmp`] order dates. There is no `Hash`; [`Date::day_number`] serves as a key, since
-/// no two dates have the same.
+/// `<` and [`Date::cmp`] order dates. It does not implement `Hash`; [`Date::day_number`] serves as
+/// a key, since no two dates have the same.
 #[derive(Clone, Copy, Debug, PartialEq, Eq)]
 pub struct Date {
     /// The year, 0 to 9999.
@@ -40,8 +40,8 @@ pub struct Date {
     pub ghost day_in_range: { IsInRange 1 (month_length year month) day },
 }
 
-/// Whether a year has a 29 February: true for 2020 and 2000, false for 2021 and 1900. The rule is that
-/// of RFC 3339, appendix C, for any year.
+/// Whether a year has a 29 February: true for 2020 and 2000, false for 2021 and 1900. The rule is
+/// RFC 3339, appendix C, for any year.
 pub fn is_leap_year(year: u16) -> bool
     ensures leap { result ≡ is_leap_year year }
 {
@@ -52,8 +52,8 @@ pub fn is_leap_year(year: u16) -> bool
     }
 }
 
-/// The number of days of a month, 1 to 12, of a year: 29 for 2020 and 2, 30 for 2020 and 4 (RFC 3339
-/// 5.7). It is 31 for a number that is no month.
+/// The number of days of a month, 1 to 12, of a year: 29 for 2020 and 2, 30 for 2020 and 4 (RFC
+/// 3339 5.7). It is 31 for a number that is not a month.
 pub fn month_length(year: u16, month: u8) -> u8
     ensures length { result ≡ month_length year month }
 {
@@ -83,7 +83,7 @@ impl Date {
     ///
     /// - `DateTooLarge` if the year is over 9999;
     /// - `OutOfRangeMonth` if the month is not 1 to 12;
-    /// - `OutOfRangeDay` if the month has no such day.
+    /// - `OutOfRangeDay` if the month does not have this day.
     pub fn new(year: u16, month: u8, day: u8) -> Result<Self, ParseError>
         ensures answer { result gives new_date_answer year month day }
     {

@@ -23,8 +23,8 @@ pub use timestamp::timestamp_instant;
 /// `YYYY-MM-DDTHH:MM:SS`, with the fraction and the offset of its time:
 /// `2020-02-29T12:13:14.500000+01:30`. Display writes this text, whatever width and fill are asked for.
 ///
-/// `==` compares the fields. There is no `<`: [`DateTime::cmp_instant`] orders date-times. There is no
-/// `Hash` either; as a key the fields serve, and the printed text does if offsets are whole minutes.
+/// `==` compares the fields. There is no `<`: [`DateTime::cmp_instant`] orders date-times. Nor does
+/// it implement `Hash`: as a key use the fields, or the printed text if offsets are whole minutes.
 #[derive(Clone, Copy, Debug, PartialEq, Eq)]
 pub struct DateTime {
     /// The date, as a clock at the offset shows it.

@@ -28,8 +28,8 @@ pub(crate) use timezone::clock_shift;
 /// constant where it is used. Both are written as in Rust:
 /// `const NOON: Time = Time { hour: 12, minute: 0, second: 0, microsecond: 0, tz_offset: None };`.
 ///
-/// `==` compares the fields. There is no `<`: [`Time::cmp_instant`] orders times. There is no `Hash`
-/// either; as a key the fields serve, and the printed text does if offsets are whole minutes.
+/// `==` compares the fields. There is no `<`: [`Time::cmp_instant`] orders times. Nor does it
+/// implement `Hash`: as a key use the fields, or the printed text if offsets are whole minutes.
 #[derive(Clone, Copy, Debug, PartialEq, Eq)]
 pub struct Time {
     /// The hour, 0 to 23.

@@ -17,20 +17,20 @@ pub enum CallKind {
     DateOrTimestamp,
     /// It parses times, at the front of a text too.
     Time,
-    /// It parses the times of RFC 3339 alone.
+    /// It parses only times of RFC 3339.
     TimeStrict,
     /// It parses date-times, at the front of a text too.
     DateTime,
     /// It parses date-times and timestamps.
     DateTimeOrTimestamp,
-    /// It parses the date-times of RFC 3339 alone.
+    /// It parses only date-times of RFC 3339.
     DateTimeStrict,
     /// It parses durations.
     Duration,
 }
 
 impl CallKind {
-    /// Whether the call parses the texts of RFC 3339 alone.
+    /// Whether the call parses only texts of RFC 3339.
     fn is_strict(self) -> bool
         ensures is { result ≡ is_strict self }
     {

@@ -75,8 +75,8 @@ impl ParseError {
     }
 }
 
-/// The size of the digits at the front of a text: 2 for `b"24:00"`. It is that of one character if there
-/// are none.
+/// The size of the digits at the front of a text: 2 for `b"24:00"`. It is one character's size if
+/// there are none.
 fn digits_size(text: &[u8]) -> usize
     ensures size { result ≡ digits_size text.now }
     ensures within { result ≤ length text.now }
@@ -85,8 +85,8 @@ fn digits_size(text: &[u8]) -> usize
     if size == 0 { bytes_size(1, text) } else { size }
 }
 
-/// The size of the hours, which a colon ends, at the front of a text: 2 for `b"1x:30"`. It is that of one
-/// character if no colon ends them.
+/// The size of the hours, which a colon ends, at the front of a text: 2 for `b"1x:30"`. It is one
+/// character's size if no colon ends them.
 fn hours_size(text: &[u8]) -> usize
     ensures size { result ≡ hours_size text.now }
     ensures within { result ≤ length text.now }
@@ -97,8 +97,8 @@ fn hours_size(text: &[u8]) -> usize
     }
 }
 
-/// The size of `count` bytes at the front of a text, and of the rest of the character in which they end: 2
-/// for one byte of `b"\xc3\xa9t"`. It is that of the text if that has no more.
+/// The size of `count` bytes at the front of a text, and of the rest of the character in which they
+/// end: 2 for one byte of `b"\xc3\xa9t"`. If the text has no more, it is the text's size.
 fn bytes_size(count: usize, text: &[u8]) -> usize
     requires { count ≤ 4 }
     ensures size { result ≡ bytes_size count text.now }

@@ -143,8 +143,8 @@ pub(crate) fn digits_number(digits: &[u8]) -> u64
 }
 
 /// The number that bytes spell if they are digits, or `u64::MAX` if it is larger; otherwise, as an
-/// error, the place of the first byte that is no digit. It is 120 for `b"120"`, 0 for no bytes, and
-/// place 2 for `b"12.0"`.
+/// error, the place of the first byte that is not a digit. It is 120 for `b"120"`, 0 for no bytes,
+/// and place 2 for `b"12.0"`.
 #[inline(always)]
 pub(crate) fn spelled_number(digits: &[u8]) -> Result<u64, usize>
     ensures answer { result ≡ (if run_length digits.now 0 == length digits.now
@@ -201,7 +201,7 @@ pub(crate) fn are_zeros(digits: &[u8]) -> bool
     digits.is_empty() || zeros_in_front(digits) == digits.len()
 }
 
-/// How many zeros stand at the front of bytes: 3 for `b"00012"`.
+/// The number of zeros at the front of bytes: 3 for `b"00012"`.
 #[inline(always)]
 fn zeros_in_front(bytes: &[u8]) -> usize
     ensures count { result ≡ zeros_length bytes.now }
@@ -258,8 +258,8 @@ pub(crate) fn number_by_eights(digits: &[u8]) -> Result<u64, usize>
     Ok(value)
 }
 
-/// The number that fewer than eight bytes spell if they are digits; otherwise, as an error, the place
-/// of the first byte that is no digit.
+/// The number that fewer than eight bytes spell if they are digits; otherwise, as an error, the
+/// place of the first byte that is not a digit.
 #[tactic(auto, using(crate::proofs::DigitRunLemmas::one_more_digit))]
 pub(crate) fn digit_by_digit(digits: &[u8]) -> Result<u64, usize>
     requires { length digits.now < LANES }
@@ -289,7 +289,7 @@ pub fn two_digits(bytes: &[u8], place: usize) -> Option<u8>
     Some(10 * tens + ones)
 }
 
-/// What a digit stands for, or `None` if the byte is no digit.
+/// The value of a digit, or `None` if the byte is not a digit.
 fn digit(byte: u8) -> Option<u8>
     ensures value { result ≡ (if is_ascii_digit byte then Some (one_digit_value byte) else None) }
 {

@@ -1,4 +1,4 @@
-//! Numbers as they stand in texts.
+//! Numbers as they are written in texts.
 
 ghost use Rattle.std.specs.Prelude.{◌≡◌, ◌+◌, ◌-◌, ◌*◌, ◌^◌, ◌<◌, length, min, IsTrue};
 ghost use Rattle.std.specs.Char.{is_ascii_digit};
@@ -10,9 +10,8 @@ use super::digits::{are_zeros, digits_number, long_run_end};
 /// A decimal of any length: its sign, and the digits before and after its point, borrowed from a text.
 /// The decimal of `"-1.50"` is negative, and has the digits `1` and `50`.
 ///
-/// The type holds digits and nothing else, at least one in all. It stands in place of the `f64`
-/// of the Rust crate: `DateTime::from_decimal_with_config` takes it where that has
-/// `from_float_with_config`.
+/// The type holds digits and nothing else, at least one in all. It replaces the `f64` of the Rust
+/// crate: `DateTime::from_decimal_with_config` takes it where that has `from_float_with_config`.
 #[derive(Clone, Copy, Debug)]
 pub struct Decimal<'a> {
     /// Whether the text begins with `-`.
@@ -30,8 +29,8 @@ impl<'a> Decimal<'a> {
     ghost use Rattle.std.specs.Option.{option_map};
     ghost use Rattle.speedate_base.specs.Numbers.{decimal_value, decimal_of_digits, scaled_decimal};
 
-    /// The decimal of a sign and the digits before and after its point: that of `"-1.50"` for true,
-    /// `b"1"` and `b"50"`. `None` if a byte is no digit, or if there is no digit at all.
+    /// The decimal of a sign and the digits before and after its point, such as `"-1.50"` for true,
+    /// `b"1"` and `b"50"`. `None` if a byte is not a digit, or if there are no digits.
     pub fn new(negative: bool, whole: &'a [u8], fraction: &'a [u8]) -> Option<Self>
         ensures answer { option_map decimal_value result
             ≡ decimal_of_digits

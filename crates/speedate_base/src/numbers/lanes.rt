@@ -82,8 +82,8 @@ fn four_bytes(bytes: &[u8]) -> u64
     u64::from(u32::from_le_bytes([bytes[0], bytes[1], bytes[2], bytes[3]]))
 }
 
-/// How many of eight bytes, from the first on, fit a pattern, in which `0` stands for a digit and any
-/// other byte for itself: 4 for `b"2020/02/"` and the pattern `b"0000-00-"`.
+/// How many of eight bytes, from the first on, fit a pattern, in which `0` means a digit and any
+/// other byte itself: 4 for `b"2020/02/"` and the pattern `b"0000-00-"`.
 #[inline(always)]
 pub fn fit_length(lanes: u8x8, pattern: u8x8) -> usize
     ensures count { result ≡ fit_length pattern lanes }
@@ -94,9 +94,9 @@ pub fn fit_length(lanes: u8x8, pattern: u8x8) -> usize
     (others.to_bitmask().trailing_zeros() as usize).min(LANES)
 }
 
-/// The numbers that each two neighbours spell among the first `count` of eight bytes, which have to fit
-/// the pattern: 20, 2, 20, 0, 0, 2, 20 and 0 for all of `b"2020-02-"`. A byte that is no digit counts
-/// as 0, and so does each byte after the first `count`.
+/// The numbers that each two neighbours spell among the first `count` of eight bytes, which have to
+/// fit the pattern: 20, 2, 20, 0, 0, 2, 20 and 0 for all of `b"2020-02-"`. A byte that is not a
+/// digit counts as 0, and so does each byte after the first `count`.
 #[inline(always)]
 pub fn digit_pairs(lanes: u8x8, pattern: u8x8, count: usize) -> [u8; 8]
     requires some { 1 ≤ count }
@@ -110,19 +110,19 @@ pub fn digit_pairs(lanes: u8x8, pattern: u8x8, count: usize) -> [u8; 8]
     (10 * digits + (digits >> 8)).to_le_bytes()
 }
 
-/// Whether each of sixteen bytes lies between those of two texts at its place: true for
-/// `b"2020-02-29 12:13"` between `b"0000-00-00 00:00"` and `b"9999-19-39t29:59"`. No byte of the first
-/// text is larger than that of the second, which is a condition on the caller.
+/// Whether each of sixteen bytes is between the bytes of two texts at its place: true for
+/// `b"2020-02-29 12:13"` between `b"0000-00-00 00:00"` and `b"9999-19-39t29:59"`. No byte of the
+/// first text is larger than the second's, which is a condition on the caller.
 #[inline(always)]
 pub fn are_between(lanes: u8x16, lowest: u8x16, highest: u8x16) -> bool
     requires { IsTrue (are_at_most lowest highest) }
     ensures between { result ≡ (are_at_most lowest lanes && are_at_most lanes highest) }
 {
-    // How far a byte lies above the lowest one tells both.
+    // How far a byte lies above the lowest one shows both.
     (lanes - lowest).simd_gt(highest - lowest).to_bitmask() == 0
 }
 
-/// How many digits stand at the front of eight bytes: 3 for `b"120.5678"`.
+/// The number of digits at the front of eight bytes: 3 for `b"120.5678"`.
 #[inline(always)]
 pub(crate) fn digits_in_front(lanes: u8x8) -> usize
     ensures count { result ≡ prefix_len is_ascii_digit lanes }

@@ -23,9 +23,9 @@ const DAY_MICROSECONDS: u64 = 86_400_000_000;
 /// How many digits of a fraction are read first.
 const SIXTEEN: usize = 2 * LANES;
 
-/// The nearest microseconds of a fraction of a unit: 500,000 for the digit `5` of a second. The unit is
-/// given by its microseconds. A tie goes to the later microsecond: to the smaller number if the
-/// fraction is that of a negative number.
+/// The nearest microseconds of a fraction of a unit: 500,000 for the digit `5` of a second. The
+/// unit is given by its microseconds. A tie goes to the later microsecond: to the smaller number if
+/// the fraction belongs to a negative number.
 #[tactic(auto, using(crate::proofs::NearestLemmas::nearest_rules))]
 pub fn nearest_microseconds(digits: &[u8], unit: u64, negative: bool) -> u64
     requires digits { IsTrue (list_all is_ascii_digit digits.now) }
@@ -50,7 +50,7 @@ pub fn twice_microseconds(digits: &[u8], unit: u64, up: bool) -> u64
         ≡ quotient up (2 * (digits_value digits.now * unit)) (10 ^ length digits.now) }
     ensures within { result ≤ 2 * unit }
 {
-    // Sixteen digits nearly always tell, however many more there are.
+    // Sixteen digits nearly always decide, however many more there are.
     if digits.len() > SIXTEEN {
         if let Some(twice) = from_sixteen_digits(digits, unit, up) {
             return twice;
@@ -59,7 +59,7 @@ pub fn twice_microseconds(digits: &[u8], unit: u64, up: bool) -> u64
     rounded_by_eights(digits, unit, up)
 }
 
-/// Twice the microseconds of a fraction, if its first sixteen digits tell them: 1 for
+/// Twice the microseconds of a fraction, if its first sixteen digits determine them: 1 for
 /// `b"00000075000000009"` of a second, rounded down. `None` if they depend on the digits after
 /// those, as for `b"33333333333333333"` of three seconds.
 fn from_sixteen_digits(digits: &[u8], unit: u64, up: bool) -> Option<u64>
@@ -99,8 +99,8 @@ fn rest_bounds(digits: &[u8], unit: u64, up: bool) -> (u64, u64)
     (unit.min(1), 2 * unit)
 }
 
-/// Twice the microseconds of sixteen digits, given by the numbers that the first eight and the other
-/// eight spell. `rest` is that of the digits after them.
+/// Twice the microseconds of sixteen digits, given by the numbers that the first eight and the
+/// other eight spell. `rest` belongs to the digits after them.
 #[inline(always)]
 fn sixteen_taken(first: u64, second: u64, rest: u64, unit: u64, up: bool) -> u64
     requires first { first < 100000000 }
@@ -180,8 +180,8 @@ pub(super) fn power_of_ten(exponent: usize) -> u64
     }
 }
 
-/// Twice the microseconds of eight digits that spell a value, where `rest` is that of the digits after
-/// them.
+/// Twice the microseconds of eight digits that spell a value, where `rest` belongs to the digits
+/// after them.
 #[inline(always)]
 #[tactic(auto, using(crate::proofs::NearestLemmas::part_rules))]
 fn digits_taken(value: u64, rest: u64, unit: u64, up: bool) -> u64
@@ -216,7 +216,7 @@ fn quotient_by_halves(value: u64, rest: u64, unit: u64, up: bool) -> u64
     scaled_quotient(value / 10_000, later, unit, 10_000, up)
 }
 
-/// Twice the microseconds of digits that spell a value below the scale, where `rest` is that of the
+/// Twice the microseconds of digits that spell a value below the scale, where `rest` belongs to the
 /// digits after them.
 #[inline(always)]
 #[tactic(auto, using(crate::proofs::NearestLemmas::part_rules))]

@@ -80,10 +80,10 @@ fn year_of_century(day: u32) -> (u32, u32)
     (parts / FOUR_YEARS_DAYS, parts % FOUR_YEARS_DAYS / 4)
 }
 
-/// The date of a day of a year, both counted from 1 March, the years from that of the year -400 on.
+/// The date of a day of a year, both counted from 1 March, the years from -400 on.
 ///
-/// If February had 30 days, a line through the months would tell the month of a day; so the days from
-/// March on are counted as if it had.
+/// If February had 30 days, a line through the months would give the month of a day; so the days
+/// from March on are counted as if it had.
 fn day_of_year(years: u32, day: u32) -> Date
     requires first { (399 ≤ years) × (years ≡ 399 → 306 ≤ day) }
     requires last { (years ≤ 10399) × (years ≡ 10399 → day ≤ 305) }
@@ -109,7 +109,7 @@ fn day_of_year(years: u32, day: u32) -> Date
 
 impl Date {
     /// The number of days from 0000-01-01 to the date: 737,790 for 2020-01-01, and 3,652,424 for
-    /// 9999-12-31, the largest. [`Date::from_day_number`] leads back.
+    /// 9999-12-31, the largest. [`Date::from_day_number`] is the inverse.
     ///
     /// It is the sum of the lengths of the years before the date's year, of the lengths of the months
     /// before its month in that year, and of its day less one.
@@ -133,7 +133,7 @@ impl Date {
     }
 
     /// The date of a day number: 0000-02-29 for 59. It is the date that many days after 0000-01-01.
-    /// `None` if the number is over 3,652,424, that of 9999-12-31.
+    /// `None` if the number is over 3,652,424, which is 9999-12-31.
     pub fn from_day_number(number: u32) -> Option<Self>
         ensures date { option_map ymd result ≡ date_numbered number }
         ensures number { IfSome result (λ date. day_number (ymd date) ≡ number) }
@@ -185,8 +185,8 @@ impl Date {
     }
 
     /// The date a number of days later, or earlier if it is negative: 2020-03-01 for 2020-02-28 and
-    /// 2. `None` if that is before 0000-01-01 or after 9999-12-31. [`Date::days_since`] leads back to
-    /// the number.
+    /// 2. `None` if that is before 0000-01-01 or after 9999-12-31. [`Date::days_since`] returns the
+    /// number again.
     #[inline(always)]
     pub fn checked_add_days(&self, days: i32) -> Option<Self>
         ensures date { option_map ymd result ≡ date_added days (ymd self.now) }
@@ -199,7 +199,7 @@ impl Date {
 
     /// The days from another date to this one: 2 for 2020-03-01 since 2020-02-28. The number is
     /// negative if this date is before the other, and 0 if the two are equal.
-    /// [`Date::checked_add_days`] of the other date leads back to this one.
+    /// [`Date::checked_add_days`] of the other date returns this one.
     pub fn days_since(&self, earlier: &Date) -> i32
         ensures days { result ≡ days_between (ymd earlier.now) (ymd self.now) }
         ensures leads_back { date_added result (ymd earlier.now) ≡ Some (ymd self.now) }

@@ -1,5 +1,4 @@
-//! The order of dates: by year, month and day, which is that of their texts and that of their day
-//! numbers.
+//! The order of dates: by year, month and day, as their texts and their day numbers are.
 
 ghost use Rattle.std.specs.Prelude.{◌≡◌, ◌+◌, ◌*◌, Some};
 ghost use Rattle.std.proofs.Common.{rules};

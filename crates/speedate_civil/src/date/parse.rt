@@ -25,26 +25,26 @@ impl Date {
     /// Parses a date from a text, which may be a timestamp: 2020-02-29 from `"2020-02-29"`, and
     /// 2022-06-07 from `"1654560000"`.
     ///
-    /// A text that is no date but a whole number is the timestamp of a midnight, in seconds if the
-    /// number without its sign is at most 20,000,000,000, otherwise in milliseconds.
+    /// A text that is not a date but a whole number is the timestamp of a midnight, in seconds if
+    /// the number without its sign is at most 20,000,000,000, otherwise in milliseconds.
     ///
     /// # Errors
     ///
-    /// Of a timestamp those of [this table](docs/GRAMMAR.md#timestamps), of any other text those of
-    /// [a date](docs/GRAMMAR.md#date), in the order of the rows.
+    /// For a timestamp the errors of [this table](docs/GRAMMAR.md#timestamps), for any other text
+    /// the errors of [a date](docs/GRAMMAR.md#date), in the order of the rows.
     pub fn parse_str(text: &str) -> Result<Self, ParseError>
         ensures answer { result gives date_or_timestamp TimestampUnit.Infer text.now }
     {
         Self::parse_bytes(text.as_bytes())
     }
 
-    /// Parses a date from bytes, which may be a timestamp: 1970-01-02 from `b"86400"`. The bytes need
-    /// not be text. The forms are those of [`Date::parse_str`].
+    /// Parses a date from bytes, which may be a timestamp: 1970-01-02 from `b"86400"`. The bytes
+    /// need not be text. The forms are as in [`Date::parse_str`].
     ///
     /// # Errors
     ///
-    /// Of a timestamp those of [this table](docs/GRAMMAR.md#timestamps), of any other text those of
-    /// [a date](docs/GRAMMAR.md#date), in the order of the rows.
+    /// For a timestamp the errors of [this table](docs/GRAMMAR.md#timestamps), for any other text
+    /// the errors of [a date](docs/GRAMMAR.md#date), in the order of the rows.
     pub fn parse_bytes(bytes: &[u8]) -> Result<Self, ParseError>
         ensures answer { result gives date_or_timestamp TimestampUnit.Infer bytes.now }
     {
@@ -56,8 +56,8 @@ impl Date {
     ///
     /// # Errors
     ///
-    /// Of a timestamp those of [this table](docs/GRAMMAR.md#timestamps), of any other text those of
-    /// [a date](docs/GRAMMAR.md#date), in the order of the rows.
+    /// For a timestamp the errors of [this table](docs/GRAMMAR.md#timestamps), for any other text
+    /// the errors of [a date](docs/GRAMMAR.md#date), in the order of the rows.
     pub fn parse_str_with_config(text: &str, config: &DateConfig) -> Result<Self, ParseError>
         ensures answer { result gives date_or_timestamp config.now.timestamp_unit text.now }
     {
@@ -69,8 +69,8 @@ impl Date {
     ///
     /// # Errors
     ///
-    /// Of a timestamp those of [this table](docs/GRAMMAR.md#timestamps), of any other text those of
-    /// [a date](docs/GRAMMAR.md#date), in the order of the rows.
+    /// For a timestamp the errors of [this table](docs/GRAMMAR.md#timestamps), for any other text
+    /// the errors of [a date](docs/GRAMMAR.md#date), in the order of the rows.
     #[inline(always)]
     pub fn parse_bytes_with_config(bytes: &[u8], config: &DateConfig) -> Result<Self, ParseError>
         ensures answer { result gives date_or_timestamp config.now.timestamp_unit bytes.now }
@@ -90,7 +90,7 @@ impl Date {
     /// - `InvalidCharYear`, `InvalidCharDateSep`, `InvalidCharMonth`, `InvalidCharDateSep` and
     ///   `InvalidCharDay`, from the left, for the first part that is not digits, or not a `-`;
     /// - `OutOfRangeMonth` if the month is not 1 to 12;
-    /// - `OutOfRangeDay` if the month has no such day;
+    /// - `OutOfRangeDay` if the month does not have this day;
     /// - `ExtraCharacters` if the text has more than ten bytes.
     pub fn parse_str_rfc3339(text: &str) -> Result<Self, ParseError>
         ensures answer { result gives date_answer text.now }
@@ -98,8 +98,8 @@ impl Date {
         Self::parse_bytes_rfc3339(text.as_bytes())
     }
 
-    /// Parses a date from bytes, and no timestamp: 29 February 2020 from `b"2020-02-29"`. The bytes need
-    /// not be text. The form is that of [`Date::parse_str_rfc3339`].
+    /// Parses a date from bytes, and no timestamp: 29 February 2020 from `b"2020-02-29"`. The bytes
+    /// need not be text. The form is as in [`Date::parse_str_rfc3339`].
     ///
     /// # Errors
     ///
@@ -271,8 +271,8 @@ impl FromStr for Date {
     ///
     /// # Errors
     ///
-    /// Of a timestamp those of [this table](docs/GRAMMAR.md#timestamps), of any other text those of
-    /// [a date](docs/GRAMMAR.md#date), in the order of the rows.
+    /// For a timestamp the errors of [this table](docs/GRAMMAR.md#timestamps), for any other text
+    /// the errors of [a date](docs/GRAMMAR.md#date), in the order of the rows.
     fn from_str(text: &str) -> Result<Self, ParseError> {
         Self::parse_str(text)
     }

@@ -20,7 +20,7 @@ impl Date {
     /// The date of a Unix timestamp, in the unit of the configuration: 1969-12-31 for -1, if the date
     /// need not be exact.
     ///
-    /// A timestamp counts from 1970-01-01T00:00:00, with 86,400 seconds in each day. The date is that of
+    /// A timestamp counts from 1970-01-01T00:00:00, with 86,400 seconds in each day. The date is
     /// the day in which it lies.
     ///
     /// # Errors
@@ -51,9 +51,9 @@ impl Date {
         Ok(date)
     }
 
-    /// The Unix timestamp of the date's midnight in UTC, in seconds since 1970-01-01T00:00:00: 86,400
-    /// for 1970-01-02. Each day has 86,400 seconds; the timestamp is negative before 1970.
-    /// [`Date::from_timestamp`], in seconds, leads back.
+    /// The Unix timestamp of the date's midnight in UTC, in seconds since 1970-01-01T00:00:00:
+    /// 86,400 for 1970-01-02. Each day has 86,400 seconds; the timestamp is negative before 1970.
+    /// [`Date::from_timestamp`], in seconds, is the inverse.
     #[tactic(auto, using(speedate_base::proofs::TimestampLemmas::instant_of_seconds))]
     pub fn timestamp(&self) -> i64
         ensures second { result ≡ midnight_second (ymd self.now) }

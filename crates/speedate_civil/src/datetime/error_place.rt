@@ -20,8 +20,8 @@ impl DateTime {
     /// and `None` for a text that it accepts: 17, the second's, for `b"2020-02-29T12:13:60"`.
     ///
     /// It is the place in the row that names the error, of [a date](docs/GRAMMAR.md#date), the
-    /// separator, or [a time](docs/GRAMMAR.md#time), which begins at byte 11. Of a timestamp it is 0,
-    /// but digits past the microsecond have their own.
+    /// separator, or [a time](docs/GRAMMAR.md#time), which begins at byte 11. For a timestamp it is
+    /// 0, except that digits past the microsecond have their own.
     #[inline(always)]
     pub fn error_place(bytes: &[u8], config: &DateTimeConfig) -> Option<usize>
         ensures place { result

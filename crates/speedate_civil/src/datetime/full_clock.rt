@@ -11,7 +11,7 @@ use crate::time::{PureTime, offset_or_utc};
 use speedate_base::numbers::are_between;
 use std::simd::prelude::*;
 
-/// How many bytes are loaded at most: those of a date, a separator, a clock with six digits after its
+/// How many bytes are loaded at most: a date, a separator, a clock with six digits after its
 /// second, a sign, and eight more.
 const FULL_LENGTH: usize = 35;
 

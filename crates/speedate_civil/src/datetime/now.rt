@@ -1,4 +1,4 @@
-//! Date-times and dates of what a clock tells.
+//! Date-times and dates of a clock.
 
 ghost use Rattle.std.specs.Prelude.{◌≡◌, ◌≤◌, Option};
 ghost use Rattle.speedate_base.specs.Requirement.{result_map};
@@ -10,7 +10,7 @@ use speedate_base::config::require_offset;
 use speedate_base::faults::ParseError;
 use speedate_base::util::{LAST_SECOND, UnixTime};
 
-/// A moment that a clock tells: the time since 1970-01-01T00:00:00 in UTC (Unix time).
+/// A moment that a clock returns: the time since 1970-01-01T00:00:00 in UTC (Unix time).
 /// [`DateTime::now_at`] makes a date-time of it. The type holds microseconds of less than a second.
 #[derive(Clone, Copy, Debug, PartialEq, Eq)]
 pub struct Moment {
@@ -71,13 +71,13 @@ impl DateTime {
         DateTime::from_unix_time(time, Some(tz_offset))
     }
 
-    /// The date-time that a clock tells, at an offset in seconds: 1970-01-01T00:00:00Z for a clock that
-    /// tells second 0, and 0. The library reads no clock itself: the first argument is called once, and
-    /// returns a [`Moment`], or `None` if it has none, as before 1970.
+    /// The date-time now, by a clock, at an offset in seconds: 1970-01-01T00:00:00Z if the clock
+    /// returns second 0 and the offset is 0. The library reads no clock itself: the first argument
+    /// is called once, and returns a [`Moment`], or `None` if it has none, as before 1970.
     ///
     /// # Errors
     ///
-    /// `SystemTimeError` if the clock has no moment to tell, and otherwise those of
+    /// `SystemTimeError` if the clock returns no moment, and otherwise the errors of
     /// [`DateTime::now_at`], in its order.
     pub fn now<F: FnOnce() -> Option<Moment>>(clock: F, tz_offset: i32) -> Result<Self, ParseError>
         requires { F.pre clock }
@@ -94,12 +94,12 @@ impl Date {
     ghost use Rattle.speedate_civil.specs.Date.{◌gives◌};
     ghost use Rattle.speedate_civil.specs.DateTime.{today_answer};
 
-    /// The date that a clock tells, at an offset in seconds: 2022-06-08 for a clock that tells second
-    /// 1,654,646,399, and 3,600. The clock is that of [`DateTime::now`].
+    /// The date now, by a clock, at an offset in seconds: 2022-06-08 if the clock returns second
+    /// 1,654,646,399 and the offset is 3,600. The clock is as in [`DateTime::now`].
     ///
     /// # Errors
     ///
-    /// `SystemTimeError` if the clock has no moment to tell, and otherwise those of
+    /// `SystemTimeError` if the clock returns no moment, and otherwise the errors of
     /// [`DateTime::now_at`], in its order.
     pub fn today<F: FnOnce() -> Option<Moment>>(
         clock: F,

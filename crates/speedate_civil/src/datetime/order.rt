@@ -21,9 +21,9 @@ impl DateTime {
     /// less than 2022-01-02T01:00:00+03:00.
     ///
     /// Date-times without offsets compare as their texts do, as bytes. Date-times that all have an
-    /// offset, or that all have none, can be sorted by it: the order is then transitive. Across both it
-    /// is not, as [`Time::cmp_instant`] shows. Date-times with different offsets can be equal here, while
-    /// `==` tells them apart: so this is a call, and no order trait.
+    /// offset, or that all have none, can be sorted by it: the order is then transitive. Across
+    /// both it is not, as [`Time::cmp_instant`] shows. Date-times with different offsets can be
+    /// equal here, while `==` distinguishes them: so this is a call, and not an order trait.
     pub fn cmp_instant(&self, other: &DateTime) -> Ordering
         ensures order { result
             ≡ date_time_instant_order (date_and_time self.now) (date_and_time other.now) }

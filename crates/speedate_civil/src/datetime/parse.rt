@@ -1,4 +1,4 @@
-//! Parsers of date-times: of texts of RFC 3339, relaxed or alone, at the front of a text, and of
+//! Parsers of date-times: of texts of RFC 3339, relaxed or strict, at the front of a text, and of
 //! timestamps.
 
 ghost use Rattle.std.specs.Prelude.{◌≡◌, ◌+◌, ◌≤◌, ◌↔◌, ◌==◌, ◌||◌, ℕ, Err, IfErr, IfOk, IfSome, IsOk, IsTrue, None, Ok, OnOk, drop, length, slice_index, take};
@@ -38,15 +38,17 @@ impl DateTime {
     /// Parses a date-time from a text, which may be a timestamp: 12:13:14 on 29 February 2020 from
     /// `"2020-02-29T12:13:14"`, and midnight on 7 June 2022 from `"1654560000"`.
     ///
-    /// A text that is no date-time but a number, whole or decimal as `"1654560000.5"`, is a Unix
+    /// A text that is not a date-time but a number, whole or decimal as `"1654560000.5"`, is a Unix
     /// timestamp: in seconds if the number without its sign is at most 20,000,000,000, otherwise in
-    /// milliseconds. At most six digits follow the point of seconds, and three that of milliseconds.
+    /// milliseconds. At most six digits follow the point of seconds, and three the point of
+    /// milliseconds.
     ///
     /// # Errors
     ///
-    /// Of a timestamp those of [this table](docs/GRAMMAR.md#timestamps), in the order of its rows. Of
-    /// any other text those of [a date](docs/GRAMMAR.md#date) except `ExtraCharacters`, then
-    /// `InvalidCharDateTimeSep` if no separator follows, then those of [a time](docs/GRAMMAR.md#time).
+    /// For a timestamp the errors of [this table](docs/GRAMMAR.md#timestamps), in the order of its
+    /// rows. For any other text the errors of [a date](docs/GRAMMAR.md#date) except
+    /// `ExtraCharacters`, then `InvalidCharDateTimeSep` if no separator follows, then those of
+    /// [a time](docs/GRAMMAR.md#time).
     #[inline(always)]
     pub fn parse_str(text: &str) -> Result<Self, ParseError>
         ensures answer { result gives date_time_or_timestamp TimestampUnit.Infer Behavior.Error None
@@ -56,8 +58,8 @@ impl DateTime {
         Self::parse_bytes(text.as_bytes())
     }
 
-    /// Parses a date-time from bytes, which may be a timestamp: 1970-01-01T00:00:01 from `b"1"`. The
-    /// bytes need not be text. The forms are those of [`DateTime::parse_str`].
+    /// Parses a date-time from bytes, which may be a timestamp: 1970-01-01T00:00:01 from `b"1"`.
+    /// The bytes need not be text. The forms are as in [`DateTime::parse_str`].
     ///
     /// # Errors
     ///
@@ -75,9 +77,9 @@ impl DateTime {
     /// 1970-01-01T00:00:01+01:00 from `"1"` with the offset 3,600.
     ///
     /// The configuration has the unit of timestamps, their offset, which is attached and shifts
-    /// nothing, and the behavior for digits past the microsecond. `Truncate` drops those of a text, but
-    /// rounds a timestamp to the nearest microsecond. The offset and the unit do not matter to texts of
-    /// a date-time.
+    /// nothing, and the behavior for digits past the microsecond. `Truncate` drops them in a text,
+    /// but rounds a timestamp to the nearest microsecond. The offset and the unit do not matter to
+    /// texts of a date-time.
     ///
     /// # Errors
     ///
@@ -134,13 +136,14 @@ impl DateTime {
     }
 
     /// Parses a date-time from bytes, and no timestamp: 12:13 on 1 January 2020 from
-    /// `b"2020-01-01_12:13"`. The bytes need not be text. The form is that of
+    /// `b"2020-01-01_12:13"`. The bytes need not be text. The form is as in
     /// [`DateTime::parse_str_rfc3339`].
     ///
     /// # Errors
     ///
-    /// Those of [a date](docs/GRAMMAR.md#date) except `ExtraCharacters`, then `InvalidCharDateTimeSep`
-    /// if no separator follows, then those of [a time](docs/GRAMMAR.md#time).
+    /// The errors of [a date](docs/GRAMMAR.md#date) except `ExtraCharacters`, then
+    /// `InvalidCharDateTimeSep` if no separator follows, then those of
+    /// [a time](docs/GRAMMAR.md#time).
     #[inline(always)]
     pub fn parse_bytes_rfc3339(bytes: &[u8]) -> Result<Self, ParseError>
         ensures answer { result gives date_time_answer Behavior.Error bytes.now }
@@ -150,16 +153,16 @@ impl DateTime {
         Self::parse_bytes_rfc3339_with_config(bytes, &TimeConfig::default())
     }
 
-    /// Parses a date-time from bytes, and no timestamp, by a configuration: 12:13:12.123456 on 1 January
-    /// 2020 from `b"2020-01-01T12:13:12.1234567"` with the behavior `Truncate`, which drops the digits
-    /// of a second past the sixth. The bytes need not be text. The form is that of
+    /// Parses a date-time from bytes, and no timestamp, by a configuration: 12:13:12.123456 on 1
+    /// January 2020 from `b"2020-01-01T12:13:12.1234567"` with the behavior `Truncate`, which drops
+    /// the digits of a second past the sixth. The bytes need not be text. The form is as in
     /// [`DateTime::parse_str_rfc3339`]. The offset of the configuration does not matter.
     ///
     /// # Errors
     ///
-    /// Those of [a date](docs/GRAMMAR.md#date) except `ExtraCharacters`, then `InvalidCharDateTimeSep`
-    /// if no separator follows, then those of [a time](docs/GRAMMAR.md#time), where with `Truncate`
-    /// there is no `SecondFractionTooLong`.
+    /// The errors of [a date](docs/GRAMMAR.md#date) except `ExtraCharacters`, then
+    /// `InvalidCharDateTimeSep` if no separator follows, then those of
+    /// [a time](docs/GRAMMAR.md#time), where with `Truncate` there is no `SecondFractionTooLong`.
     #[inline(always)]
     pub fn parse_bytes_rfc3339_with_config(
         bytes: &[u8],
@@ -177,15 +180,16 @@ impl DateTime {
     /// 29 February 2020 in UTC from `b"2020-02-29T12:13:14Z"`. The bytes need not be text.
     ///
     /// It accepts the texts of RFC 3339 and no others, with the two exceptions of
-    /// [`Time::parse_bytes_strict`]. The value is that of
+    /// [`Time::parse_bytes_strict`]. The value is as in
     /// [`DateTime::parse_bytes_rfc3339_with_config`] with this behavior.
     ///
     /// # Errors
     ///
-    /// Those of [a date](docs/GRAMMAR.md#date) except `ExtraCharacters`, then `InvalidCharDateTimeSep`
-    /// if no separator follows, then those of [a time](docs/GRAMMAR.md#time). A text that has none of
-    /// these has the errors of [RFC 3339 alone](docs/GRAMMAR.md#rfc-3339-alone), in the order of its
-    /// rows: `InvalidCharDateTimeSep` if neither `T` nor `t` parts date and time, then those that
+    /// The errors of [a date](docs/GRAMMAR.md#date) except `ExtraCharacters`, then
+    /// `InvalidCharDateTimeSep` if no separator follows, then those of
+    /// [a time](docs/GRAMMAR.md#time). A text that has none of these has the errors of
+    /// [this table](docs/GRAMMAR.md#rfc-3339-alone), in the order of its rows:
+    /// `InvalidCharDateTimeSep` if neither `T` nor `t` parts date and time, then those that
     /// [`Time::parse_bytes_strict`] lists.
     #[inline(always)]
     pub fn parse_bytes_strict(
@@ -207,9 +211,9 @@ impl DateTime {
     ///
     /// # Errors
     ///
-    /// Those of [a date](docs/GRAMMAR.md#date) except `ExtraCharacters`, then `InvalidCharDateTimeSep`
-    /// if no separator follows, then those of [a time](docs/GRAMMAR.md#time) except `InvalidCharTzSign`
-    /// and `ExtraCharacters`.
+    /// The errors of [a date](docs/GRAMMAR.md#date) except `ExtraCharacters`, then
+    /// `InvalidCharDateTimeSep` if no separator follows, then those of
+    /// [a time](docs/GRAMMAR.md#time) except `InvalidCharTzSign` and `ExtraCharacters`.
     #[inline(always)]
     pub fn parse_front(bytes: &[u8], config: &TimeConfig) -> Result<(Self, usize), ParseError>
         ensures answer { result gives_front date_time_front (time_choices config.now).behavior
@@ -349,7 +353,7 @@ pub(super) fn has_separator(bytes: &[u8]) -> bool
 ///
 /// # Errors
 ///
-/// Those of [RFC 3339 alone](docs/GRAMMAR.md#rfc-3339-alone), in the order of the rows.
+/// The errors of [this table](docs/GRAMMAR.md#rfc-3339-alone), in the order of its rows.
 #[inline(always)]
 pub fn require_standard_date_time(text: &[u8]) -> Result<(), ParseError>
     ensures answer { result ≡ first_fault_or (strict_date_time text.now) (Ok tt) }

@@ -22,10 +22,10 @@ impl DateTime {
     /// then the offset if there is one: `2020-02-29T12:13:14.500000+01:30`. It is not allocated;
     /// `.as_str()` is the text.
     ///
-    /// If the offset is absent or whole minutes, the text reads back as the date-time. At the front of a
-    /// text it reads back if and only if what follows is no part of it;
-    /// [`Time::to_text`](crate::time::Time::to_text) says what may follow. Seconds of an offset are not
-    /// printed.
+    /// If the offset is absent or whole minutes, the text reads back as the date-time. At the front
+    /// of a text it parses as itself exactly if the next bytes do not continue it;
+    /// [`Time::to_text`](crate::time::Time::to_text) says what may follow. Seconds of an offset are
+    /// not printed.
     pub fn to_text(&self) -> ArrayString<TEXT_MAX>
         ensures text { result.bytes ≡ date_time_text (date_and_time self.now) }
         ensures reads_back { IsWholeMinutes self.now.time.tz_offset → (config : TimeConfig)

@@ -84,8 +84,8 @@ impl DateTime {
 
     /// The date-time of a decimal Unix timestamp, in the unit of the configuration, to the nearest
     /// microsecond: 1969-12-31T23:59:59.874500 for the decimal of `"-125.5"` in milliseconds. The
-    /// configured offset is attached, and shifts nothing. It stands in place of
-    /// `from_float_with_config` of the Rust crate.
+    /// configured offset is attached, and shifts nothing. It replaces `from_float_with_config` of
+    /// the Rust crate.
     ///
     /// All digits count, however many there are, with either behavior. A tie goes to the later
     /// microsecond. An inferred unit is seconds if the decimal without its sign is at most
@@ -178,8 +178,8 @@ impl DateTime {
 
     /// The second since 1970-01-01T00:00:00 that a clock at the offset shows: 86,400 for
     /// 1970-01-02T00:00:00+01:00. It is a Unix timestamp if the offset is absent or 0; for others
-    /// [`DateTime::timestamp_tz`] is. [`DateTime::from_timestamp_with_config`], in seconds and with the
-    /// microsecond, leads back to a date-time without an offset.
+    /// [`DateTime::timestamp_tz`] is. [`DateTime::from_timestamp_with_config`], in seconds and with
+    /// the microsecond, returns a date-time without an offset again.
     pub fn timestamp(&self) -> i64
         ensures second { result ≡ local_second (date_and_time self.now) }
         ensures least { first_second ≤ℤ result }
@@ -234,7 +234,7 @@ impl DateTime {
 ///
 /// # Errors
 ///
-/// This refusal if they are no number, and otherwise those of
+/// This refusal if they are not a number, and otherwise the errors of
 /// [this table](docs/GRAMMAR.md#timestamps), in the order of its rows.
 #[inline(always)]
 pub fn timestamp_instant<E: Refusal>(
@@ -259,7 +259,8 @@ pub fn timestamp_instant<E: Refusal>(
     Ok(time)
 }
 
-/// Parses the instant of the timestamp that the bytes are. Fails with this refusal if they are no number.
+/// Parses the instant of the timestamp that the bytes are. Fails with this refusal if they are not
+/// a number.
 fn parse_unix_time<E: Refusal>(
     bytes: &[u8],
     refusal: E,

@@ -32,7 +32,7 @@ impl DateTime {
     /// In the order in which they are looked for:
     ///
     /// - `OutOfRangeTz` if the offset is 24 hours or more;
-    /// - `TzRequired` if the date-time has no offset;
+    /// - `TzRequired` if the date-time lacks an offset;
     /// - `DateTooSmall` if that clock shows a date before the year 0000;
     /// - `DateTooLarge` if it shows one after the year 9999.
     pub fn in_timezone(&self, tz_offset: i32) -> Result<Self, ParseError>

@@ -148,7 +148,7 @@ pub fn end_fault(offset: Option<i32>) -> ParseError
     }
 }
 
-/// Whether a byte is `+` or `-`, the neighbours of `,`: one test, and so one branch, tells both.
+/// Whether a byte is `+` or `-`, the neighbours of `,`: one test, and so one branch, finds both.
 #[inline(always)]
 pub(super) fn is_plus_or_minus(byte: u8) -> bool
     ensures value { result ≡ is_plus_or_minus byte }
@@ -234,7 +234,7 @@ fn hour_and_minute<E: Refusal>(front: u8x8, start: usize) -> Result<((u8, u8), u
     hour_then_minute(front, start)
 }
 
-/// The hour, the minute and the length of an offset that has no `:` after the two digits of its hour.
+/// The hour, the minute and the length of an offset without a `:` after the two digits of its hour.
 #[inline(always)]
 fn hour_then_minute<E: Refusal>(front: u8x8, start: usize) -> Result<((u8, u8), usize), E>
     requires start { start + 3 ≤ usize.MAX }

@@ -18,10 +18,10 @@ impl Time {
     /// taken to be one of the same day at its offset.
     ///
     /// Times without offsets compare as their texts do, as bytes. Times that all have an offset, or
-    /// that all have none, can be sorted by it: the order is then transitive. Across both it is not:
-    /// 00:00:00-01:00 is less than 00:30:00, which is less than 01:00:00Z, and the first is equal to the
-    /// last. Times with different offsets can be equal here, while `==` tells them apart: so this is a
-    /// call, and no order trait.
+    /// that all have none, can be sorted by it: the order is then transitive. Across both it is
+    /// not: 00:00:00-01:00 is less than 00:30:00, which is less than 01:00:00Z, and the first is
+    /// equal to the last. Times with different offsets can be equal here, while `==` distinguishes
+    /// them: so this is a call, and not an order trait.
     pub fn cmp_instant(&self, other: &Time) -> Ordering
         ensures order { result ≡ time_instant_order (time_of_day self.now) (time_of_day other.now) }
         ensures text_order { self.now.tz_offset ≡ None → other.now.tz_offset ≡ None

@@ -1,4 +1,4 @@
-//! Parsers of times of day: of texts, of texts of RFC 3339 alone, and at the front of a text.
+//! Parsers of times of day: of texts, of strict texts of RFC 3339, and at the front of a text.
 
 ghost use Rattle.std.specs.Prelude.{◌≡◌, ◌≤◌, ◌+◌, ◌↔◌, ℕ, IfErr, IfOk, IfSome, IsOk, Ok, drop, take, length};
 ghost use Rattle.speedate_base.specs.Ascii.{HasNoControl};
@@ -23,10 +23,10 @@ use std::str::FromStr;
 impl Time {
     /// Parses a time from a text: 12:13:14 and a half, an hour east of UTC, from `"12:13:14.5+01:00"`.
     ///
-    /// The form is RFC 3339's full-time, `HH:MM:SS` with an optional fraction and an offset, relaxed:
-    /// the second, the offset and the `:` of the offset may be left out, the decimal mark may be a
-    /// comma, and the sign of the offset may be U+2212. It is narrower in two ways: a fraction has at
-    /// most six digits, and there is no second 60.
+    /// The form is RFC 3339's full-time, `HH:MM:SS` with an optional fraction and an offset,
+    /// relaxed: the second, the offset and the `:` of the offset may be left out, the decimal mark
+    /// may be a comma, and the sign of the offset may be U+2212. It is narrower in two ways: a
+    /// fraction has at most six digits, and a second 60 is refused.
     ///
     /// # Errors
     ///
@@ -55,8 +55,8 @@ impl Time {
         Self::parse_bytes(text.as_bytes())
     }
 
-    /// Parses a time from bytes: 12:13:00 from `b"12:13"`. The bytes need not be text. The form is that
-    /// of [`Time::parse_str`].
+    /// Parses a time from bytes: 12:13:00 from `b"12:13"`. The bytes need not be text. The form is
+    /// as in [`Time::parse_str`].
     ///
     /// # Errors
     ///
@@ -69,14 +69,14 @@ impl Time {
         Self::parse_whole(bytes, MicrosecondsPrecisionOverflowBehavior::Error)
     }
 
-    /// Parses a time from bytes, by a configuration: 12:13:12.123456 from `b"12:13:12.1234567"` with the
-    /// behavior `Truncate`, which drops the digits of a second past the sixth. The bytes need not be
-    /// text. The form is that of [`Time::parse_str`]. The offset of the configuration does not matter.
+    /// Parses a time from bytes, by a configuration: 12:13:12.123456 from `b"12:13:12.1234567"`
+    /// with the behavior `Truncate`, which drops the digits of a second past the sixth. The bytes
+    /// need not be text. The form is as in [`Time::parse_str`]. The offset of the configuration
+    /// does not matter.
     ///
     /// # Errors
     ///
-    /// Those of [`Time::parse_str`], in its order, but with `Truncate` there is no
-    /// `SecondFractionTooLong`.
+    /// Those of [`Time::parse_str`], in its order, but with `Truncate` not `SecondFractionTooLong`.
     #[inline(always)]
     pub fn parse_bytes_with_config(bytes: &[u8], config: &TimeConfig) -> Result<Self, ParseError>
         ensures answer { result gives time_answer (time_choices config.now).behavior bytes.now }
@@ -88,14 +88,14 @@ impl Time {
     /// Parses a time from bytes that are a full-time of RFC 3339 5.6: 12:13:14 and a half, an hour east
     /// of UTC, from `b"12:13:14.5+01:00"`. The bytes need not be text.
     ///
-    /// It accepts the texts of RFC 3339 and no others, with two exceptions: a second 60 is refused, and
-    /// the behavior `Error` refuses a fraction of more than six digits. The value is that of
+    /// It accepts the texts of RFC 3339 and no others, with two exceptions: a second 60 is refused,
+    /// and the behavior `Error` refuses a fraction of more than six digits. The value is as in
     /// [`Time::parse_bytes_with_config`] with this behavior.
     ///
     /// # Errors
     ///
-    /// First those of [`Time::parse_str`], in its order, but with `Truncate` there is no
-    /// `SecondFractionTooLong`. Of the other texts these are refused,
+    /// First those of [`Time::parse_str`], in its order, but with `Truncate` not
+    /// `SecondFractionTooLong`. Other texts are refused,
     /// [in this order](docs/GRAMMAR.md#rfc-3339-alone):
     ///
     /// - with `InvalidCharTimeSep`, if there is no second;

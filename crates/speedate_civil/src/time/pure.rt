@@ -48,7 +48,7 @@ struct AfterMinute {
 /// The second after the minute of a clock.
 #[derive(Clone, Copy)]
 enum SecondField {
-    /// No `:`, so there is no second.
+    /// No `:`, so the second is missing.
     Absent,
     /// A `:`, but not two digits after it.
     Faulty,
@@ -69,7 +69,7 @@ impl PureTime {
     /// Parses the clock that begins at `place`, whatever follows it: 12:13:14 and a half, in ten bytes,
     /// from `b"P12:13:14.5Z"` at place 1.
     ///
-    /// The errors are those of [`Time::parse_str`](crate::time::Time::parse_str) up to
+    /// The errors are as in [`Time::parse_str`](crate::time::Time::parse_str) up to
     /// `SecondFractionTooLong`, which only the behavior `Error` gives.
     #[inline(always)]
     #[tactic(auto, using(std::proofs::lemmas::List::take_rest))]
@@ -110,8 +110,8 @@ impl PureTime {
         Self::with_minute(front, fits, text, start, behavior)
     }
 
-    /// What [`PureTime::front_at`] does, for a text of which the first eight bytes are given, and how many of
-    /// them fit `00:00:00`: those of the minute at least.
+    /// What [`PureTime::front_at`] does, for a text of which the first eight bytes are given, and
+    /// how many of them fit `00:00:00`: at least the minute's.
     #[inline(always)]
     pub(super) fn with_minute<E: Refusal>(
         front: u8x8,
@@ -209,7 +209,7 @@ impl PureTime {
     /// Parses the clock, from its minute on, at the front of a text, which begins at `start` of the whole,
     /// whatever follows it; its hour is 0. It is 13 minutes and 14 seconds, in five bytes, from `b"13:14"`.
     ///
-    /// The errors are those of [`PureTime::parse_from_minute`].
+    /// The errors are as in [`PureTime::parse_from_minute`].
     #[inline(always)]
     pub fn minute_front_at<E: Refusal>(
         rest: &[u8],

@@ -23,10 +23,10 @@ impl Time {
     /// offset if there is one, `Z`, or a sign, hours and minutes: `12:13:14.500000+01:30`. It is not
     /// allocated; `.as_str()` is the text.
     ///
-    /// If the offset is absent or whole minutes, the text reads back as the time. At the front of a text
-    /// it reads back if and only if what follows is no part of it: after an offset anything may follow;
-    /// without one neither `Z`, `z` nor a sign, nor a decimal mark after the second, nor a digit after
-    /// the fraction. Seconds of an offset are not printed.
+    /// If the offset is absent or whole minutes, the text reads back as the time. At the front of a
+    /// text it parses as itself exactly if the next bytes do not continue it: after an offset
+    /// anything may follow; without one neither `Z`, `z` nor a sign, nor a decimal mark after the
+    /// second, nor a digit after the fraction. Seconds of an offset are not printed.
     pub fn to_text(&self) -> ArrayString<TEXT_MAX>
         ensures text { result.bytes ≡ time_text (time_of_day self.now) }
         ensures reads_back { IsWholeMinutes self.now.tz_offset → (config : TimeConfig)

@@ -42,7 +42,7 @@ impl Time {
     /// In the order in which they are looked for:
     ///
     /// - `OutOfRangeTz` if the offset is 24 hours or more;
-    /// - `TzRequired` if the time has no offset;
+    /// - `TzRequired` if the time lacks an offset;
     /// - `TimeTooLarge` if that clock shows the day before or the day after.
     pub fn in_timezone(&self, tz_offset: i32) -> Result<Self, ParseError>
         ensures answer { result gives time_in_timezone tz_offset (time_of_day self.now) }
@@ -60,9 +60,9 @@ impl Time {
     }
 }
 
-/// The seconds by which a clock moves from the offset at which it shows a time to another one: 3,600
-/// from `Some(0)` to 3,600. Fails with `OutOfRangeTz` if the other one is 24 hours or more, then with
-/// `TzRequired` if there is no first one.
+/// The seconds by which a clock moves from the offset at which it shows a time to another one:
+/// 3,600 from `Some(0)` to 3,600. Fails with `OutOfRangeTz` if the other one is 24 hours or more,
+/// then with `TzRequired` if the first is missing.
 pub(crate) fn clock_shift(old: Option<i32>, offset: i32) -> Result<i32, ParseError>
     requires { ForSome old IsOffset }
     ensures answer { result
