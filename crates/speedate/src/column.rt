@@ -17,8 +17,8 @@ use speedate_base::faults::ParseError;
 pub use time::{TimeOffsetReader, TimeParser, TimeReader};
 pub use timestamp::timestamp_microseconds;
 
-/// How a text is cut into lines: `LineConfig { at_end: true, drops_returns: false }` takes all lines of a
-/// file that has no carriage returns.
+/// How a text is cut into lines: `LineConfig { at_end: true, drops_returns: false }` takes all
+/// lines of a file without carriage returns.
 #[derive(Clone, Copy, Debug)]
 pub struct LineConfig {
     /// Whether the end of the text ends its last line. Otherwise that line is left, since it may go on.
@@ -27,13 +27,13 @@ pub struct LineConfig {
     pub drops_returns: bool,
 }
 
-/// Why a line has no number: `LineError::Parse(ParseError::TooShort)` for an empty one.
+/// Why a line is refused: `LineError::Parse(ParseError::TooShort)` for an empty one.
 #[derive(Clone, Copy, Debug, PartialEq, Eq)]
 pub enum LineError {
-    /// The text is refused with this error. `TzRequired` is also that of a text which is accepted but has
-    /// no offset, where the reader needs one.
+    /// The text is refused with this error. It is also `TzRequired` for an accepted text without an
+    /// offset, where the reader needs one.
     Parse(ParseError),
-    /// The number of the value does not fit, as that of `P999999999D` in microseconds.
+    /// The number of the value does not fit, such as `P999999999D` in microseconds.
     NumberTooLarge,
 }
 

@@ -33,8 +33,8 @@ pub const DAYS_MAX: u32 = 999_999_999;
 /// constant where it is used. Both are written as in Rust:
 /// `const DAY: Duration = Duration { positive: true, day: 1, second: 0, microsecond: 0 };`.
 ///
-/// `<` and [`Duration::cmp`] order durations. There is no `Hash`; as a key the fields serve, and so
-/// does the printed text, since no two durations have the same.
+/// `<` and [`Duration::cmp`] order durations. It does not implement `Hash`: as a key use the
+/// fields, or the printed text, since no two durations have the same.
 #[derive(Clone, Copy, Debug, PartialEq, Eq)]
 pub struct Duration {
     /// Whether the sign is positive: false for `-PT1S` and for `-PT0S`, true for `PT0S`.

@@ -9,9 +9,9 @@
 //! let duration = Duration::parse_str("PT90M")?;       // an hour and a half, printed as PT1H30M
 //! ```
 //!
-//! Nothing is allocated, and no clock is read: [`DateTime::now`] and [`Date::today`] take the clock as
-//! an argument. Years are 0000 to 9999. There are no floats: a decimal timestamp, and a fraction of an
-//! ISO 8601 duration, is taken to its nearest microsecond by all its digits.
+//! Nothing is allocated, and no clock is read: [`DateTime::now`] and [`Date::today`] take the clock
+//! as an argument. Years are 0000 to 9999. Without floats, a decimal timestamp, and a fraction of
+//! an ISO 8601 duration, becomes its nearest microsecond by all its digits.
 //!
 //! - [`Date`]: a day of the calendar, with day numbers, days added and counted, and an order.
 //! - [`Time`]: a time of day, with an offset from UTC or without one.

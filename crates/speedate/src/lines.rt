@@ -42,7 +42,7 @@ fn line_end_in_rest(text: &[u8], from: usize) -> Option<usize>
     None
 }
 
-/// Bit k tells whether lane k is a line feed.
+/// Bit k says whether lane k is a line feed.
 #[inline(always)]
 fn line_feeds(lanes: u8x16) -> u64
     ensures marks { result ≡ mask_l (map is_line_feed lanes) }

@@ -8,15 +8,15 @@ ghost use Rattle.speedate.specs.DateTime.{now_answer, ◌gives◌};
 use speedate::{DateTime, Moment, ParseError};
 use std::time::{Clock, SystemTime};
 
-/// The date-time that the machine's clock tells, as a clock at an offset, in seconds, shows it. The errors
-/// are those of [`DateTime::now`], `SystemTimeError` too where the clock cannot be read.
+/// The date-time now, by the machine's clock, at an offset in seconds. The errors are as in
+/// [`DateTime::now`], `SystemTimeError` too where the clock cannot be read.
 pub fn local_time(clock: &impl Clock, tz_offset: i32) -> Result<DateTime, ParseError>
     ensures told { (told : Option Moment) × (result gives now_answer tz_offset told) }
 {
     DateTime::now(|| told(clock), tz_offset)
 }
 
-/// What the machine's clock tells, or none where it cannot be read or stands before 1970.
+/// The moment of the machine's clock, or none if it cannot be read or is before 1970.
 fn told(clock: &impl Clock) -> Option<Moment> {
     let time = SystemTime::now(clock).ok()?;
     Some(moment(time))

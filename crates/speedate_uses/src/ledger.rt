@@ -75,8 +75,8 @@ pub struct Entry {
     pub cents: i64,
 }
 
-/// An amount in cents: -4,250 for `-42.50`, and 1,200 for `12`. `None` for `12.345`, which is no whole
-/// number of cents, and for what is no number.
+/// An amount in cents: -4,250 for `-42.50`, and 1,200 for `12`. `None` for `12.345`, which is not a
+/// whole number of cents, and for a text that is not a number.
 pub fn cents(amount: &[u8]) -> Option<i64>
     ensures cents { result ≡ scaled_number 2 (number_answer amount.now) }
 {

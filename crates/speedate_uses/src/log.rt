@@ -31,8 +31,8 @@ pub fn log_entry<'a>(
     Ok((value, &line[size..]))
 }
 
-/// A date-time, and its second and microsecond in UTC and as its clock shows them: what its instant is
-/// compared by, so that those of two bounds are calculated once for all lines.
+/// A date-time, and its second and microsecond in UTC and as its clock shows them: the keys of its
+/// instant, so that the keys of two bounds are calculated once for all lines.
 #[derive(Clone, Copy)]
 struct Moments {
     value: DateTime,
@@ -55,7 +55,7 @@ impl Moments {
         }
     }
 
-    /// The order of two date-times, which is that of [`DateTime::cmp_instant`].
+    /// The order of two date-times, as in [`DateTime::cmp_instant`].
     #[inline(always)]
     fn cmp(&self, other: &Self) -> Ordering
         ensures order { result ≡ date_time_instant_order (date_and_time self.now.value)
@@ -69,7 +69,7 @@ impl Moments {
     }
 }
 
-/// What tells the instant of a date-time: its second in UTC and its microsecond.
+/// What determines the instant of a date-time: its second in UTC and its microsecond.
 #[inline(always)]
 fn instant_key(value: &DateTime) -> (i64, u32)
     ensures key { (result.0, result.1) ≡ instant_key (date_and_time value.now) }
@@ -145,8 +145,8 @@ fn are_falling(times: &[DateTime]) -> bool
     true
 }
 
-/// Sorts the date-times of a log by instant, the earliest first; those of one instant stay in their
-/// order. One without an offset is taken to be in UTC.
+/// Sorts the date-times of a log by instant, the earliest first; date-times of one instant stay in
+/// their order. One without an offset is taken to be in UTC.
 ///
 /// The key, the second in UTC and the microsecond, has an order whatever the offsets are.
 /// `DateTime::cmp_instant` has none over date-times with and without an offset.

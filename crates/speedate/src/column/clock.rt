@@ -11,8 +11,8 @@ use speedate_civil::datetime::DateTime;
 /// Reads a line as a date-time, and counts the microseconds from 1970-01-01T00:00:00 on the same clock,
 /// whatever the offset: 3,600,000,000 for `1970-01-01T01:00`, and for `1970-01-01T01:00+01:00`.
 ///
-/// With the number of a [`DateTimeOffsetReader`] it tells the date-time and its offset, where a
-/// [`DateTimeReader`](crate::DateTimeReader) tells the instant alone.
+/// With the number of a [`DateTimeOffsetReader`] it gives the date-time and its offset, where a
+/// [`DateTimeReader`](crate::DateTimeReader) gives only the instant.
 #[derive(Clone, Copy, Debug)]
 pub struct DateTimeClockReader {
     /// How a line is parsed.

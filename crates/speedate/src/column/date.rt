@@ -8,7 +8,7 @@ use speedate_civil::date::Date;
 /// `1969-12-31`.
 #[derive(Clone, Copy, Debug)]
 pub enum DateReader {
-    /// Parses dates alone, as [`Date::parse_bytes_rfc3339`] does.
+    /// Parses only dates, as [`Date::parse_bytes_rfc3339`] does.
     Text,
     /// Parses timestamps too, as [`Date::parse_bytes_with_config`] does.
     OrTimestamp(DateConfig),

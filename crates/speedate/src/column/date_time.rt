@@ -22,7 +22,7 @@ pub enum DateTimeParser {
     Text(TimeConfig),
     /// Timestamps too, as [`DateTime::parse_bytes_with_config`].
     OrTimestamp(DateTimeConfig),
-    /// Texts of RFC 3339 alone, as [`DateTime::parse_bytes_strict`].
+    /// Only texts of RFC 3339, as [`DateTime::parse_bytes_strict`].
     Strict(MicrosecondsPrecisionOverflowBehavior),
 }
 

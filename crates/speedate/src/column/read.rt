@@ -149,7 +149,7 @@ fn put(errors: &mut [u8], place: usize, number: u8)
     }
 }
 
-/// What a column holds of a line by its answer: a number, and that of the error, which is 0 for none.
+/// The number and the error code that are stored for a line; the code is 0 if the line is accepted.
 #[inline(always)]
 fn entry<N: Copy>(answer: Result<N, LineError>, refused: Option<N>) -> Result<(N, u8), LineError>
     ensures entry { result ≡ entry refused answer }

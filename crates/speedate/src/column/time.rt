@@ -14,7 +14,7 @@ use speedate_civil::time::Time;
 pub enum TimeParser {
     /// Texts of RFC 3339, relaxed, as [`Time::parse_bytes_with_config`].
     Text(TimeConfig),
-    /// Texts of RFC 3339 alone, as [`Time::parse_bytes_strict`].
+    /// Only texts of RFC 3339, as [`Time::parse_bytes_strict`].
     Strict(MicrosecondsPrecisionOverflowBehavior),
 }
 

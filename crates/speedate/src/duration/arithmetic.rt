@@ -44,7 +44,7 @@ impl Duration {
 
     /// The date-time this long after `start`, or before it if the duration is negative, at the same
     /// offset: 2020-03-01T00:30:00+01:00 for an hour and 2020-02-29T23:30:00+01:00.
-    /// [`Duration::before`] leads back.
+    /// [`Duration::before`] is the inverse.
     ///
     /// # Errors
     ///
@@ -74,8 +74,8 @@ impl Duration {
     }
 
     /// The date-time this long before `start`, or after it if the duration is negative, at the same
-    /// offset: 2020-02-29T23:30:00+01:00 for an hour and 2020-03-01T00:30:00+01:00. [`Duration::after`]
-    /// leads back.
+    /// offset: 2020-02-29T23:30:00+01:00 for an hour and 2020-03-01T00:30:00+01:00.
+    /// [`Duration::after`] is the inverse.
     ///
     /// # Errors
     ///
@@ -117,9 +117,9 @@ impl Duration {
         }
     }
 
-    /// The duration in microseconds, with the sign: -1,500,000 for -PT1.5S, and 0 for PT0S and -PT0S.
-    /// There are fewer than in 1,000,000,000 days. [`Duration::from_signed_microseconds`] leads back,
-    /// from 0 to PT0S.
+    /// The duration in microseconds, with the sign: -1,500,000 for -PT1.5S, and 0 for PT0S and
+    /// -PT0S. There are fewer than in 1,000,000,000 days. [`Duration::from_signed_microseconds`] is
+    /// the inverse, with PT0S for 0.
     pub fn signed_total_microseconds(&self) -> i128
         ensures microsecond { result ≡ signed_amount (duration_numbers self.now) }
         ensures small { unsigned_abs result < 86400000000000000000 }
@@ -205,8 +205,8 @@ impl Duration {
         }
     }
 
-    /// The date this many days after `start`, or before it if the duration is negative: 2020-03-01 for
-    /// two days and 2020-02-28. [`Duration::before_date`] leads back.
+    /// The date this many days after `start`, or before it if the duration is negative: 2020-03-01
+    /// for two days and 2020-02-28. [`Duration::before_date`] is the inverse.
     ///
     /// # Errors
     ///
@@ -236,7 +236,7 @@ impl Duration {
     }
 
     /// The date this many days before `start`, or after it if the duration is negative: 2020-02-28
-    /// for two days and 2020-03-01. [`Duration::after_date`] leads back.
+    /// for two days and 2020-03-01. [`Duration::after_date`] is the inverse.
     ///
     /// # Errors
     ///

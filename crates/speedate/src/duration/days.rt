@@ -99,8 +99,8 @@ pub(super) fn is_day_letter(byte: u8) -> bool
     byte == b'd' || byte == b'D'
 }
 
-/// How many bytes the rest of a word has that a text begins with, `ays`, `ay`, `AYS` or `AY`: those of the
-/// longest of them, 0 if no word goes on. `None` if a word goes on in another way.
+/// The length of the longest of `ays`, `ay`, `AYS` and `AY` that begins a text: 0 if no `a` or `A`
+/// does. `None` if a word goes on in another way.
 #[inline(always)]
 fn ending_size(text: &[u8]) -> Option<usize>
     ensures size { result

@@ -106,7 +106,7 @@ impl Duration {
     }
 }
 
-/// The place of the error for which a text is no duration.
+/// The place of the error for which a text is refused as a duration.
 fn duration_error_place(bytes: &[u8], order: IsoOrder, behavior: Behavior) -> Option<usize>
     ensures place { result ≡ refused_place (duration_answer_or placed order behavior bytes.now) }
     ensures within { IfSome result (λ place. place ≤ length bytes.now) }
@@ -122,7 +122,7 @@ fn duration_error_place(bytes: &[u8], order: IsoOrder, behavior: Behavior) -> Op
     }
 }
 
-/// The place of the error for which an amount has no normal form, in its text after the sign.
+/// The place of the error for which an amount lacks a normal form, in its text after the sign.
 fn normal_error_place(text: &[u8], order: IsoOrder, amount: UnsignedDuration) -> Option<usize>
     requires { IsIsoRead order text.now }
     ensures place { result
@@ -141,8 +141,8 @@ fn normal_error_place(text: &[u8], order: IsoOrder, amount: UnsignedDuration) ->
     None
 }
 
-/// The place at which a duration without its sign no longer keeps to a bound: of an ISO 8601 duration that of
-/// the first item after which it does not, and otherwise its front.
+/// The place at which a duration without its sign no longer keeps to a bound: in an ISO 8601
+/// duration the first item after which it does not, and otherwise its front.
 fn amount_place(text: &[u8], order: IsoOrder, bound: Bound) -> usize
     requires { IsIsoRead order text.now }
     ensures place { result ≡ amount_place order text.now (bound_test bound) }

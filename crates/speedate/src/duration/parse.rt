@@ -35,12 +35,12 @@ impl Duration {
     ///
     /// # Errors
     ///
-    /// `TooShort` if nothing follows the sign; then those of the form, in each list in the order of
-    /// [its table](docs/GRAMMAR.md#durations), which has an example of each. Last come, of the sums,
-    /// `DurationValueTooLarge` if the seconds, or then the days, exceed 4,294,967,295, and
-    /// `DurationDaysTooLarge` if the days exceed 999,999,999.
+    /// `TooShort` if nothing follows the sign; then the errors of the form, in each list in the
+    /// order of [its table](docs/GRAMMAR.md#durations), which has an example of each. Last come, of
+    /// the sums, `DurationValueTooLarge` if the seconds, or then the days, exceed 4,294,967,295,
+    /// and `DurationDaysTooLarge` if the days exceed 999,999,999.
     ///
-    /// Of an ISO 8601 duration the first item, from the left, that has an error gives it:
+    /// In an ISO 8601 duration the first item with an error, from the left, gives it:
     ///
     /// - `DurationTRepeated` for a second `T`;
     /// - `DurationInvalidNumber` if a component does not begin with a digit;
@@ -49,7 +49,7 @@ impl Duration {
     /// - `DurationInvalidDateUnit` before the `T`, or `DurationInvalidTimeUnit` after it, if the number
     ///   is not followed by a designator of that side;
     /// - `DurationValueTooLarge` if the days or the seconds up to it exceed 4,294,967,295;
-    /// - `TooShort`, at the end, if there is no component.
+    /// - `TooShort`, at the end, if there are no components.
     ///
     /// Of days:
     ///
@@ -60,9 +60,9 @@ impl Duration {
     /// - `TooShort` if the clock after it has fewer than five bytes, then the errors of a clock;
     /// - `DurationHourValueTooLarge` if that clock has 24 hours or more.
     ///
-    /// Of a clock:
+    /// In a clock:
     ///
-    /// - `InvalidCharHour` if there is no `:`;
+    /// - `InvalidCharHour` if the `:` is missing;
     /// - `DurationHourValueTooLarge` if more than ten bytes come before it;
     /// - `InvalidCharHour` if these are not digits; without any, the hours are 0;
     /// - `DurationHourValueTooLarge` if they exceed 2,400,000,000;
@@ -78,8 +78,8 @@ impl Duration {
         Self::parse_bytes(text.as_bytes())
     }
 
-    /// Parses a duration from bytes: a negative second from `b"-00:00:01"`. The bytes need not be text.
-    /// The forms are those of [`Duration::parse_str`].
+    /// Parses a duration from bytes: a negative second from `b"-00:00:01"`. The bytes need not be
+    /// text. The forms are as in [`Duration::parse_str`].
     ///
     /// # Errors
     ///
@@ -99,9 +99,9 @@ impl Duration {
     /// `b"00:00:01.1234567"` with the behavior `Truncate`. The bytes need not be text. The offset
     /// does not matter.
     ///
-    /// The forms are those of [`Duration::parse_str`]. The behavior `Truncate` drops the digits of a
-    /// clock's second past the sixth. To an ISO 8601 duration it does not matter: every digit of its
-    /// fraction counts.
+    /// The forms are as in [`Duration::parse_str`]. The behavior `Truncate` drops the digits of a
+    /// clock's second past the sixth. To an ISO 8601 duration it does not matter: every digit of
+    /// its fraction counts.
     ///
     /// With the order `Strict` each component of an ISO 8601 duration comes at most once, in the order
     /// `Y`, `M`, `W`, `D`, and after the `T` `H`, `M`, `S`. What `Strict` accepts has the same value
@@ -112,10 +112,10 @@ impl Duration {
     ///
     /// # Errors
     ///
-    /// Those of [`Duration::parse_str`], in its order, but with `Truncate` there is no
-    /// `SecondFractionTooLong`. With `Strict` a component out of order, or repeated, as in `b"P1D1Y"`,
-    /// is `DurationUnitOrder`, which is looked for after the error of a byte that is no designator of
-    /// its side, and before that of sums that are too large.
+    /// Those of [`Duration::parse_str`], in its order, but with `Truncate` not
+    /// `SecondFractionTooLong`. With `Strict` a component out of order, or repeated, as in
+    /// `b"P1D1Y"`, is `DurationUnitOrder`, which is looked for after a byte that is not a
+    /// designator of its side, and before sums that are too large.
     #[inline(always)]
     pub fn parse_bytes_with_config(bytes: &[u8], config: &TimeConfig) -> Result<Self, ParseError>
         ensures answer { result gives duration_answer (time_choices config.now).order

@@ -63,7 +63,7 @@ impl UnsignedDuration {
         let number = digit_run(bytes);
         if byte_at(bytes, number.length) == b':' {
             let clock = Self::from_clock::<E>(bytes, number, start, behavior);
-            // A clock has no letter, so it is not searched for one.
+            // A clock lacks letters, so it is not searched for one.
             if clock.is_ok() {
                 return clock;
             }
@@ -95,7 +95,7 @@ impl UnsignedDuration {
     }
 }
 
-/// Whether a text has days, whose first digits end at `end`: the letter of a day stands anywhere in it,
+/// Whether a text has days, whose first digits end at `end`: the letter of a day is anywhere in it,
 /// or it is too short for a clock.
 #[tactic(auto, using(crate::proofs::ClockFormLemmas::letter_rules))]
 pub(super) fn has_days(bytes: &[u8], end: usize) -> bool
@@ -106,7 +106,7 @@ pub(super) fn has_days(bytes: &[u8], end: usize) -> bool
     bytes.len() < 5 || has_day_letter(&bytes[end..])
 }
 
-/// Whether the letter of a day stands anywhere.
+/// Whether the letter of a day is anywhere in a text.
 fn has_day_letter(bytes: &[u8]) -> bool
     ensures { result ≡ list_any is_day_letter bytes.now }
 {
