@@ -297,6 +297,11 @@ const GUESSED = [
   ["01/02/2020", {}, "Not one of the four kinds", "2020-02-01 or 2020-01-02", "", "Date: 2020-02-01"],
   ["2020-2-9 9:05", {}, "Not one of the four kinds", "2020-02-09T09:05", "", "Date-time: 2020-02-09T09:05:00"],
   ["2026-11-22T10:00:00 UTC", {}, "Not one of the four kinds", "2026-11-22T10:00:00Z", "", "Date-time: 2026-11-22T10:00:00Z"],
+  ["Sat, 29 Feb 2020 12:13:14 GMT", {}, "Not one of the four kinds", "2020-02-29T12:13:14Z", "", "Date-time: 2020-02-29T12:13:14Z"],
+  ["Sat Feb 29 2020 12:13:14 GMT+0100 (Central European Standard Time)", {}, "Not one of the four kinds", "2020-02-29T12:13:14+0100", "", "Date-time: 2020-02-29T12:13:14+01:00"],
+  ["11/22/2026 12:05 AM", {}, "Not one of the four kinds", "2026-11-22T00:05", "", "Date-time: 2026-11-22T00:05:00"],
+  ["11:59pm", {}, "Not one of the four kinds", "23:59", "", "Time: 23:59:00"],
+  ["2020\u201302\u201329", {}, "Not one of the four kinds", "2020-02-29", "", "Date: 2020-02-29"],
   ["30.02.2020", {}, "Not one of the four kinds", "", "", "Not one of the four kinds: invalid_char_year"],
   ["never", {}, "Not a date", "", "", "Not a date: too_short"],
 ];

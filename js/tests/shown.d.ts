@@ -1,6 +1,6 @@
 // What the document's blocks in TypeScript, and the test of the types, name besides this package.
 declare module "zod" {
-  interface Context { addIssue(issue: { code: "custom"; message: string; params: object }): void }
+  interface Context { addIssue(issue: { code: "custom"; message: string }): void }
   export const z: { string(): { transform<T>(of: (text: string, context: Context) => T): T }; NEVER: never };
 }
 declare module "node:assert/strict" {
