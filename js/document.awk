@@ -6,11 +6,12 @@ function inline(text,    out, at, word, to) {
     gsub(/<&lt;a id/, "<a id", text)
     gsub(/">&lt;\/a>>/, "\"></a>", text)
     out = ""
-    while (match(text, /`[^`]*`|\*\*[^*]*\*\*|\[[^]]*\]\([^)]*\)/)) {
+    while (match(text, /`[^`]*`|\*\*[^*]*\*\*|\*[^* ][^*]*\*|\[[^]]*\]\([^)]*\)/)) {
         out = out substr(text, 1, RSTART - 1)
         word = substr(text, RSTART, RLENGTH)
         text = substr(text, RSTART + RLENGTH)
         if (word ~ /^`/) out = out "<code>" substr(word, 2, length(word) - 2) "</code>"
+        else if (word ~ /^\*[^*]/) out = out "<em>" inline(substr(word, 2, length(word) - 2)) "</em>"
         else if (word ~ /^\*/) out = out "<strong>" inline(substr(word, 3, length(word) - 4)) "</strong>"
         else {
             at = index(word, "](")

@@ -480,6 +480,8 @@ const pages = Object.fromEntries(["try", "grammar", "promises"].map((it) => [`${
 for (const fault of new Set(source("out/js/speedate.d.ts").match(/^export type Fault = (.*);$/m)[1].match(/\w+/g)))
   assert.ok(pages["grammar.html"].includes(`id="fault-${fault}"`) || /^(number_too_large|invalid_integer|no_such_date|value_|config_|buffer_)/.test(fault), fault);
 for (const [name, text] of Object.entries(pages)) {
+  const shown = text.replace(/<(script|code)[^]*?<\/\1>/g, "");
+  assert.ok(name === "try.html" || !/[`*]|\]\(|^<p>([-|>]| {4}|\d+\.)/m.test(shown), `${name} has all of its Markdown as HTML`);
   for (const [, to, place] of text.replace(/<script[^]*?<\/script>/g, "").matchAll(/href="(?!https:|data:)([^"#]*)#?([^"]*)"/g)) {
     if (name === "try.html" && to === "") continue;
     const page = pages[to || name] ?? source(`out/${to}`);
