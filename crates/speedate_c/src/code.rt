@@ -15,10 +15,10 @@ pub(crate) const SUCCESS: i32 = 0;
 /// The number of a line does not fit 64 bits.
 pub(crate) const NUMBER_TOO_LARGE: i32 = 97;
 
-/// A text is no whole number, or one that does not fit 64 bits.
+/// A text is not a whole number that fits 64 bits.
 pub(crate) const INVALID_INTEGER: i32 = 98;
 
-/// The years 0000 to 9999 have no such date.
+/// The years 0000 to 9999 do not have this date.
 pub(crate) const NO_SUCH_DATE: i32 = 99;
 
 /// A value or a flag of the caller's is out of range.
@@ -95,7 +95,7 @@ pub(crate) fn code_row(code: i32) -> Option<(&'static str, &'static str)>
     }
 }
 
-/// The name and the documentation text of a code that is no error.
+/// The name and the documentation text of a code that is not an error.
 fn refusal_row(code: i32) -> Option<(&'static str, &'static str)>
     ensures row { option_map (λ row. (row.0.now, row.1.now)) result ≡ refusal_row code }
     ensures short { IfSome result (λ row. (length row.0.now ≤ 63) × (length row.1.now ≤ 63)) }
@@ -180,7 +180,7 @@ pub(crate) fn code_expected(code: i32, kind: CallKind) -> Option<&'static str>
     }
 }
 
-/// What was expected, of a code that is no error.
+/// What was expected, of a code that is not an error.
 fn refusal_expected(code: i32) -> Option<&'static str>
     ensures text { option_map (λ text. text.now) result ≡ refusal_expected code }
     ensures short { IfSome result (λ text. length text.now ≤ 63) }

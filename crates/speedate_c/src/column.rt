@@ -13,7 +13,7 @@ use crate::code::{SUCCESS, line_error_code};
 use crate::config::flag;
 use speedate::{LineConfig, LineReader, Progress, read_column, read_column_with_errors};
 
-/// How a column is read. In each field but `at_end` 0 stands for the default.
+/// How a column is read. In each field but `at_end` 0 means the default.
 #[repr(C)]
 #[derive(Clone, Copy)]
 pub struct SpeedateColumnConfig {
@@ -22,8 +22,8 @@ pub struct SpeedateColumnConfig {
     pub at_end: u8,
     /// Whether a carriage return at the end of a line is dropped: 1, or 0 if it stays.
     pub drops_returns: u8,
-    /// Which dates, times and date-times a line may be: 0 for no timestamps, 1 for timestamps too, 2 for
-    /// times and date-times of RFC 3339 alone.
+    /// Which dates, times and date-times a line may be: 0 for no timestamps, 1 for timestamps too,
+    /// 2 for only times and date-times of RFC 3339.
     pub parser: u8,
     /// Whether a date-time without an offset is taken to be in UTC: 1, or 0 if it is refused. Only a column
     /// of instants uses it.
@@ -52,7 +52,7 @@ enum LineParser {
     Text,
     /// Timestamps too.
     OrTimestamp,
-    /// Times and date-times of RFC 3339 alone.
+    /// Only times and date-times of RFC 3339.
     Strict,
 }
 

@@ -12,7 +12,7 @@ use speedate::{
     TimeConfig, TimestampUnit,
 };
 
-/// How texts and timestamps are parsed. In each field 0 stands for the default.
+/// How texts and timestamps are parsed. In each field 0 means the default.
 #[repr(C)]
 #[derive(Clone, Copy)]
 pub struct SpeedateConfig {

@@ -87,10 +87,10 @@ fn print_date(date: &Date, buffer: &mut [u8], text_length: &mut usize) -> i32
     write_text(date.to_text().as_str(), buffer, text_length)
 }
 
-/// Parses a date from a text, or from a timestamp that stands there instead, in the unit of the
-/// configuration, as [`Date::parse_bytes_with_config`] does: 2020-02-29 from `2020-02-29`.
+/// Parses a date from a text, or from a timestamp in its place, in the unit of the configuration,
+/// as [`Date::parse_bytes_with_config`] does: 2020-02-29 from `2020-02-29`.
 ///
-/// The errors are those of that call; `CONFIG_OUT_OF_RANGE` comes first.
+/// The errors are that call's; `CONFIG_OUT_OF_RANGE` comes first.
 #[unsafe(no_mangle)]
 pub extern "C" fn speedate_date_parse(
     text: &[u8],
@@ -131,8 +131,8 @@ pub extern "C" fn speedate_date_parse_front(
     SUCCESS
 }
 
-/// Whether the numbers are those of a date, as [`Date::new`] tells: `SUCCESS`, or the error of the
-/// first number that is out of range, `OutOfRangeDay` for 2021-02-29.
+/// Whether the numbers are a date, as [`Date::new`] says: `SUCCESS`, or the error of the first
+/// number that is out of range, `OutOfRangeDay` for 2021-02-29.
 #[unsafe(no_mangle)]
 pub extern "C" fn speedate_date_check(date: SpeedateDate) -> i32
     ensures answer { result ≡ answer_code (date_of date) }

@@ -73,11 +73,11 @@ pub(crate) fn write_date_time(
     SUCCESS
 }
 
-/// Parses a date-time from a text, or from a timestamp that stands there instead, as
+/// Parses a date-time from a text, or from a timestamp in its place, as
 /// [`DateTime::parse_bytes_with_config`] does: 12:13:14 on 29 February 2020 from
 /// `2020-02-29T12:13:14`.
 ///
-/// The errors are those of that call; `CONFIG_OUT_OF_RANGE` comes first.
+/// The errors are that call's; `CONFIG_OUT_OF_RANGE` comes first.
 #[unsafe(no_mangle)]
 pub extern "C" fn speedate_datetime_parse(
     text: &[u8],
@@ -153,8 +153,8 @@ pub extern "C" fn speedate_datetime_parse_front(
     SUCCESS
 }
 
-/// Whether the numbers are those of a date-time: `SUCCESS`, or the error of a number that is out of
-/// range. The date is looked at first.
+/// Whether the numbers are a date-time: `SUCCESS`, or the error of a number that is out of range.
+/// The date is looked at first.
 #[unsafe(no_mangle)]
 pub extern "C" fn speedate_datetime_check(value: SpeedateDateTime) -> i32
     ensures answer { result ≡ answer_code (date_time_of value) }
@@ -212,8 +212,8 @@ pub extern "C" fn speedate_datetime_compare(
 /// [`DateTime::in_timezone`] gives it: 2020-01-02T00:30:00+01:00 for 2020-01-01T23:30:00Z and
 /// 3,600.
 ///
-/// `VALUE_OUT_OF_RANGE` is that of the date-time; the errors of that call follow, with
-/// `OutOfRangeTz` for an offset of 24 hours or more.
+/// `VALUE_OUT_OF_RANGE` is the date-time's; the errors of that call follow, with `OutOfRangeTz` for
+/// an offset of 24 hours or more.
 #[unsafe(no_mangle)]
 pub extern "C" fn speedate_datetime_in_timezone(
     value: SpeedateDateTime,

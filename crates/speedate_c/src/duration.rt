@@ -93,7 +93,7 @@ pub(crate) fn write_duration(
 /// Parses a duration from a text under a configuration, as [`Duration::parse_bytes_with_config`]
 /// does: an hour and a half from `PT90M`.
 ///
-/// The errors are those of that call; `CONFIG_OUT_OF_RANGE` comes first.
+/// The errors are that call's; `CONFIG_OUT_OF_RANGE` comes first.
 #[unsafe(no_mangle)]
 pub extern "C" fn speedate_duration_parse(
     text: &[u8],
@@ -132,8 +132,8 @@ pub extern "C" fn speedate_duration_normalize(
     write_duration(answer, out)
 }
 
-/// Whether the numbers are those of a duration: `SUCCESS`, or the error of the first number that is
-/// out of range, `DurationDaysTooLarge` for the days and `DurationValueTooLarge` for any other.
+/// Whether the numbers are a duration: `SUCCESS`, or the error of the first number that is out of
+/// range, `DurationDaysTooLarge` for the days and `DurationValueTooLarge` for any other.
 #[unsafe(no_mangle)]
 pub extern "C" fn speedate_duration_check(duration: SpeedateDuration) -> i32
     ensures answer { result ≡ answer_code (duration_of duration) }

@@ -41,8 +41,8 @@ fn fill(text: &str, buffer: &mut [u8])
 
 /// Prints the name of a code: `too_short` for 1, `ok` for 0.
 ///
-/// `VALUE_OUT_OF_RANGE` for a number that is no code, `BUFFER_TOO_SMALL` if the buffer
-/// has no room for the name and a zero byte.
+/// `VALUE_OUT_OF_RANGE` for a number that is not a code, `BUFFER_TOO_SMALL` if the buffer lacks
+/// room for the name and a zero byte.
 #[unsafe(no_mangle)]
 pub extern "C" fn speedate_code_name(code: i32, buffer: &mut [u8], text_length: &mut usize) -> i32
     ensures answer { (result, buffer.new, text_length.new)
@@ -58,7 +58,7 @@ pub extern "C" fn speedate_code_name(code: i32, buffer: &mut [u8], text_length: 
 
 /// Prints the documentation text of a code: `input is too short` for 1.
 ///
-/// The refusals are those of [`speedate_code_name`].
+/// The refusals are as in [`speedate_code_name`].
 #[unsafe(no_mangle)]
 pub extern "C" fn speedate_code_documentation(
     code: i32,
@@ -79,7 +79,8 @@ pub extern "C" fn speedate_code_documentation(
 /// Prints what a call expected that gave a code and wrote a part, for people: `month, 01 to 12` for 21. The
 /// part has the kind of the call; its place and its end do not matter.
 ///
-/// The refusals are those of [`speedate_code_name`], and `VALUE_OUT_OF_RANGE` for 0 and for another kind.
+/// The refusals are as in [`speedate_code_name`], and `VALUE_OUT_OF_RANGE` for 0 and for another
+/// kind.
 #[unsafe(no_mangle)]
 pub extern "C" fn speedate_code_expected(
     code: i32,
@@ -106,7 +107,7 @@ pub extern "C" fn speedate_code_expected(
 /// Writes where the part ends that an error is about, as [`ParseError::part_end`] gives it, in the text
 /// that is refused with this code at this place: 7 for 21, `2020-13-01` and place 5.
 ///
-/// `VALUE_OUT_OF_RANGE` for a number that is no error of the library.
+/// `VALUE_OUT_OF_RANGE` for a number that is not an error of the library.
 #[unsafe(no_mangle)]
 pub extern "C" fn speedate_code_part_end(
     code: i32,

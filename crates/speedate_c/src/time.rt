@@ -87,7 +87,7 @@ fn write_time(answer: Result<Time, ParseError>, out: &mut SpeedateTime) -> i32
 /// Parses a time from a text under a configuration, as [`Time::parse_bytes_with_config`] does:
 /// 12:13:14.5, an hour east of UTC, from `12:13:14.5+01:00`.
 ///
-/// The errors are those of that call; `CONFIG_OUT_OF_RANGE` comes first.
+/// The errors are that call's; `CONFIG_OUT_OF_RANGE` comes first.
 #[unsafe(no_mangle)]
 pub extern "C" fn speedate_time_parse(
     text: &[u8],
@@ -106,7 +106,7 @@ pub extern "C" fn speedate_time_parse(
 /// Parses a time from a text of RFC 3339, as [`Time::parse_bytes_strict`] does by the behavior of a
 /// configuration: 12:13:14.5, an hour east of UTC, from `12:13:14.5+01:00`.
 ///
-/// The errors are those of that call; `CONFIG_OUT_OF_RANGE` comes first.
+/// The errors are that call's; `CONFIG_OUT_OF_RANGE` comes first.
 #[unsafe(no_mangle)]
 pub extern "C" fn speedate_time_parse_strict(
     text: &[u8],
@@ -145,8 +145,8 @@ pub extern "C" fn speedate_time_parse_front(
     SUCCESS
 }
 
-/// Whether the numbers are those of a time, as [`Time::new`] tells: `SUCCESS`, or the error of the
-/// first number that is out of range. `OutOfRangeTz`, for the offset or its flag, comes last.
+/// Whether the numbers are a time, as [`Time::new`] says: `SUCCESS`, or the error of the first
+/// number that is out of range. `OutOfRangeTz`, for the offset or its flag, comes last.
 #[unsafe(no_mangle)]
 pub extern "C" fn speedate_time_check(time: SpeedateTime) -> i32
     ensures answer { result ≡ answer_code (time_of time) }
@@ -237,8 +237,8 @@ pub extern "C" fn speedate_time_total_ms(time: SpeedateTime, out: &mut u32) -> i
 /// The time at the same instant, as a clock at another offset shows it, as [`Time::in_timezone`]
 /// gives it: 16:00:00+01:00 for 15:00:00Z and 3,600.
 ///
-/// `VALUE_OUT_OF_RANGE` is that of the time; the errors of that call follow, with `OutOfRangeTz`
-/// for an offset of 24 hours or more.
+/// `VALUE_OUT_OF_RANGE` is the time's; the errors of that call follow, with `OutOfRangeTz` for an
+/// offset of 24 hours or more.
 #[unsafe(no_mangle)]
 pub extern "C" fn speedate_time_in_timezone(
     time: SpeedateTime,

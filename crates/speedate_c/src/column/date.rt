@@ -26,8 +26,8 @@ impl ColumnChoices {
 /// Reads the lines of a text as dates, and writes their days since 1970-01-01, as [`read_column`] does by
 /// a [`DateReader`]: 1 for `1970-01-02`.
 ///
-/// `CONFIG_OUT_OF_RANGE` and lines that are refused are those of [`speedate_datetime_column`]; the parser 2
-/// is out of range.
+/// `CONFIG_OUT_OF_RANGE` and refused lines are as in [`speedate_datetime_column`]; the parser 2 is
+/// out of range.
 #[unsafe(no_mangle)]
 pub extern "C" fn speedate_date_column(
     text: &[u8],

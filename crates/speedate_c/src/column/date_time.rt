@@ -54,8 +54,8 @@ impl ColumnChoices {
 /// Reads the lines of a text as date-times, and writes their microseconds since 1970-01-01T00:00:00 in
 /// UTC, as [`read_column`] does by a [`DateTimeReader`]: 1,000,000 for `1970-01-01T00:00:01Z`.
 ///
-/// `CONFIG_OUT_OF_RANGE` if a number of either configuration is out of range. A line that is refused is
-/// no failure of the call: if it ends the column, the progress has the code of its error.
+/// `CONFIG_OUT_OF_RANGE` if a number of either configuration is out of range. A refused line is not
+/// a failure of the call: if it ends the column, the progress has the code of its error.
 #[unsafe(no_mangle)]
 pub extern "C" fn speedate_datetime_column(
     text: &[u8],
@@ -81,7 +81,7 @@ pub extern "C" fn speedate_datetime_column(
 /// their clocks show, whatever the offset, as [`read_column`] does by a [`DateTimeClockReader`]:
 /// 3,600,000,000 for `1970-01-01T01:00+01:00`.
 ///
-/// `CONFIG_OUT_OF_RANGE` and lines that are refused are those of [`speedate_datetime_column`].
+/// `CONFIG_OUT_OF_RANGE` and refused lines are as in [`speedate_datetime_column`].
 #[unsafe(no_mangle)]
 pub extern "C" fn speedate_datetime_clock_column(
     text: &[u8],
@@ -108,7 +108,7 @@ pub extern "C" fn speedate_datetime_clock_column(
 /// by a [`DateTimeOffsetReader`]: 3,600 for `1970-01-01T01:00+01:00`. A timestamp has the offset of `config`.
 /// A line without an offset is refused, with the code of `TzRequired`.
 ///
-/// `CONFIG_OUT_OF_RANGE` and lines that are refused are those of [`speedate_datetime_column`].
+/// `CONFIG_OUT_OF_RANGE` and refused lines are as in [`speedate_datetime_column`].
 #[unsafe(no_mangle)]
 pub extern "C" fn speedate_datetime_offset_column(
     text: &[u8],

@@ -24,7 +24,7 @@ fn duration_reader(config: &DateTimeConfig) -> DurationReader
 /// Reads the lines of a text as durations, and writes their microseconds, with the sign, as
 /// [`read_column`] does by a [`DurationReader`]: -1,500,000 for `-PT1.5S`.
 ///
-/// `CONFIG_OUT_OF_RANGE` and lines that are refused are those of [`speedate_datetime_column`].
+/// `CONFIG_OUT_OF_RANGE` and refused lines are as in [`speedate_datetime_column`].
 #[unsafe(no_mangle)]
 pub extern "C" fn speedate_duration_column(
     text: &[u8],

@@ -35,8 +35,8 @@ impl ColumnChoices {
 /// Reads the lines of a text as times, and writes the microseconds after midnight that their clocks show,
 /// whatever the offset, as [`read_column`] does by a [`TimeReader`]: 43,994,500,000 for `12:13:14.5`.
 ///
-/// `CONFIG_OUT_OF_RANGE` and lines that are refused are those of [`speedate_datetime_column`]; the parser 1
-/// is out of range.
+/// `CONFIG_OUT_OF_RANGE` and refused lines are as in [`speedate_datetime_column`]; the parser 1 is
+/// out of range.
 #[unsafe(no_mangle)]
 pub extern "C" fn speedate_time_column(
     text: &[u8],
@@ -63,8 +63,8 @@ pub extern "C" fn speedate_time_column(
 /// [`TimeOffsetReader`]: 3,600 for `12:13+01:00`. A line without an offset is refused, with the code of
 /// `TzRequired`.
 ///
-/// `CONFIG_OUT_OF_RANGE` and lines that are refused are those of [`speedate_datetime_column`]; the parser 1
-/// is out of range.
+/// `CONFIG_OUT_OF_RANGE` and refused lines are as in [`speedate_datetime_column`]; the parser 1 is
+/// out of range.
 #[unsafe(no_mangle)]
 pub extern "C" fn speedate_time_offset_column(
     text: &[u8],

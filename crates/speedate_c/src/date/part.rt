@@ -20,7 +20,7 @@ use speedate::{CallKind, Date, DateConfig};
 /// Does what [`speedate_date_parse`] does, and writes the part for which a text is refused, as
 /// [`Date::parse_or_place`] does: 5 to 7 for `2020-13-01`.
 ///
-/// For a text that is accepted, and for `CONFIG_OUT_OF_RANGE`, the part is that of no text.
+/// For a text that is accepted, and for `CONFIG_OUT_OF_RANGE`, the part says that there is none.
 #[unsafe(no_mangle)]
 pub extern "C" fn speedate_date_parse_or_part(
     text: &[u8],

@@ -22,7 +22,7 @@ use speedate::{CallKind, DateTime};
 /// Does what [`speedate_datetime_parse`] does, and writes the part for which a text is refused, as
 /// [`DateTime::parse_or_place`] does: 17 to 19 for `2020-02-29T12:13:60`.
 ///
-/// For a text that is accepted, and for `CONFIG_OUT_OF_RANGE`, the part is that of no text.
+/// For a text that is accepted, and for `CONFIG_OUT_OF_RANGE`, the part says that there is none.
 #[unsafe(no_mangle)]
 pub extern "C" fn speedate_datetime_parse_or_part(
     text: &[u8],

@@ -18,7 +18,7 @@ use speedate::{DateTime, timestamp_microseconds};
 /// 1970-01-01T00:00:01.000002 for 1 second and 2 microseconds. The offset is attached and shifts
 /// nothing.
 ///
-/// The errors are those of that call; `CONFIG_OUT_OF_RANGE` comes first.
+/// The errors are that call's; `CONFIG_OUT_OF_RANGE` comes first.
 #[unsafe(no_mangle)]
 pub extern "C" fn speedate_datetime_from_timestamp(
     timestamp: i64,
@@ -39,7 +39,7 @@ pub extern "C" fn speedate_datetime_from_timestamp(
 /// The microseconds since 1970-01-01T00:00:00 in UTC of the date-time of a timestamp, as
 /// [`timestamp_microseconds`] gives them: 1,000,000 for 1 second.
 ///
-/// The errors are those of that call; `CONFIG_OUT_OF_RANGE` comes first.
+/// The errors are that call's; `CONFIG_OUT_OF_RANGE` comes first.
 #[unsafe(no_mangle)]
 pub extern "C" fn speedate_datetime_timestamp_microseconds(
     timestamp: i64,

@@ -19,7 +19,7 @@ use speedate::{CallKind, Duration};
 /// Does what [`speedate_duration_parse`] does, and writes the part for which a text is refused, as
 /// [`Duration::parse_or_place`] does: 4 to 5 for `P1D1Q`.
 ///
-/// For a text that is accepted, and for `CONFIG_OUT_OF_RANGE`, the part is that of no text.
+/// For a text that is accepted, and for `CONFIG_OUT_OF_RANGE`, the part says that there is none.
 #[unsafe(no_mangle)]
 pub extern "C" fn speedate_duration_parse_or_part(
     text: &[u8],

@@ -20,7 +20,7 @@ use speedate::{CallKind, Time};
 /// Does what [`speedate_time_parse`] does, and writes the part for which a text is refused, as
 /// [`Time::parse_or_place`] does: 6 to 8 for `12:13:60`.
 ///
-/// For a text that is accepted, and for `CONFIG_OUT_OF_RANGE`, the part is that of no text.
+/// For a text that is accepted, and for `CONFIG_OUT_OF_RANGE`, the part says that there is none.
 #[unsafe(no_mangle)]
 pub extern "C" fn speedate_time_parse_or_part(
     text: &[u8],

@@ -14,7 +14,7 @@ use speedate::Time;
 /// The time of the seconds and microseconds after midnight, with the offset of the configuration,
 /// as [`Time::from_timestamp_with_config`] gives it: 10:00:06.5 for 36,005 and 1,500,000.
 ///
-/// The errors are those of that call; `CONFIG_OUT_OF_RANGE` comes first.
+/// The errors are that call's; `CONFIG_OUT_OF_RANGE` comes first.
 #[unsafe(no_mangle)]
 pub extern "C" fn speedate_time_from_timestamp(
     second: u32,
