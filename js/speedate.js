@@ -87,16 +87,16 @@ class Library {
 
 function decoded(text) {
   // As bin/build_js writes it: in hexadecimal all bytes, and then the place of each among them, in one digit or two.
-  const digits = [];
+  const digits = new Uint8Array(127);
   let count = 0;
   for (let unit = 33; unit < 127; unit++) if (!'"&<\\|'.includes(String.fromCharCode(unit))) digits[unit] = count++;
-  const order = Array.from({ length: 256 }, (_, i) => parseInt(text.slice(2 * i, 2 * i + 2), 16));
+  const single = count - 2;
+  const order = Uint8Array.from({ length: 256 }, (_, i) => parseInt(text.slice(2 * i, 2 * i + 2), 16));
   const bytes = new Uint8Array(text.length);
   let size = 0;
   for (let i = 512; i < text.length; i++) {
     const digit = digits[text.charCodeAt(i)];
-    const beyond = digit - count + 2;
-    bytes[size++] = order[beyond < 0 ? digit : count - 2 + beyond * count + digits[text.charCodeAt(++i)]];
+    bytes[size++] = order[digit < single ? digit : single + (digit - single) * count + digits[text.charCodeAt(++i)]];
   }
   return bytes.subarray(0, size);
 }
@@ -830,6 +830,8 @@ function readLines(column, isEnd, parts, refusals) {
     column.lines += lines;
     at = next;
   } while (lines === LINES_AT_ONCE);
+  // The room of a very long line goes with it.
+  if (column.unfinished.length > MOST_KEPT) column.unfinished = new Uint8Array(end - at);
   column.unfinished.set(bytes.subarray(at, end));
   column.size = end - at;
 }

@@ -358,6 +358,17 @@ for (const [maxLineBytes, size, index] of [[20, 20], [20, 21, 0], [0, 0], [0, 1,
   for (let i = 0; i < 10; i++) assert.equal(reader.read("1970-01-02\n1970-01").length + reader.read("-02\n").length, 2);
   assert.throws(() => reader.read("1970-01-02\n1970-01-020"), { name: "LineTooLong", index: 21 });
 }
+{
+  // The room of a long line goes with it, although the reader goes on.
+  const reader = dateTimeColumnReader({ overflow: "truncate" });
+  const before = held();
+  reader.read("1970-01-01T00:00:01.");
+  for (let i = 0; i < 200; i++) reader.read(Buffer.alloc(2 ** 20, "0"));
+  assert.deepEqual([...reader.read("Z\n1970-01-01T00:0"), ...reader.end("0:02Z")], [1000, 2000]);
+  for (let i = 0; i < 100 && held() >= before + 100; i++) await sleep(100);
+  assert.ok(held() < before + 100, `${before} megabytes before, and ${held()} after a line of 200`);
+  assert.throws(() => reader.read(""), TypeError);
+}
 for (const [maxRefusals, listed] of [[0, []], [1, [1]], [2, [1, 2]], [4, [1, 2, 4, 5]], [9, [1, 2, 4, 5]], [undefined, [1, 2, 4, 5]]]) {
   // What is not listed is refused and counted too.
   const lines = ["1970-01-02", "x", "y", "1970-01-04", "z", "x"];
