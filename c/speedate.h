@@ -14,8 +14,8 @@
  * - A column is written to places of yours, which are passed as an address and their number. If that is 0, the address
  *   may be NULL. They do not overlap the text, one another or *progress.
  * - A text is printed into a buffer of yours, with a zero byte after it, and its length without that byte is written to
- *   *length. A buffer of the size that is named beside the type is always large enough; no call tells the size that a
- *   text needs. Bytes after the zero byte keep their values. If the size is 0, the buffer may be NULL.
+ *   *length. A buffer of the size that is named beside the type is always large enough; no call returns the size that
+ *   a text needs. Bytes after the zero byte keep their values. If the size is 0, the buffer may be NULL.
  * - Values and configurations are passed by value. So `out` may point to the variable that is passed:
  *   speedate_date_add_days(date, 1, &date).
  * - `out`, `taken`, `end`, `part`, `length` and `progress` point to variables of their types. They are not NULL,
@@ -35,9 +35,8 @@
 extern "C" {
 #endif
 
-/* Stands before each call that returns a code, so that a compiler warns if the code is not used: after a call that
- * fails, the variable that it should have written may have no value. Define it as nothing before the #include to have
- * no such warnings. */
+/* Comes before each call that returns a code, so that a compiler warns if the code is not used: a call that fails may
+ * leave its variable unwritten. Define it as nothing before the #include to switch these warnings off. */
 #ifndef SPEEDATE_NODISCARD
 #if (defined(__cplusplus) && __cplusplus >= 201703L) || (defined(__STDC_VERSION__) && __STDC_VERSION__ >= 202311L)
 #define SPEEDATE_NODISCARD [[nodiscard]]
@@ -109,14 +108,14 @@ enum SpeedateCode {
     SPEEDATE_OUT_OF_RANGE_TZ_MINUTE = 17,
     /* An offset is 24 hours or more. */
     SPEEDATE_OUT_OF_RANGE_TZ = 18,
-    /* A value without an offset cannot be moved to another offset, or, in a strict call or a column, the text has no
+    /* A value without an offset cannot be moved to another offset, or, in a strict call or a column, the text lacks an
      * offset. */
     SPEEDATE_TZ_REQUIRED = 19,
     /* No call of this header returns it. In the library it means that a clock shows a time before 1970. */
     SPEEDATE_SYSTEM_TIME_ERROR = 20,
     /* The month is not 1 to 12. */
     SPEEDATE_OUT_OF_RANGE_MONTH = 21,
-    /* The month has no such day. */
+    /* The month does not have this day. */
     SPEEDATE_OUT_OF_RANGE_DAY = 22,
     /* The hour is over 23. */
     SPEEDATE_OUT_OF_RANGE_HOUR = 23,
@@ -137,9 +136,9 @@ enum SpeedateCode {
     SPEEDATE_DURATION_T_REPEATED = 30,
     /* A component follows one that has a fraction. */
     SPEEDATE_DURATION_INVALID_FRACTION = 31,
-    /* A component after `T` has no designator of hours, minutes or seconds. */
+    /* A component after `T` lacks a designator of hours, minutes or seconds. */
     SPEEDATE_DURATION_INVALID_TIME_UNIT = 32,
-    /* A component before `T` has no designator of years, months, weeks or days. */
+    /* A component before `T` lacks a designator of years, months, weeks or days. */
     SPEEDATE_DURATION_INVALID_DATE_UNIT = 33,
     /* The days of a duration are not followed by a form of `day`. */
     SPEEDATE_DURATION_INVALID_DAYS = 34,
@@ -164,11 +163,11 @@ enum SpeedateCode {
     /* A timestamp in microseconds has a digit after its point, which the configuration refuses. */
     SPEEDATE_MICROSECOND_FRACTION_TOO_LONG = 42,
 
-    /* The library has no error of a text for the next three. */
+    /* The next three are not errors of a text in the library. */
 
     /* From the calls on columns, of a line: its duration is 2^63 microseconds or more. No call returns it. */
     SPEEDATE_NUMBER_TOO_LARGE = 97,
-    /* From speedate_int_parse: the text is no whole number, or one that does not fit 64 bits. */
+    /* From speedate_int_parse: the text is not a whole number that fits 64 bits. */
     SPEEDATE_INVALID_INTEGER = 98,
     /* No date from 0000-01-01 to 9999-12-31 has that day number, or is that many days away. Other calls return
      * SPEEDATE_DATE_TOO_SMALL or SPEEDATE_DATE_TOO_LARGE. */
@@ -177,11 +176,11 @@ enum SpeedateCode {
     /* From 101 on: mistakes of the caller. */
 
     /* A value that was passed is out of range, such as month 13 or a flag of 2; or, from a call whose name begins with
-     * speedate_code, the number is no code, or no kind. */
+     * speedate_code, the number is not a code, or not a kind. */
     SPEEDATE_VALUE_OUT_OF_RANGE = 101,
     /* A field of the configuration is out of range. */
     SPEEDATE_CONFIG_OUT_OF_RANGE = 102,
-    /* The buffer has no room for the text and its zero byte. */
+    /* The buffer is too small for the text and its zero byte. */
     SPEEDATE_BUFFER_TOO_SMALL = 103
 };
 
@@ -254,8 +253,8 @@ typedef struct SpeedatePart {
 #define SPEEDATE_KIND_DATETIME_STRICT 7
 #define SPEEDATE_KIND_DURATION 8
 
-/* Prints what a call expected that returned a code and wrote *part, a phrase for people: "month, 01 to 12" for 21. Of
- * *part only the kind matters: for the code of a call that writes no part, fill in its kind. It fails with
+/* Prints what a call expected that returned a code and wrote *part, a phrase for people: "month, 01 to 12" for 21. Only
+ * the kind of *part matters: for the code of a call that writes no part, fill in its kind. It fails with
  * SPEEDATE_VALUE_OUT_OF_RANGE for 0, a number that is not a code, and one that is not a kind. */
 SPEEDATE_NODISCARD int speedate_code_expected(int code, const SpeedatePart *part, char *buffer, size_t size,
                                               size_t *length);
@@ -263,8 +262,8 @@ SPEEDATE_NODISCARD int speedate_code_expected(int code, const SpeedatePart *part
 /* Where the part of a text ends that a fault is about, which begins at its place: 7 for 21, "2020-13-01" and 5. A call
  * with _parse_or_part has written it as part.end; this one is for those who keep just the code and the place. *end is
  * at least `place`, and at most `size` if `place` is. It is `place` if the part is missing. GRAMMAR.md has the part of
- * each fault, in bytes that are not UTF-8 too. It fails with SPEEDATE_VALUE_OUT_OF_RANGE for a number that is no error
- * of the library: 0, and those over SPEEDATE_LAST_FAULT. */
+ * each fault, in bytes that are not UTF-8 too. It fails with SPEEDATE_VALUE_OUT_OF_RANGE for a number that is not an
+ * error of the library: 0, or more than SPEEDATE_LAST_FAULT. */
 SPEEDATE_NODISCARD int speedate_code_part_end(int code, const char *text, size_t size, size_t place, size_t *end);
 
 /* ---- Configurations ---- */
@@ -383,8 +382,8 @@ SPEEDATE_NODISCARD int speedate_date_parse_or_part_text(const char *text, size_t
 SPEEDATE_NODISCARD int speedate_date_parse_or_part_front(const char *text, size_t size, SpeedateDate *out,
                                                          size_t *taken, SpeedatePart *part);
 
-/* SPEEDATE_OK if the numbers are those of a date; otherwise the first of SPEEDATE_DATE_TOO_LARGE,
- * SPEEDATE_OUT_OF_RANGE_MONTH and SPEEDATE_OUT_OF_RANGE_DAY that applies. */
+/* SPEEDATE_OK if the numbers are a date; otherwise the first of SPEEDATE_DATE_TOO_LARGE, SPEEDATE_OUT_OF_RANGE_MONTH
+ * and SPEEDATE_OUT_OF_RANGE_DAY that applies. */
 SPEEDATE_NODISCARD int speedate_date_check(SpeedateDate date);
 
 /* Prints a date: "2020-02-29". The text parses as the date. */
@@ -394,9 +393,9 @@ SPEEDATE_NODISCARD int speedate_date_to_text(SpeedateDate date, char *buffer, si
 SPEEDATE_NODISCARD int speedate_date_compare(SpeedateDate first, SpeedateDate second, int32_t *out);
 
 /* The date of a timestamp in the unit of the configuration: 1970-01-02 for 86,400 seconds. If require_exact is 1, a
- * timestamp that is not a midnight fails with SPEEDATE_DATE_NOT_EXACT; if it is 0, the date is that of the day in which
- * the timestamp lies; any other number fails with SPEEDATE_VALUE_OUT_OF_RANGE. A timestamp before the year 0000 fails
- * with SPEEDATE_DATE_TOO_SMALL, one after the year 9999 with SPEEDATE_DATE_TOO_LARGE. */
+ * timestamp that is not a midnight fails with SPEEDATE_DATE_NOT_EXACT; if it is 0, the date is the day in which the
+ * timestamp lies; any other number fails with SPEEDATE_VALUE_OUT_OF_RANGE. A timestamp before the year 0000 fails with
+ * SPEEDATE_DATE_TOO_SMALL, one after the year 9999 with SPEEDATE_DATE_TOO_LARGE. */
 SPEEDATE_NODISCARD int speedate_date_from_timestamp(int64_t timestamp, uint8_t require_exact, SpeedateConfig config,
                                                     SpeedateDate *out);
 
@@ -425,8 +424,8 @@ SPEEDATE_NODISCARD int speedate_date_days_between(SpeedateDate earlier, Speedate
 /* Parses a time: "12:13:14.5+01:00". */
 SPEEDATE_NODISCARD int speedate_time_parse(const char *text, size_t size, SpeedateConfig config, SpeedateTime *out);
 
-/* Parses the times of RFC 3339 and no others. Of these it refuses a second 60, and with SPEEDATE_OVERFLOW_ERROR more
- * than six digits in a fraction. Of the configuration only overflow_behavior matters. A text that speedate_time_parse
+/* Parses the times of RFC 3339 and no others. It also refuses a second 60, and with SPEEDATE_OVERFLOW_ERROR more than
+ * six digits in a fraction. Only overflow_behavior of the configuration matters. A text that speedate_time_parse
  * refuses has the same fault here. */
 SPEEDATE_NODISCARD int speedate_time_parse_strict(const char *text, size_t size, SpeedateConfig config,
                                                   SpeedateTime *out);
@@ -444,7 +443,7 @@ SPEEDATE_NODISCARD int speedate_time_parse_or_part_strict(const char *text, size
 SPEEDATE_NODISCARD int speedate_time_parse_or_part_front(const char *text, size_t size, SpeedateConfig config,
                                                          SpeedateTime *out, size_t *taken, SpeedatePart *part);
 
-/* SPEEDATE_OK if the numbers are those of a time; otherwise the first of SPEEDATE_OUT_OF_RANGE_HOUR,
+/* SPEEDATE_OK if the numbers are a time; otherwise the first of SPEEDATE_OUT_OF_RANGE_HOUR,
  * SPEEDATE_OUT_OF_RANGE_MINUTE, SPEEDATE_OUT_OF_RANGE_SECOND, SPEEDATE_TIME_TOO_LARGE (the microsecond) and
  * SPEEDATE_OUT_OF_RANGE_TZ (the offset or its flag) that applies. */
 SPEEDATE_NODISCARD int speedate_time_check(SpeedateTime time);
@@ -491,8 +490,8 @@ SPEEDATE_NODISCARD int speedate_datetime_parse_strict(const char *text, size_t s
 
 /* Parses the date-time at the front of a text, and writes how many bytes it takes to *taken: 2026-11-22T12:13:14Z, and
  * 20, from "2026-11-22T12:13:14Z GET /". It parses no timestamp (cut out the word and call speedate_datetime_parse) and
- * no date alone (call speedate_date_parse_front). An offset has to follow without a space. For texts with nanoseconds
- * set SPEEDATE_OVERFLOW_TRUNCATE. */
+ * no date without a time (call speedate_date_parse_front). An offset has to follow without a space. For texts with
+ * nanoseconds set SPEEDATE_OVERFLOW_TRUNCATE. */
 SPEEDATE_NODISCARD int speedate_datetime_parse_front(const char *text, size_t size, SpeedateConfig config,
                                                      SpeedateDateTime *out, size_t *taken);
 
@@ -506,8 +505,8 @@ SPEEDATE_NODISCARD int speedate_datetime_parse_or_part_strict(const char *text, 
 SPEEDATE_NODISCARD int speedate_datetime_parse_or_part_front(const char *text, size_t size, SpeedateConfig config,
                                                              SpeedateDateTime *out, size_t *taken, SpeedatePart *part);
 
-/* SPEEDATE_OK if the numbers are those of a date-time; otherwise what speedate_date_check returns for the date, or, if
- * the date is in range, what speedate_time_check returns for the time. */
+/* SPEEDATE_OK if the numbers are a date-time; otherwise what speedate_date_check returns for the date, or, if the date
+ * is in range, what speedate_time_check returns for the time. */
 SPEEDATE_NODISCARD int speedate_datetime_check(SpeedateDateTime value);
 
 /* Prints a date-time: "2020-02-29T12:13:14.500000+01:30". The text parses as the date-time
@@ -567,7 +566,7 @@ SPEEDATE_NODISCARD int speedate_duration_parse_or_part(const char *text, size_t 
  * are over 999,999,999. */
 SPEEDATE_NODISCARD int speedate_duration_normalize(SpeedateDuration numbers, SpeedateDuration *out);
 
-/* SPEEDATE_OK if the numbers are those of a duration. Otherwise the first field that is out of range decides:
+/* SPEEDATE_OK if the numbers are a duration. Otherwise the first field that is out of range decides:
  * SPEEDATE_DURATION_DAYS_TOO_LARGE for the days, SPEEDATE_DURATION_VALUE_TOO_LARGE for any other. */
 SPEEDATE_NODISCARD int speedate_duration_check(SpeedateDuration duration);
 
@@ -619,8 +618,8 @@ SPEEDATE_NODISCARD int speedate_duration_before_date(SpeedateDuration duration, 
 /* How a column is read. In each field but at_end 0 is the default, so a struct of zeros is not. A field that a call does
  * not use has to be in range too. What is said of later versions at SpeedateConfig holds here too. */
 typedef struct SpeedateColumnConfig {
-    /* 1, the default, if the end of the text ends its last line. 0 if more text may follow: what stands after the last
-     * line feed is then left for a further call, so that half a line is never read as a whole one. */
+    /* 1, the default, if the end of the text ends its last line. 0 if more text may follow: the bytes after the last
+     * line feed are then left for a further call, so that half a line is never read as a whole one. */
     uint8_t at_end;
     /* 1 if a carriage return at the end of a line is dropped, as files of Windows have one; 0 if it is part of the
      * line, which is then refused. */
@@ -631,8 +630,8 @@ typedef struct SpeedateColumnConfig {
      * speedate_datetime_column uses it. */
     uint8_t assumes_utc;
     /* 0 if a line that is refused ends the column; 1 if it gets the smallest number, INT64_MIN or INT32_MIN, and the
-     * column goes on. That is the number of no other line, and INT64_MIN is NaT in NumPy. With `errors` the column goes
-     * on in any case. */
+     * column goes on. No other line has this number, and INT64_MIN is NaT in NumPy. With `errors` the column goes on in
+     * any case. */
     uint8_t goes_on;
 } SpeedateColumnConfig;
 
@@ -657,7 +656,7 @@ typedef struct SpeedateProgress {
  * place in `out`, and writes to *progress how far it came. Places without a line stay as they are. It returns
  * SPEEDATE_CONFIG_OUT_OF_RANGE if a field of either configuration is out of range, and otherwise SPEEDATE_OK: a line
  * that is refused does not make a call fail. What follows progress->bytes is left for a further call. If
- * progress->error is SPEEDATE_OK and there is room left, it has no whole line.
+ * progress->error is SPEEDATE_OK and there is room left, these bytes have no whole line.
  *
  * `errors` is NULL, with an error_room of 0, if only numbers are wanted. Otherwise the code of each line goes to the
  * same place in `errors`, 0 if it is not refused, and no line ends the column: one that is refused gets the smallest
@@ -671,7 +670,7 @@ SPEEDATE_NODISCARD int speedate_datetime_column(const char *text, size_t size, S
 
 /* The microseconds of date-times since 1970-01-01T00:00:00 that their clocks show, whatever the offset: 1000000 and
  * 3600000000 from "1970-01-01T00:00:01Z\n1970-01-01T01:00+01:00\n". With the offsets, which the next call gives, they
- * are the date-times as they stand, where speedate_datetime_column gives the instants alone. */
+ * are the date-times as they are written, where speedate_datetime_column gives only the instants. */
 SPEEDATE_NODISCARD int speedate_datetime_clock_column(const char *text, size_t size, SpeedateConfig config,
                                                       SpeedateColumnConfig column, int64_t *out, size_t room,
                                                       uint8_t *errors, size_t error_room, SpeedateProgress *progress);
