@@ -80,7 +80,7 @@ class Error {
     }
 
     /* Where the part ends that it is about, in a text that is refused for it at a place: 7 in "2020-13-01", from 5 on. It is
-     * the place for a code that is no fault of a text. */
+     * the place for a code that is not a fault of a text. */
     std::size_t part_end(std::string_view text, std::size_t place) const noexcept {
         std::size_t end = place;
         return speedate_code_part_end(code_, text.data(), text.size(), place, &end) == SPEEDATE_OK ? end : place;
@@ -139,7 +139,7 @@ template <class T> class [[nodiscard]] Result {
 
     T value_or(const T &other) const { return value_ ? *value_ : other; }
 
-    /* The error. Call it only if there is no value. */
+    /* The error. Call it only if the value is missing. */
     Error error() const noexcept { return error_; }
 
   private:
@@ -147,14 +147,14 @@ template <class T> class [[nodiscard]] Result {
     Error error_{SPEEDATE_OK};
 };
 
-/* The result of a call that tells which part of a text it refuses, or SPEEDATE_PART_NONE where it refuses none:
+/* The result of a call that says which part of a text it refuses, or SPEEDATE_PART_NONE where it refuses none:
  * if (auto date = Date::parse_or_part(text)) use(*date); else underline(date.part().place, date.part().end); */
 template <class T> class [[nodiscard]] OrPart : public Result<T> {
   public:
     OrPart(const Result<T> &result, const SpeedatePart &part) : Result<T>(result), part_(part) {}
     const SpeedatePart &part() const noexcept { return part_; }
 
-    /* What was expected in place of the part. Call it only if there is no value. */
+    /* What was expected in place of the part. Call it only if the value is missing. */
     std::string expected() const { return this->error().expected(part_); }
 
   private:
@@ -237,7 +237,7 @@ inline void must(int code) noexcept {
         std::abort();
 }
 
-/* The value that a call writes, in the type of C++ that stands for it. */
+/* The value that a call writes, in its type of C++. */
 template <class T, class C, class Call> Result<T> written(Call call) {
     C out;
     const int code = call(&out);

@@ -47,7 +47,7 @@ export type Answer<Value> = { readonly ok: true; readonly value: Value } | Refus
 /** Why a text is refused, by its fault: the number of that in C, what it means, and what was expected, for people. */
 type Reason = { readonly fault: Fault; readonly code: number; readonly message: string; readonly expected: string };
 /** The part of a text that a fault is about, in units of a string, otherwise in bytes. `place` is where the fault lies: 5 of
- * `2020-13-01`, and the length of a text that is too short. Within a character it is that of its beginning. `end` is where the
+ * `2020-13-01`, and the length of a text that is too short. Within a character it is the character's start. `end` is where the
  * part ends that begins there, so that a form can mark it: 7 of `2020-13-01`, and the place if the part is missing. */
 type Part = { readonly place: number; readonly end: number };
 /** A refusal as a `safe` call returns it. */
@@ -62,7 +62,7 @@ export type TimestampUnit = "infer" | "s" | "ms" | "us";
  * to be a midnight. */
 export type TimestampOptions = { timestamps?: TimestampUnit };
 /** The offset that the value of a timestamp gets, in seconds: 0 for Unix time. It is attached, and shifts nothing. Without
- * it the value has no offset. */
+ * it the value lacks an offset. */
 export type OffsetOptions = { timestampOffset?: number };
 /** What happens to digits past the microsecond: `error`, the default, refuses the text; `truncate` drops them, and rounds a
  * timestamp to the nearest microsecond. An ISO 8601 duration is rounded under both. */
@@ -107,7 +107,7 @@ export function safeParseDateFront<It extends Text>(text: It, options?: NoOption
 export function safeParseTimeFront<It extends Text>(text: It, options?: OverflowOptions): Answer<Front<SpeedateTime, It>>;
 export function safeParseDateTimeFront<It extends Text>(text: It, options?: OverflowOptions): Answer<Front<SpeedateDateTime, It>>;
 
-/** Why a schema refuses a value: as a Refusal has it, or the message alone of what is no string. */
+/** Why a schema refuses a value: as a Refusal has it, or just a message for a value that is not a string. */
 export type SchemaIssue = { readonly message: string } & Partial<Reason & Part>;
 /** A schema as validators take it, by version 1 of the interface Standard Schema. */
 export type Schema<Value> = {
@@ -127,7 +127,7 @@ export function schema(kind: "duration", options?: DurationOptions): Schema<Spee
 /** A line of a column that is refused: its index, from 0, and why. */
 export type LineRefusal = { readonly index: number } & Reason;
 /** What happens to lines that are refused. Without a list the first one is thrown, as a SpeedateError with its index. With one each
- * is appended to it, and has in the column the number that is no other line's. */
+ * is appended to it, and gets a number in the column that no other line has. */
 export type ColumnOptions = {
   refusals?: LineRefusal[];
   /** How many refusals are appended at most; any number, if this is left out. Further lines are refused as well, and have their number. */
@@ -143,15 +143,15 @@ export type DateTimePartColumnOptions = DateTimeFormOptions & ColumnOptions;
 export type TimeColumnOptions = StrictOptions & ColumnOptions;
 export type DurationColumnOptions = DurationOptions & ColumnOptions;
 /** Reads a column in pieces, which may end anywhere: `read` gives the numbers of the lines that end in a piece, and keeps the line
- * that does not. `end` gives those of what is left, of a last piece too. Indices count from the first piece on. Once a call has
+ * that does not. `end` gives the numbers of the lines that are left, also in a last piece. Indices count from the first piece on. Once a call has
  * thrown for a line, or `end` was called, each further call is a TypeError. With a list of refusals, `refused` is how many lines were
  * refused, also those beyond `maxRefusals`. */
 export type ColumnReader<Column> = { read(text: Text): Column; end(text?: Text): Column; readonly refused: number };
-/** The days from 1970-01-01 to the date of each line: 1 of `1970-01-02`, and -2147483648 of a line that is refused. A line is ended
+/** The days from 1970-01-01 to the date of each line: 1 of `1970-01-02`, and -2147483648 for a refused line. A line is ended
  * by a line feed, with a carriage return before it or without, or by the end of the text. */
 export function dateColumn(text: Text, options?: DateColumnOptions): Int32Array;
-/** The milliseconds of Unix time of the date-time of each line, with a fraction for microseconds, and NaN of a line that is refused:
- * 1000.5 of `1970-01-01T00:00:01.0005Z`. If `unit` is `us`, the microseconds, and -(2n ** 63n) of a line that is refused.
+/** The milliseconds of Unix time of the date-time of each line, with a fraction for microseconds, and NaN for a refused line:
+ * 1000.5 of `1970-01-01T00:00:01.0005Z`. If `unit` is `us`, the microseconds, and -(2n ** 63n) for a refused line.
  *
  * The Date of a line, as `toDate` gives it, is `toDate(dateTimeFromTimestamp(it, "us", { timestampOffset: 0 }))` of its
  * microseconds, if it lies in the years 0 to 9999 in UTC. `new Date(it)` of its milliseconds is a later one where they are
@@ -160,22 +160,22 @@ export function dateTimeColumn(text: Text, options?: DateTimeColumnOptions & { u
 export function dateTimeColumn(text: Text, options: DateTimeColumnOptions & { unit: "us" }): BigInt64Array;
 export function dateTimeColumn(text: Text, options: DateTimeColumnOptions & { unit?: "ms" | "us" }): Float64Array | BigInt64Array;
 /** The milliseconds from 1970-01-01T00:00 that the clock of each date-time shows, whatever its offset, with a fraction for
- * microseconds, and NaN of a line that is refused: 3600000 of `1970-01-01T01:00+02:00`. If `unit` is `us`, the microseconds, and
- * -(2n ** 63n) of a line that is refused. With the offset it is the date-time as it stands, where `dateTimeColumn` gives the instant. */
+ * microseconds, and NaN for a refused line: 3600000 of `1970-01-01T01:00+02:00`. If `unit` is `us`, the microseconds, and
+ * -(2n ** 63n) for a refused line. With the offset it is the date-time as it was written, where `dateTimeColumn` gives the instant. */
 export function dateTimeClockColumn(text: Text, options?: DateTimePartColumnOptions & { unit?: "ms" }): Float64Array;
 export function dateTimeClockColumn(text: Text, options: DateTimePartColumnOptions & { unit: "us" }): BigInt64Array;
 export function dateTimeClockColumn(text: Text, options: DateTimePartColumnOptions & { unit?: "ms" | "us" }): Float64Array | BigInt64Array;
-/** The seconds of the offset of each date-time: 7200 of `1970-01-01T01:00+02:00`, and -2147483648 of a line that is refused, as one
+/** The seconds of the offset of each date-time: 7200 of `1970-01-01T01:00+02:00`, and -2147483648 for a refused line, as one
  * without an offset is. A timestamp has `timestampOffset`. */
 export function dateTimeOffsetColumn(text: Text, options?: DateTimePartColumnOptions): Int32Array;
-/** The milliseconds after midnight that the clock of each time shows, as `dateTimeClockColumn` gives those of date-times. */
+/** The milliseconds after midnight that the clock of each time shows, as `dateTimeClockColumn` does for date-times. */
 export function timeColumn(text: Text, options?: TimeColumnOptions & { unit?: "ms" }): Float64Array;
 export function timeColumn(text: Text, options: TimeColumnOptions & { unit: "us" }): BigInt64Array;
 export function timeColumn(text: Text, options: TimeColumnOptions & { unit?: "ms" | "us" }): Float64Array | BigInt64Array;
-/** The seconds of the offset of each time, as `dateTimeOffsetColumn` gives those of date-times. */
+/** The seconds of the offset of each time, as `dateTimeOffsetColumn` does for date-times. */
 export function timeOffsetColumn(text: Text, options?: TimeColumnOptions): Int32Array;
-/** The milliseconds of each duration, with its sign: -1500.5 of `-PT1.5005S`, or the microseconds, as `dateTimeClockColumn` gives
- * those of date-times. `number_too_large` from 2 ** 63 microseconds on, over 106,751,991 days. */
+/** The milliseconds of each duration, with its sign: -1500.5 of `-PT1.5005S`, or the microseconds, as `dateTimeClockColumn` does
+ * for date-times. `number_too_large` from 2 ** 63 microseconds on, over 106,751,991 days. */
 export function durationColumn(text: Text, options?: DurationColumnOptions & { unit?: "ms" }): Float64Array;
 export function durationColumn(text: Text, options: DurationColumnOptions & { unit: "us" }): BigInt64Array;
 export function durationColumn(text: Text, options: DurationColumnOptions & { unit?: "ms" | "us" }): Float64Array | BigInt64Array;
@@ -198,7 +198,7 @@ export function durationColumnReader(options?: DurationColumnOptions & { unit?: 
 export function durationColumnReader(options: DurationColumnOptions & { unit: "us" }): ColumnReader<BigInt64Array>;
 export function durationColumnReader(options: DurationColumnOptions & { unit?: "ms" | "us" }): ColumnReader<Float64Array | BigInt64Array>;
 
-/** The date of a timestamp: 1970-01-02 of 86400 seconds. `date_not_exact` where that is no midnight, unless `exact` is false;
+/** The date of a timestamp: 1970-01-02 of 86400 seconds. `date_not_exact` if it is not a midnight, unless `exact` is false;
  * `date_too_small` or `date_too_large` outside the years 0 to 9999. */
 export function dateFromTimestamp(timestamp: number | bigint, unit: TimestampUnit, options?: { exact?: boolean }): SpeedateDate;
 /** The time that is `timestamp` units after midnight: 01:00:00 of 3600 seconds. `time_too_large` from 24 hours on. */
@@ -252,6 +252,6 @@ export function inTimezone(value: SpeedateTime, offsetSeconds: number): Speedate
 export function inTimezone(value: SpeedateDateTime, offsetSeconds: number): SpeedateDateTime;
 
 /** Hands over `speedate/speedate.wasm` as a compiled `WebAssembly.Module`, in an engine that compiles no bytes at run time, and to
- * the entry `speedate/bare`, which has no module of its own. It has to come before all other calls, and changes nothing after
+ * the entry `speedate/bare`, which lacks a module. It has to come before all other calls, and changes nothing after
  * one. A TypeError if it is another module. */
 export function init(module: object): void;
