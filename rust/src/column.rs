@@ -23,7 +23,7 @@ pub struct LineConfig {
     pub drops_returns: bool,
 }
 
-/// Why a line has no number.
+/// Why a line is refused.
 ///
 /// ```
 /// use speedate::{LineError, ParseError};
@@ -34,15 +34,15 @@ pub struct LineConfig {
 /// ```
 #[derive(Debug, PartialEq, Eq, Clone)]
 pub enum LineError {
-    /// The text is refused, or has no offset, which the reader needs: then with
+    /// The text is refused, or lacks an offset that the reader needs: then with
     /// [`TzRequired`](ParseError::TzRequired).
     Parse(ParseError),
-    /// The number of the value does not fit, as that of `P999999999D` in microseconds.
+    /// The number of the value does not fit, such as `P999999999D` in microseconds.
     NumberTooLarge,
 }
 
 impl LineError {
-    /// The number of the error: that of the [`ParseError`](ParseError::number), and 97 for
+    /// The number of the error, from the [`ParseError`](ParseError::number), and 97 for
     /// [`NumberTooLarge`](Self::NumberTooLarge).
     #[must_use]
     pub fn number(&self) -> u8 {
@@ -53,7 +53,7 @@ impl LineError {
     }
 
     /// The error of a number that [`read_column_with_errors`] has written. It is `None` for 0; [`ParseError`] says which one
-    /// stands for a number that the package does not know.
+    /// is used for a number that the package does not know.
     #[must_use]
     pub fn numbered(number: u8) -> Option<Self> {
         Code::from(number).into()
@@ -175,7 +175,7 @@ pub fn read_column_with_errors<R: LineReader>(
     out: &mut [R::Number],
     errors: &mut [u8],
 ) -> Result<Progress, ParseError> {
-    // Without places for errors C would read a column of numbers alone.
+    // Without places for errors C would read a column of only numbers.
     let room = if errors.is_empty() { 0 } else { out.len() };
     reader.column(text, config, &mut out[..room], errors)
 }
@@ -213,7 +213,7 @@ macro_rules! reader {
 /// ```
 #[derive(Debug, Clone, PartialEq)]
 pub enum DateReader {
-    /// Parses dates alone, as [`Date::parse_bytes_rfc3339`](crate::Date::parse_bytes_rfc3339) does.
+    /// Parses only dates, as [`Date::parse_bytes_rfc3339`](crate::Date::parse_bytes_rfc3339) does.
     Text,
     /// Parses timestamps too, as [`Date::parse_bytes_with_config`](crate::Date::parse_bytes_with_config) does.
     OrTimestamp(DateConfig),
@@ -238,7 +238,7 @@ pub enum DateTimeParser {
     Text(TimeConfig),
     /// Timestamps too, as [`DateTime::parse_bytes_with_config`](crate::DateTime::parse_bytes_with_config).
     OrTimestamp(DateTimeConfig),
-    /// Texts of RFC 3339 alone, as [`DateTime::parse_bytes_strict`](crate::DateTime::parse_bytes_strict).
+    /// Only texts of RFC 3339, as [`DateTime::parse_bytes_strict`](crate::DateTime::parse_bytes_strict).
     Strict(MicrosecondsPrecisionOverflowBehavior),
 }
 
@@ -295,8 +295,8 @@ macro_rules! configured {
 
 /// Reads a line as a date-time, and counts the microseconds from 1970-01-01T00:00:00 on the same clock, whatever the offset.
 ///
-/// With the number of a [`DateTimeOffsetReader`] it tells the date-time and its offset, where a [`DateTimeReader`] tells the
-/// instant alone.
+/// With the number of a [`DateTimeOffsetReader`] it gives the date-time and its offset, where a [`DateTimeReader`] gives only
+/// the instant.
 ///
 /// ```
 /// use speedate::{read_column, DateTimeClockReader, DateTimeParser, LineConfig, TimeConfig};
@@ -340,7 +340,7 @@ reader!(DateTimeOffsetReader by speedate_datetime_offset_column -> i32);
 pub enum TimeParser {
     /// Texts of RFC 3339, relaxed, as [`Time::parse_bytes_with_config`](crate::Time::parse_bytes_with_config).
     Text(TimeConfig),
-    /// Texts of RFC 3339 alone, as [`Time::parse_bytes_strict`](crate::Time::parse_bytes_strict).
+    /// Only texts of RFC 3339, as [`Time::parse_bytes_strict`](crate::Time::parse_bytes_strict).
     Strict(MicrosecondsPrecisionOverflowBehavior),
 }
 

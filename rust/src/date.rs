@@ -76,7 +76,7 @@ impl Date {
     ///
     /// # Errors
     ///
-    /// Why there is no date at the front.
+    /// Why no date is at the front.
     pub fn parse_front(bytes: &[u8]) -> Result<(Self, usize), ParseError> {
         Ok(ffi::speedate_date_parse_front(bytes)?)
     }

@@ -47,7 +47,7 @@ impl Value for DateTime {
     }
 }
 
-/// The order of instants, as that of [`Time`].
+/// The order of instants, as in [`Time`].
 impl PartialOrd for DateTime {
     fn partial_cmp(&self, other: &Self) -> Option<Ordering> {
         ffi::speedate_datetime_compare(self, other).ok().map(|order: i32| order.cmp(&0))
@@ -101,7 +101,7 @@ impl DateTime {
         Ok(ffi::speedate_datetime_parse_text(bytes, config)?)
     }
 
-    /// The date-time of an input that is RFC 3339 alone, without a second 60.
+    /// The date-time of a strict input of RFC 3339, without a second 60.
     ///
     /// # Errors
     ///
@@ -114,7 +114,7 @@ impl DateTime {
     }
 
     /// The date-time at the front of an input, whatever follows it, and its size in bytes. A timestamp is refused, and so is
-    /// a date alone.
+    /// a date without a time.
     ///
     /// ```
     /// let line = b"2026-11-22T12:13:14Z GET /";
@@ -124,7 +124,7 @@ impl DateTime {
     ///
     /// # Errors
     ///
-    /// Why there is no date-time at the front.
+    /// Why no date-time is at the front.
     pub fn parse_front(bytes: &[u8], config: &TimeConfig) -> Result<(Self, usize), ParseError> {
         Ok(ffi::speedate_datetime_parse_front(bytes, config)?)
     }
@@ -320,7 +320,7 @@ impl DateTime {
         self.total(ffi::speedate_datetime_unix_milliseconds(self))
     }
 
-    /// [`timestamp_tz`](Self::timestamp_tz) in microseconds. The crate has no such call.
+    /// [`timestamp_tz`](Self::timestamp_tz) in microseconds. The crate lacks this call.
     #[must_use]
     #[track_caller]
     pub fn timestamp_tz_us(&self) -> i64 {

@@ -16,7 +16,7 @@ macro_rules! parse_errors {
         /// assert_eq!(error.get_documentation(), Some("day value is outside expected range"));
         /// ```
         ///
-        /// [`InvalidCharSecondFraction`](Self::InvalidCharSecondFraction) stands for an error that the package does not
+        /// [`InvalidCharSecondFraction`](Self::InvalidCharSecondFraction) is used for an error that the package does not
         /// know, as a later library could have one; none of today's gives it.
         #[derive(Debug, PartialEq, Eq, Clone)]
         pub enum ParseError {
@@ -72,7 +72,7 @@ macro_rules! parse_errors {
                 }
             }
 
-            /// What stands for an error that has no variant here.
+            /// What is used for an error without a variant here.
             pub(crate) const UNKNOWN: Self = Self::InvalidCharSecondFraction;
 
             /// The error that has this number in `c/speedate.h`.
@@ -143,19 +143,19 @@ pub enum CallKind {
     DateOrTimestamp,
     /// It parses times, at the front of an input too.
     Time,
-    /// It parses the times of RFC 3339 alone.
+    /// It parses only times of RFC 3339.
     TimeStrict,
     /// It parses date-times, at the front of an input too.
     DateTime,
     /// It parses date-times and timestamps.
     DateTimeOrTimestamp,
-    /// It parses the date-times of RFC 3339 alone.
+    /// It parses only date-times of RFC 3339.
     DateTimeStrict,
     /// It parses durations.
     Duration,
 }
 
-/// What is printed once it is asked for: the texts stand in the library.
+/// What is printed once it is asked for: the texts are in the library.
 #[derive(Debug)]
 struct Expected {
     number: u8,

@@ -46,7 +46,7 @@ impl From<Code> for ParseError {
     #[inline]
     fn from(code: Code) -> Self {
         match code {
-            // Of a configuration only the offset can be out of range.
+            // Only the offset of a configuration can be out of range.
             Code::CONFIG_OUT_OF_RANGE => Self::OutOfRangeTz,
             Code(number) => Self::numbered(number).unwrap_or(Self::UNKNOWN),
         }
@@ -409,7 +409,7 @@ impl Buffer {
                 length: *mut usize,
             ) -> c_int;
         }
-        // For the kind alone the part is read.
+        // The part is read only for its kind.
         let part = CPart { kind: kind as i32, ..CPart::default() };
         // SAFETY: as for the calls below; `part` is a variable's address.
         self.printed(|text, size, length| unsafe { speedate_code_expected(code.into(), &part, text, size, length) })

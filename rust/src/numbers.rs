@@ -28,7 +28,7 @@ pub enum IntFloat {
 }
 
 impl IntFloat {
-    /// Whether the input is no number.
+    /// Whether the input is not a number.
     #[must_use]
     pub fn is_err(&self) -> bool {
         matches!(self, IntFloat::Err)

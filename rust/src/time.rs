@@ -51,7 +51,7 @@ impl Value for Time {
 
 /// The order of instants: in UTC if both times have an offset, otherwise as clocks show them. So times at different offsets
 /// can be neither `<`, `>` nor `==`, and only those sort well that all have an offset, or all have none. A time out of
-/// range has no order.
+/// range is not ordered.
 impl PartialOrd for Time {
     fn partial_cmp(&self, other: &Self) -> Option<Ordering> {
         ffi::speedate_time_compare(self, other).ok().map(|order: i32| order.cmp(&0))
@@ -59,7 +59,7 @@ impl PartialOrd for Time {
 }
 
 impl Time {
-    /// The time of an input that is RFC 3339 alone, without a second 60.
+    /// The time of a strict input of RFC 3339, without a second 60.
     ///
     /// ```
     /// use speedate::{MicrosecondsPrecisionOverflowBehavior::Error, ParseError, Time};
@@ -86,7 +86,7 @@ impl Time {
     ///
     /// # Errors
     ///
-    /// Why there is no time at the front.
+    /// Why no time is at the front.
     pub fn parse_front(bytes: &[u8], config: &TimeConfig) -> Result<(Self, usize), ParseError> {
         Ok(ffi::speedate_time_parse_front(bytes, config)?)
     }
