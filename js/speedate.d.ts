@@ -61,7 +61,7 @@ export type TimestampUnit = "infer" | "s" | "ms" | "us";
 /** Timestamps are parsed too, in this unit: every whole number, 20200229 as well, and of date-times every decimal. A date's has
  * to be a midnight. */
 export type TimestampOptions = { timestamps?: TimestampUnit };
-/** The offset that the value of a timestamp gets, in seconds: 0 for Unix time. It is attached, and shifts nothing. Without
+/** The offset that the value of a timestamp gets, in seconds: 0 for Unix time. It is stored; the clock reading does not change. Without
  * it the value lacks an offset. */
 export type OffsetOptions = { timestampOffset?: number };
 /** What happens to digits past the microsecond: `error`, the default, refuses the text; `truncate` drops them, and rounds a

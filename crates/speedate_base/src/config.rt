@@ -131,8 +131,8 @@ impl DateConfigBuilder {
 pub struct TimeConfig {
     /// What is done with digits past the microsecond.
     pub microseconds_precision_overflow_behavior: MicrosecondsPrecisionOverflowBehavior,
-    /// The offset that the value of a timestamp gets, in seconds: none, or one of less than 24 hours.
-    /// It shifts nothing, and does not matter to other texts.
+    /// The offset that the value of a timestamp gets, in seconds: none, or one of less than 24
+    /// hours. It does not change the clock reading, and does not matter to other texts.
     pub unix_timestamp_offset: Option<i32>,
     /// Whether the components of an ISO 8601 duration have to come in order.
     pub iso_order: IsoOrder,

@@ -77,7 +77,7 @@ impl DateTimeReader {
     ghost use Rattle.speedate_civil.specs.DateTime.{date_time_by_config, utc_microsecond};
     ghost use Rattle.speedate.specs.Column.{as_number, with_offset};
 
-    /// The number of a line by its date-time, or by the error of a line that is none.
+    /// Turns the answer of a parser into the line's number or error.
     #[inline(always)]
     fn number_of(&self, read: Result<DateTime, ParseError>) -> Result<i64, LineError>
         ensures number { result ≡ as_number utc_microsecond (result_and_then

@@ -50,8 +50,9 @@ impl DateTime {
     }
 
     /// The date-time of a Unix timestamp, in the unit of the configuration, and additional
-    /// microseconds, with the configured offset: 1970-01-01T00:00:01.000002+01:00 for one second, two
-    /// microseconds and the offset 3,600. The offset is attached, and shifts nothing.
+    /// microseconds, with the configured offset: 1970-01-01T00:00:01.000002+01:00 for one second,
+    /// two microseconds and the offset 3,600. The offset is stored; the clock reading does not
+    /// change.
     ///
     /// A timestamp counts from 1970-01-01T00:00:00, with 86,400 seconds in each day.
     ///
@@ -84,8 +85,8 @@ impl DateTime {
 
     /// The date-time of a decimal Unix timestamp, in the unit of the configuration, to the nearest
     /// microsecond: 1969-12-31T23:59:59.874500 for the decimal of `"-125.5"` in milliseconds. The
-    /// configured offset is attached, and shifts nothing. It replaces `from_float_with_config` of
-    /// the Rust crate.
+    /// configured offset is stored; the clock reading does not change. It replaces
+    /// `from_float_with_config` of the Rust crate.
     ///
     /// All digits count, however many there are, with either behavior. A tie goes to the later
     /// microsecond. An inferred unit is seconds if the decimal without its sign is at most

@@ -135,7 +135,7 @@ fn plain_offset(west: bool, front: u8x8) -> Option<i32>
     Some(with_sign(west, seconds))
 }
 
-/// The error of a text that goes on after a time with this offset, or after one without:
+/// The error of further bytes after a time with this offset, or after one without:
 /// `InvalidCharTzSign` for `None`.
 #[inline(always)]
 pub fn end_fault(offset: Option<i32>) -> ParseError

@@ -118,9 +118,9 @@ impl Time {
     /// Parses the time at the front of a text, whatever follows it, and returns how many bytes it takes:
     /// 12:13:14.5 an hour east of UTC, and 16, from `b"12:13:14.5+01:00 GET /"`.
     ///
-    /// A time that goes on has to go on without an error: after a `:` that follows the minute with two
-    /// digits, after a decimal mark that follows the second with a digit, after a sign that follows the
-    /// clock with an offset; `Z` or `z` is an offset too. Any other byte after the clock, or none,
+    /// Once a byte begins a further part of the time, that part must be valid: two digits after a
+    /// `:` that follows the minute, a digit after a decimal mark that follows the second, an offset
+    /// from a sign on; `Z` or `z` is an offset too. Any other byte after the clock, or none,
     /// [ends](docs/GRAMMAR.md#at-the-front-of-an-input) a time without an offset.
     ///
     /// # Errors

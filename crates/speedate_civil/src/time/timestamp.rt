@@ -32,8 +32,8 @@ impl Time {
         Self::from_timestamp_with_config(timestamp_second, timestamp_microsecond, &config)
     }
 
-    /// The time of the seconds and microseconds after midnight, with the configured offset, which is
-    /// attached and shifts nothing: 00:00:01Z for one second and the offset 0.
+    /// The time of the seconds and microseconds after midnight, with the configured offset, which
+    /// does not change the clock reading: 00:00:01Z for one second and the offset 0.
     ///
     /// # Errors
     ///
