@@ -251,7 +251,7 @@ static PyMethodDef methods[] = {
            "datetime.datetime(2022, 6, 8, 0, 0, 4, 250000, tzinfo=datetime.timezone.utc)\n"),
     METHOD(duration, "(text, config=None)",
            "Parses a duration. A year is 365 days, a month 30; `-PT0S` is `timedelta(0)`.\n\n"
-           "Its sign covers the whole text, while in `str()` of a timedelta it covers the days alone: print by `text`.\n\n"
+           "Its sign covers the whole text, but in `str()` of a timedelta only the days: print it with `text`.\n\n"
            ">>> duration(\"-1 day, 23:59:59\")\n"
            "datetime.timedelta(days=-2, seconds=1)\n"
            ">>> duration(text(datetime.timedelta(seconds=-1)))\n"
@@ -284,35 +284,35 @@ static PyMethodDef methods[] = {
            ">>> date_from_timestamp(1582978394, exact=False)\n"
            "datetime.date(2020, 2, 29)\n"),
     METHOD(time_from_timestamp, "(second, microsecond=0, config=None)",
-           "The time `second` seconds and `microsecond` microseconds after midnight, both less than 2**32. Of `config` only\n"
-           "`timestamp_offset` is used.\n\n"
+           "The time `second` seconds and `microsecond` microseconds after midnight, both less than 2**32. It uses only\n"
+           "`timestamp_offset` of `config`.\n\n"
            ">>> time_from_timestamp(36_005, 1_500_000)\n"
            "datetime.time(10, 0, 6, 500000)\n"),
     METHOD(date_time_from_timestamp, "(timestamp, microsecond=0, config=None)",
-           "The date-time of a timestamp of 64 bits, and so many microseconds, of 32 bits, later.\n\n"
+           "The date-time `microsecond` microseconds, less than 2**32, after a timestamp of 64 bits.\n\n"
            ">>> date_time_from_timestamp(1582978394000, 500_000, Config(timestamp_unit=\"ms\", timestamp_offset=0))\n"
            "datetime.datetime(2020, 2, 29, 12, 13, 14, 500000, tzinfo=datetime.timezone.utc)\n"),
     METHOD(date_time_column,
            "(texts, config=None, *, strict=False, timestamps=False, naive='error', faults='raise', newline='\\r\\n', "
            "empty='error', lines=False)",
            "The microseconds from 1970-01-01T00:00Z to each date-time, as an `array.array(\"q\")`.\n\n"
-           "`texts` is an iterable of texts, each as `date_time` takes it; or a file, or bytes in memory, such as `bytes` and an\n"
-           "`mmap`, whose lines they are. A file is read from where it stands: one that was just written stands at its end, so\n"
-           "`seek(0)` comes first. A line feed ends a line, which the last one may lack. A carriage return at the end of a line\n"
-           "is dropped; with `newline=\"\\n\"` it is part of the text. With `lines=True` the items of an iterable, such as\n"
-           "`list(file)`, are lines too. A mapping and a DataFrame are a `TypeError`: pass one column.\n\n"
-           "With `strict=True` texts are parsed as by `date_time_strict`, and with `timestamps=True` they may be timestamps, of\n"
-           "which `timestamp_unit` should name the unit: otherwise each number has a unit of its own, and 13000000000 is seconds,\n"
-           "of the year 2381. Integers are timestamps then too, as an array of NumPy has them; those of one byte in memory are\n"
-           "texts. The year 0 is accepted, although `date_time` has no such value.\n\n"
+           "`texts` is an iterable of texts, each as `date_time` parses it; or a file, or bytes in memory, such as `bytes` and an\n"
+           "`mmap`, of which each line is a text. A file is read from its current position: call `seek(0)` after writing. A line\n"
+           "feed ends a line; the last line may lack it. A carriage return at the end of a line is dropped; with\n"
+           "`newline=\"\\n\"` it is part of the text. With `lines=True` the items of an iterable, such as `list(file)`, are\n"
+           "lines too. A `str`, a mapping and a DataFrame are a `TypeError`: pass one column.\n\n"
+           "With `strict=True` texts are parsed as by `date_time_strict`. With `timestamps=True` they may be timestamps, and\n"
+           "integers are: name their unit with `timestamp_unit`, since otherwise 13000000000 is seconds, of the year 2381.\n"
+           "Without it an integer is refused as its digits are. Integers of one byte in memory are texts. The year 0 is accepted,\n"
+           "although `date_time` has no such value.\n\n"
            "Texts and timestamps without an offset fail with `tz_required`, or count as UTC with `naive=\"utc\"`. A timestamp has\n"
            "the offset of the configuration: for Unix time it is `Config(timestamp_offset=0)`.\n\n"
            "The first text that is refused raises its `Fault`, whose `index` is its position in the column: in pandas its row\n"
            "is `frame.iloc[fault.index]`, whatever the labels are. With `faults=\"nat\"` each such text gives the smallest\n"
            "number, which is NaT in NumPy. If `faults` is a list, their faults are appended to it too. If it is a dict, it gets\n"
-           "arrays with the `index`, the `code` and the `place` of each fault instead, which cost little; a place of -1 is none,\n"
-           "and a call that fails leaves it as it was. What `pandas.isna` calls missing is NaT, and no fault. So is an\n"
-           "empty text with `empty=\"nat\"`.\n\n"
+           "arrays with the `index`, the `code` and the `place` of each fault, which is cheaper; a place of -1 is none, and a\n"
+           "call that fails leaves it as it was. What `pandas.isna` calls missing is NaT and not a fault, and so is an empty\n"
+           "text with `empty=\"nat\"`.\n\n"
            ">>> date_time_column([\"1970-01-01T00:00:01Z\", \"1970-01-01T01:00+01:00\"])\n"
            "array('q', [1000000, 0])\n"
            ">>> faults = []\n"
@@ -324,17 +324,17 @@ static PyMethodDef methods[] = {
            ">>> column = date_time_column(b\"1970-01-01 00:00\\nnever\\n\", naive=\"utc\", faults=faults)\n"
            ">>> faults\n"
            "{'index': array('q', [1]), 'code': array('B', [1]), 'place': array('q', [5])}\n\n"
-           "NumPy takes a column as it is, by `numpy.frombuffer(column, \"datetime64[us]\")`. pandas before 2 holds only the\n"
+           "NumPy reads a column without a copy: `numpy.frombuffer(column, \"datetime64[us]\")`. pandas before 2 holds only the\n"
            "years 1677 to 2262.\n"),
     METHOD(date_time_clock_column,
            "(texts, config=None, *, strict=False, timestamps=False, faults='raise', newline='\\r\\n', empty='error', "
            "lines=False)",
            "The microseconds from 1970-01-01T00:00 that the clock of each date-time shows, as an `array.array(\"q\")`.\n\n"
-           "The arguments mean what they do in `date_time_column`. The clock is read whatever the offset is, and with that, by\n"
-           "`date_time_offset_column`, it is the date-time as it stands. A timestamp shows the clock of UTC.\n\n"
+           "The arguments mean what they do in `date_time_column`. The clock is read whatever the offset is, which\n"
+           "`date_time_offset_column` reads. A timestamp shows the clock of UTC.\n\n"
            ">>> date_time_clock_column([\"1970-01-01T00:00:01\", \"1970-01-01T01:00+01:00\"])\n"
            "array('q', [1000000, 3600000000])\n\n"
-           "NumPy takes a column as it is, by `numpy.frombuffer(column, \"datetime64[us]\")`, whose values have no offset.\n"),
+           "NumPy reads a column without a copy: `numpy.frombuffer(column, \"datetime64[us]\")`, whose values have no offset.\n"),
     METHOD(date_time_offset_column,
            "(texts, config=None, *, strict=False, timestamps=False, faults='raise', newline='\\r\\n', empty='error', "
            "lines=False)",
@@ -345,37 +345,37 @@ static PyMethodDef methods[] = {
            "array('q', [0, 3600])\n"
            ">>> date_time_offset_column([\"1970-01-01T00:00:01\"], faults=\"nat\")\n"
            "array('q', [-9223372036854775808])\n\n"
-           "NumPy takes a column as it is, by `numpy.frombuffer(column, \"timedelta64[s]\")`.\n"),
+           "NumPy reads a column without a copy: `numpy.frombuffer(column, \"timedelta64[s]\")`.\n"),
     METHOD(date_column,
            "(texts, config=None, *, timestamps=False, faults='raise', newline='\\r\\n', empty='error', lines=False)",
            "The days from 1970-01-01 to each date, as an `array.array(\"q\")`.\n\n"
-           "The arguments mean what they do in `date_time_column`. Each text is taken as by `date`: with `timestamps=True` it may be a\n"
+           "The arguments mean what they do in `date_time_column`. Each text is parsed as by `date`: with `timestamps=True` it may be a\n"
            "timestamp, if it is a midnight. The year 0 is accepted, although `date` has no such value.\n\n"
            ">>> date_column(b\"1970-01-02\\n1969-12-31\\n\")\n"
            "array('q', [1, -1])\n"
            ">>> date_column([\"1970-01-02\", None, \"1970-01-02T00:00\"], faults=\"nat\")\n"
            "array('q', [1, -9223372036854775808, -9223372036854775808])\n\n"
-           "NumPy takes a column as it is, by `numpy.frombuffer(column, \"datetime64[D]\")`.\n"),
+           "NumPy reads a column without a copy: `numpy.frombuffer(column, \"datetime64[D]\")`.\n"),
     METHOD(time_column,
            "(texts, config=None, *, strict=False, faults='raise', newline='\\r\\n', empty='error', lines=False)",
            "The microseconds after midnight that the clock of each time shows, as an `array.array(\"q\")`.\n\n"
-           "The arguments mean what they do in `date_time_column`. Each text is taken as by `time`, or with `strict=True` as by\n"
+           "The arguments mean what they do in `date_time_column`. Each text is parsed as by `time`, or with `strict=True` as by\n"
            "`time_strict`. The clock is read whatever the offset is, which `time_offset_column` reads.\n\n"
            ">>> time_column([\"12:13:14.5\", None, \"12:13:14.5+01:00\"])\n"
            "array('q', [43994500000, -9223372036854775808, 43994500000])\n\n"
-           "NumPy takes a column as it is, by `numpy.frombuffer(column, \"timedelta64[us]\")`.\n"),
+           "NumPy reads a column without a copy: `numpy.frombuffer(column, \"timedelta64[us]\")`.\n"),
     METHOD(time_offset_column,
            "(texts, config=None, *, strict=False, faults='raise', newline='\\r\\n', empty='error', lines=False)",
            "The seconds of the offset of each time, positive east of UTC, as an `array.array(\"q\")`.\n\n"
            "The arguments are those of `time_column`. A time without an offset fails with `tz_required`.\n\n"
            ">>> time_offset_column(b\"12:13Z\\n12:13+01:00\\n\")\n"
            "array('q', [0, 3600])\n\n"
-           "NumPy takes a column as it is, by `numpy.frombuffer(column, \"timedelta64[s]\")`.\n"),
+           "NumPy reads a column without a copy: `numpy.frombuffer(column, \"timedelta64[s]\")`.\n"),
     METHOD(duration_column, "(texts, config=None, *, faults='raise', newline='\\r\\n', empty='error', lines=False)",
            "The microseconds of each duration, with its sign, as an `array.array(\"q\")`.\n\n"
-           "The arguments mean what they do in `date_time_column`. Each text is taken as by `duration`. One of 2**63 microseconds or\n"
-           "more, which are over 106,751,991 days, is refused with `number_too_large`.\n\n"
-           "Hand a timedelta over by `text`: the sign of its `str()` covers the days alone, and here the whole text.\n\n"
+           "The arguments mean what they do in `date_time_column`. Each text is parsed as by `duration`. One of 2**63 microseconds\n"
+           "or more, over 106,751,991 days, is refused with `number_too_large`.\n\n"
+           "Print a timedelta for it with `text`: the sign of its `str()` covers only the days.\n\n"
            ">>> duration_column(b\"PT1.5S\\n-00:01:00\\n\")\n"
            "array('q', [1500000, -60000000])\n"
            ">>> duration_column([\"-1 day, 23:59:59\", text(datetime.timedelta(seconds=-1))])\n"
@@ -383,7 +383,7 @@ static PyMethodDef methods[] = {
            ">>> duration_column([\"P106751992D\"])\n"
            "Traceback (most recent call last):\n"
            "speedate.Fault: number_too_large in text 0: expected a duration of less than 2^63 microseconds: 'P106751992D'\n\n"
-           "NumPy takes a column as it is, by `numpy.frombuffer(column, \"timedelta64[us]\")`.\n"),
+           "NumPy reads a column without a copy: `numpy.frombuffer(column, \"timedelta64[us]\")`.\n"),
     METHOD(text, "(value)",
            "The one text of a value. A year is 365 days, a month 30: 400 days are `P1Y35D`, which other readers may refuse.\n\n"
            "It refuses with a `ValueError` an offset that is not whole minutes, a time in a zone whose offset depends on the\n"
