@@ -584,6 +584,14 @@ SPEEDATE_NODISCARD int speedate_duration_signed_total_ms(SpeedateDuration durati
 /* The microseconds of a duration beyond its whole seconds, with its sign: -500000 for -PT1.5S. */
 SPEEDATE_NODISCARD int speedate_duration_signed_microseconds(SpeedateDuration duration, int32_t *out);
 
+/* All microseconds of a duration, with its sign: -1500000 for -PT1.5S. It fails with SPEEDATE_NUMBER_TOO_LARGE if they
+ * are 2^63 or more without the sign, which is over 106,751,991 days. */
+SPEEDATE_NODISCARD int speedate_duration_signed_total_microseconds(SpeedateDuration duration, int64_t *out);
+
+/* The sum of `count` durations, each with its sign: PT1H30M of PT2H and -PT30M, and PT0S of none. It is exact, and its
+ * zero is positive. It fails with SPEEDATE_DURATION_DAYS_TOO_LARGE if the sum has more than 999,999,999 days. */
+SPEEDATE_NODISCARD int speedate_duration_sum(const SpeedateDuration *durations, size_t count, SpeedateDuration *out);
+
 /* The duration of a number of microseconds with a sign: -PT1.5S for -1500000. Each number of 64 bits is one. */
 SPEEDATE_NODISCARD int speedate_duration_from_signed_microseconds(int64_t microseconds, SpeedateDuration *out);
 
@@ -645,7 +653,7 @@ typedef struct SpeedateColumnConfig {
 /* As speedate_time_parse_strict and speedate_datetime_parse_strict parse. For dates it is out of range. */
 #define SPEEDATE_PARSER_STRICT 2
 
-/* How far a column has come. */
+/* How far a column has come that is read, or printed. */
 typedef struct SpeedateProgress {
     size_t lines;  /* how many lines have a number in the column */
     size_t bytes;  /* how many bytes of the text these lines take, with their ends: the next line begins after them */
@@ -704,6 +712,41 @@ SPEEDATE_NODISCARD int speedate_time_offset_column(const char *text, size_t size
 SPEEDATE_NODISCARD int speedate_duration_column(const char *text, size_t size, SpeedateConfig config,
                                                 SpeedateColumnConfig column, int64_t *out, size_t room,
                                                 uint8_t *errors, size_t error_room, SpeedateProgress *progress);
+
+/* ---- Columns in print ---- */
+
+/* Each call below prints `count` numbers as lines, in order, each with a line feed, as many as there is room for, and
+ * writes to *progress how many they are, and how many bytes they take; the bytes after these stay as they are, and no
+ * zero byte is written. It returns SPEEDATE_OK. The smallest number, which a column has of a refused line, is an empty
+ * line. A number without a line ends the text, and progress->error is its code. If that is SPEEDATE_OK and
+ * progress->lines is below `count`, the next line does not fit: empty the buffer, and go on with that number. 33 bytes
+ * are room for any line.
+ *
+ * The column of the same name reads the lines back as the numbers. */
+
+/* Days since 1970-01-01 as dates: "1970-01-02\n1969-12-31\n" for 1 and -1. A date outside the years 0000 to 9999 has
+ * no line: SPEEDATE_DATE_TOO_SMALL or SPEEDATE_DATE_TOO_LARGE. */
+SPEEDATE_NODISCARD int speedate_date_print_column(const int32_t *days, size_t count, char *buffer, size_t size,
+                                                  SpeedateProgress *progress);
+
+/* Microseconds since 1970-01-01T00:00:00 in UTC as date-times: "1970-01-01T00:00:01Z\n" for 1000000. Errors are those of
+ * dates. */
+SPEEDATE_NODISCARD int speedate_datetime_print_column(const int64_t *microseconds, size_t count, char *buffer,
+                                                      size_t size, SpeedateProgress *progress);
+
+/* Microseconds since 1970-01-01T00:00:00 on a clock as date-times without an offset: "1970-01-01T00:00:01\n" for
+ * 1000000. Errors are those of dates. */
+SPEEDATE_NODISCARD int speedate_datetime_clock_print_column(const int64_t *microseconds, size_t count, char *buffer,
+                                                            size_t size, SpeedateProgress *progress);
+
+/* Microseconds after midnight as times: "12:13:14.500000\n" for 43994500000. A number that is not 0 to 86399999999 has
+ * no line: SPEEDATE_TIME_TOO_LARGE. */
+SPEEDATE_NODISCARD int speedate_time_print_column(const int64_t *microseconds, size_t count, char *buffer, size_t size,
+                                                  SpeedateProgress *progress);
+
+/* Microseconds as durations: "-PT1.5S\n" for -1500000. Each number has a line. */
+SPEEDATE_NODISCARD int speedate_duration_print_column(const int64_t *microseconds, size_t count, char *buffer,
+                                                      size_t size, SpeedateProgress *progress);
 
 /* ---- Numbers ---- */
 

@@ -6,7 +6,8 @@
  *
  * In the text of a column `\n` stands for a line feed, and `\r` for a carriage return. Its row has the configurations,
  * the room for numbers and, if there is any, for errors, and the text; then the numbers, the errors, how many lines and
- * bytes they are, and the name of the error that ends it. A part is its place, its end and its kind.
+ * bytes they are, and the name of the error that ends it. A row of a column that is printed has the room for the text,
+ * and the numbers; then the text, and the same. A part is its place, its end and its kind.
  *
  * Each text is read from three places: a block of the heap of its very size, the end of a page after which none
  * can be read, and the beginning of one before which none can be; an empty one also from NULL. Each text is
@@ -50,6 +51,17 @@ static void numbers(long long *out, int count) {
     char *at = (char *)next();
     for (int i = 0; i < count; i++)
         out[i] = strtoll(at, &at, 10);
+}
+
+/* The numbers of a list, however many, and how many they are. */
+static size_t list(long long *out) {
+    char *at = (char *)next(), *end;
+    size_t count = 0;
+    for (long long it = strtoll(at, &end, 10); end != at && count < PLACES; it = strtoll(at, &end, 10)) {
+        out[count++] = it;
+        at = end;
+    }
+    return count;
 }
 
 static long long number(void) {
@@ -196,6 +208,16 @@ static void say_size(size_t it) {
     say("%lld", (long long)it);
 }
 
+/* Says a text with its line feeds as a row has them. */
+static void say_lines(const char *text, size_t size) {
+    for (size_t i = 0; i < size; i++)
+        if (text[i] == '\n')
+            strcat(answer, "\\n");
+        else
+            strncat(answer, text + i, 1);
+    strcat(answer, "|");
+}
+
 static void say_progress(SpeedateProgress it) {
     say("%lld ", (long long)it.lines);
     say("%lld ", (long long)it.bytes);
@@ -290,6 +312,28 @@ static void say_progress(SpeedateProgress it) {
         return 1;                                                                                                      \
     }
 
+/* Calls that print a column: into so many bytes, which end with a page. Without numbers or room there is no address. */
+#define PRINT_COLUMN(TYPE, NAME)                                                                                       \
+    if (is_call(#NAME)) {                                                                                              \
+        size_t room = (size_t)number(), count;                                                                         \
+        long long numbers_in[PLACES];                                                                                  \
+        TYPE in[PLACES];                                                                                               \
+        char *buffer = first_page + page - room;                                                                       \
+        OUTPUT(SpeedateProgress, progress)                                                                             \
+        count = list(numbers_in);                                                                                      \
+        for (size_t i = 0; i < count; i++)                                                                             \
+            in[i] = (TYPE)numbers_in[i];                                                                               \
+        memset(first_page, UNTOUCHED, page);                                                                           \
+        int code = speedate_##NAME(count ? in : NULL, count, room ? buffer : NULL, room, progress);                    \
+        size_t size = progress->bytes;                                                                                 \
+        int kept = size <= room && is_untouched(first_page, page - room) && is_untouched(buffer + size, room - size);  \
+        if (said(code, kept && IS_KEPT(code, progress))) {                                                             \
+            say_lines(buffer, size);                                                                                   \
+            say_progress(*progress);                                                                                   \
+        }                                                                                                              \
+        return 1;                                                                                                      \
+    }
+
 #define LIST(NUMBERS, COUNT)                                                                                           \
     {                                                                                                                  \
         for (size_t i = 0; i < COUNT; i++)                                                                             \
@@ -329,6 +373,13 @@ static void say_progress(SpeedateProgress it) {
         }                                                                                                              \
         return 1;                                                                                                      \
     }
+
+static int is_code(const char *it) {
+    for (int code = 0; code <= SPEEDATE_BUFFER_TOO_SMALL; code++)
+        if (strcmp(it, speedate_code_string(code)) == 0)
+            return 1;
+    return 0;
+}
 
 static int is_call(const char *name) {
     return strcmp(fields[0], name) == 0;
@@ -498,6 +549,19 @@ static int run_value(void) {
     VALUE(int64_t, say_number, duration_signed_total_seconds, SpeedateDuration, duration)
     VALUE(int64_t, say_number, duration_signed_total_ms, SpeedateDuration, duration)
     VALUE(int32_t, say_number, duration_signed_microseconds, SpeedateDuration, duration)
+    VALUE(int64_t, say_number, duration_signed_total_microseconds, SpeedateDuration, duration)
+    if (is_call("duration_sum")) {
+        SpeedateDuration durations[FIELDS];
+        size_t count = 0;
+        while (field < FIELDS && fields[field] && !is_code(fields[field]))
+            durations[count++] = duration();
+        WRITES(SpeedateDuration, say_duration, speedate_duration_sum(count ? durations : NULL, count, out))
+    }
+    PRINT_COLUMN(int32_t, date_print_column)
+    PRINT_COLUMN(int64_t, datetime_print_column)
+    PRINT_COLUMN(int64_t, datetime_clock_print_column)
+    PRINT_COLUMN(int64_t, time_print_column)
+    PRINT_COLUMN(int64_t, duration_print_column)
     VALUE(SpeedateDuration, say_duration, duration_from_signed_microseconds, int64_t, (int64_t)number)
     VALUE(SpeedateDuration, say_duration, duration_negate, SpeedateDuration, duration)
     TWO_VALUES(SpeedateDuration, say_duration, duration_between, SpeedateDateTime, datetime, SpeedateDateTime, datetime)
@@ -567,13 +631,6 @@ static void try_code(int code) {
 }
 
 /* Whether a field is the name of a code, with which the answer begins. */
-static int is_code(const char *it) {
-    for (int code = 0; code <= SPEEDATE_BUFFER_TOO_SMALL; code++)
-        if (strcmp(it, speedate_code_string(code)) == 0)
-            return 1;
-    return 0;
-}
-
 /* Puts the bytes of line ends into the text of a column, where they are written as two letters each. */
 static void put_line_ends(char *text) {
     char *to = text;

@@ -52,7 +52,7 @@ date_number-of_date (DateReader.OrTimestamp config) line date read =
 -- Date-times.
 
 -- a date-time that is read is that of the line, if the parser takes it
-date_time_of_line-read : (parser : DateTimeParser) (line : List ℕ) (value : DateAndTime)
+pub date_time_of_line-read : (parser : DateTimeParser) (line : List ℕ) (value : DateAndTime)
     → ((behavior : Behavior) → date_time_answer behavior line ≡ Ok value)
     → taken_answer parser line ≡ Ok tt → date_time_of_line parser line ≡ Ok value
 date_time_of_line-read (DateTimeParser.Text config) line value read taken = read _

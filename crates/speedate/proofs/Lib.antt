@@ -15,3 +15,5 @@ mod MarkLemmas
 mod WholeLineLemmas
 mod ColumnLemmas
 mod FrontNumberLemmas
+mod ColumnTextLemmas
+mod PrintedLineLemmas

@@ -41,7 +41,7 @@ pieces-free : (text : List ℕ) → IsFree text
 pieces-free text free = rw (append-nil text) at (pieces-onto_first text [] free)
 
 -- the line that a line feed ends comes first
-pieces-line : (line rest : List ℕ) → IsFree line
+pub pieces-line : (line rest : List ℕ) → IsFree line
     → pieces (line ++ line_feed ∷ rest)
     ≡ record { complete = line ∷ complete_lines rest; unfinished = unfinished_line rest }
 pieces-line line rest free =

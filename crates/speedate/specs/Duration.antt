@@ -1,7 +1,7 @@
 -- Durations: from texts, in print, and between and after other values.
-use Rattle.std.specs.Prelude.{◌≡◌, MatchBool, ℕ, zero, suc, ◌-◌, Bool, not, ◌||◌, List, [], ◌∷◌, length, drop, slice_index, nat_lt, ◌==◌, if◌then◌else◌, Result, Ok, Err, ◌/◌, ◌%◌, ◌&&◌, ◌++◌, codes, true, false, ℤ, pos, negsuc, ◌+ℤ◌, ◌-ℤ◌, int_le, unsigned_abs, nat_le}
+use Rattle.std.specs.Prelude.{◌≡◌, MatchBool, ℕ, zero, suc, ◌-◌, Bool, not, ◌||◌, List, [], ◌∷◌, length, drop, slice_index, nat_lt, ◌==◌, if◌then◌else◌, Result, Ok, Err, ◌/◌, ◌%◌, ◌&&◌, ◌++◌, codes, true, false, ℤ, pos, negsuc, ◌+ℤ◌, ◌-ℤ◌, ◌*ℤ◌, int_le, unsigned_abs, nat_le}
 use Rattle.std.specs.Fmt.{decimal}
-use Rattle.std.specs.List.{list_any}
+use Rattle.std.specs.List.{fold, list_any}
 use Rattle.std.specs.Option.{ok_or}
 use Rattle.speedate_civil.specs.Base.{Behavior, IsoOrder, ParseError}
 use Rattle.speedate_base.specs.Ascii.{capital_p, hyphen, full_stop, digit_zero, capital_d}
@@ -15,6 +15,7 @@ use Rattle.speedate_civil.specs.Calendar.{Ymd, date_added, days_between}
 use Rattle.speedate_civil.specs.DateTime.{DateAndTime, local_microsecond, utc_microsecond}
 use Rattle.speedate_civil.specs.DateTime.{instant_date_time}
 pub use Rattle.speedate.specs.declared.duration.Duration.{Duration}
+use Rattle.speedate.specs.declared.duration.sum.DurationSum.{DurationSum}
 use Rattle.speedate.specs.ClockForm.{clock_form_or}
 use Rattle.speedate.specs.DayForm.{is_day_letter, day_form_or}
 use Rattle.speedate.specs.DurationNumbers.{DurationNumbers, UnsignedDuration, signed_form}
@@ -230,6 +231,15 @@ amount_answer amount =
     first_fault_or
     ((nat_le duration.day 999999999 else_fault ParseError.DurationDaysTooLarge) ∷ [])
     (Ok duration)
+
+-- the sum of the amounts of durations in microseconds, each with its sign
+abbrev pub amount_sum : {D : Type 0} → (D → DurationNumbers) → List D → ℤ
+amount_sum numbers durations =
+    fold (λ sum duration. sum +ℤ signed_amount (numbers duration)) (pos 0) durations
+
+-- a sum in microseconds
+abbrev pub sum_microseconds : DurationSum → ℤ
+sum_microseconds sum = pos 1000000 *ℤ sum.seconds +ℤ sum.microseconds
 
 -- a duration with the other sign
 abbrev pub negated : DurationNumbers → DurationNumbers

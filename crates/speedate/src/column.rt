@@ -1,20 +1,23 @@
-//! Columns: the lines of a text as numbers, by one call.
+//! Columns: the lines of a text as numbers, by one call, and numbers as the lines of a text.
 
 mod clock;
 mod date;
 mod date_time;
 mod duration;
+mod print;
 mod read;
 mod time;
 mod timestamp;
 
-pub use clock::{DateTimeClockReader, DateTimeOffsetReader};
-pub use date::DateReader;
-pub use date_time::{DateTimeParser, DateTimeReader};
-pub use duration::DurationReader;
+use arrayvec::ArrayString;
+pub use clock::{DateTimeClockPrinter, DateTimeClockReader, DateTimeOffsetReader};
+pub use date::{DatePrinter, DateReader};
+pub use date_time::{DateTimeParser, DateTimePrinter, DateTimeReader};
+pub use duration::{DurationPrinter, DurationReader, duration_microseconds};
+pub use print::print_column;
 pub use read::{read_column, read_column_with_errors};
 use speedate_base::faults::ParseError;
-pub use time::{TimeOffsetReader, TimeParser, TimeReader};
+pub use time::{TimeOffsetReader, TimeParser, TimePrinter, TimeReader};
 pub use timestamp::timestamp_microseconds;
 
 /// How a text is cut into lines: `LineConfig { at_end: true, drops_returns: false }` takes all
@@ -54,14 +57,15 @@ impl LineError {
     }
 }
 
-/// The progress of a column: two dates, each with its line feed, give 2 lines, 22 bytes and no error.
+/// The progress of a column that is read or printed: two dates, each with its line feed, give 2 lines, 22
+/// bytes and no error.
 #[derive(Clone, Copy, Debug)]
 pub struct Progress {
     /// How many lines have a number in the column.
     pub lines: usize,
     /// How many bytes of the text these lines take, with their ends.
     pub bytes: usize,
-    /// The error of the next line, if it ends the column.
+    /// The error of the next line, or of the next number, if it ends the column.
     pub error: Option<LineError>,
 }
 
@@ -102,4 +106,42 @@ pub trait LineReader {
 struct Line<N> {
     answer: Result<N, LineError>,
     size: usize,
+}
+
+/// How many bytes the longest line of a printer has.
+pub const LINE_MAX: usize = 32;
+
+/// Prints a number as a line, as [`DatePrinter`] prints 1 as `1970-01-02`.
+pub trait LinePrinter {
+    ghost use Rattle.std.specs.Prelude.{◌≡◌, ℕ, [], IfOk, List, Result, length};
+    ghost use Rattle.speedate_base.specs.Ascii.{HasNoControl};
+    ghost use Rattle.speedate_base.specs.Requirement.{result_map};
+    ghost use Rattle.speedate.specs.declared.column.LineError.{LineError};
+    ghost use Rattle.speedate.specs.ColumnText.{number_or};
+
+    /// What is printed as a line.
+    type Number: Copy;
+
+    // The line of a number, or why it has none.
+    ghost line: { Self → Self.Number → Result (List ℕ) LineError };
+
+    // Whether answers to lines, with a number for each refused line, lead back to the numbers.
+    ghost leads_back: { Self → (List ℕ → Result Self.Number LineError) → Self.Number → Type 0 };
+
+    /// Puts the line of a number into an empty text, without a line's end: `1970-01-02` for 1.
+    ///
+    /// # Errors
+    ///
+    /// Those of a number that is out of the printer's range. The text is then left as it is.
+    fn push_line(
+        &self,
+        number: Self::Number,
+        text: &mut ArrayString<LINE_MAX>,
+    ) -> Result<(), LineError>
+        requires empty { text.old.bytes ≡ [] }
+        ensures line { result_map (λ done. text.new.bytes) result ≡ line self.now number }
+        ensures no_control { HasNoControl (length text.new.bytes) text.new.bytes }
+        ensures reads_back { IfOk result (λ done. (answer : List ℕ → Result Self.Number LineError)
+            (refused : Self.Number) → leads_back self.now answer refused
+            → number_or refused (answer text.new.bytes) ≡ number) };
 }

@@ -12,12 +12,14 @@ mod error_place;
 mod iso;
 mod order;
 mod parse;
+mod sum;
 mod text;
 mod unsigned;
 
 use speedate_base::faults::ParseError;
 use speedate_base::numbers::with_sign;
 use speedate_base::util::SECONDS_PER_DAY;
+pub use sum::DurationSum;
 
 /// How many days the longest duration has.
 pub const DAYS_MAX: u32 = 999_999_999;

@@ -59,11 +59,13 @@ mod duration;
 mod lines;
 
 pub use column::{
-    DateReader, DateTimeClockReader, DateTimeOffsetReader, DateTimeParser, DateTimeReader,
-    DurationReader, LineConfig, LineError, LineReader, Progress, TimeOffsetReader, TimeParser,
-    TimeReader, read_column, read_column_with_errors, timestamp_microseconds,
+    DatePrinter, DateReader, DateTimeClockPrinter, DateTimeClockReader, DateTimeOffsetReader,
+    DateTimeParser, DateTimePrinter, DateTimeReader, DurationPrinter, DurationReader, LINE_MAX,
+    LineConfig, LineError, LinePrinter, LineReader, Progress, TimeOffsetReader, TimeParser,
+    TimePrinter, TimeReader, duration_microseconds, print_column, read_column,
+    read_column_with_errors, timestamp_microseconds,
 };
-pub use duration::{DAYS_MAX, Duration};
+pub use duration::{DAYS_MAX, Duration, DurationSum};
 pub use lines::line_end;
 pub use speedate_base::config::{
     DateConfig, DateConfigBuilder, DateTimeConfig, DateTimeConfigBuilder, IsoOrder,

@@ -1,6 +1,6 @@
 -- Columns from outside: what their configuration says, which number a line has, and what a call
 -- leaves.
-use Rattle.std.specs.Prelude.{◌≡◌, ◌≢◌, ℕ, ◌≤◌, ◌++◌, ℤ, negsuc, pos, Bool, false, List, [], ◌∷◌, length, min, drop, slice_get, Option, Some, None, Result, if◌then◌else◌}
+use Rattle.std.specs.Prelude.{◌≡◌, ◌≢◌, ℕ, ◌≤◌, ◌++◌, ℤ, pos, Bool, false, List, [], ◌∷◌, length, min, drop, slice_get, Option, Some, None, Result, if◌then◌else◌}
 use Rattle.std.specs.Option.{option_and_then, option_map}
 use Rattle.speedate.specs.Base.{ParseError, TimestampUnit}
 use Rattle.speedate.specs.Config.{Choices}
@@ -12,6 +12,7 @@ use Rattle.speedate.specs.Requirement.{result_and_then}
 use Rattle.speedate.specs.Duration.{duration_answer}
 use Rattle.speedate.specs.Column.{as_number, date_number, number_of_duration, offset_as_number}
 use Rattle.speedate.specs.Column.{text_column, with_offset}
+use Rattle.speedate.specs.ColumnText.{column_text}
 use Rattle.speedate.specs.declared.column.date.DateReader.{DateReader}
 use Rattle.speedate.specs.declared.LineConfig.{LineConfig}
 use Rattle.speedate.specs.declared.LineError.{LineError}
@@ -50,14 +51,6 @@ column_choices_of config =
 -- the number of a line that is refused, where the column goes on after it
 abbrev pub on_refusal : {N : Type 0} → Bool → N → Option N
 on_refusal goes_on least = if goes_on then Some least else None
-
--- the smallest number of 32 bits
-abbrev pub least_of_32_bits : ℤ
-least_of_32_bits = negsuc 2147483647
-
--- the smallest number of 64 bits
-abbrev pub least_of_64_bits : ℤ
-least_of_64_bits = negsuc 9223372036854775807
 
 -- the date-time of a line, or the error
 abbrev pub date_time_by_parser : LineParser → Choices → List ℕ → Result DateAndTime ParseError
@@ -219,3 +212,19 @@ pub record IsColumn {N : Type 0} (answer : List ℕ → Result N LineError) (col
       (on_refusal column.goes_on least) text before after progress
   pub errors : length errors_before ≢ 0 → IsColumnWithErrors answer column.lines least text before
       after errors_before errors_after progress
+
+-- written of numbers that are printed: their text over the front of the buffer, and how far it has
+-- come
+abbrev pub written_lines : {N : Type 0} → (N → Result (List ℕ) LineError) → List N → List ℕ
+    → ℤ × List ℕ × SpeedateProgress
+written_lines line numbers before =
+    let printed = column_text line (length before) numbers in
+    let size = length printed.text in (
+      success,
+      printed.text ++ drop size before,
+      record {
+        lines = printed.lines;
+        bytes = size;
+        error = ended_code printed.fault;
+      },
+    )

@@ -1,9 +1,11 @@
 -- What a duration from outside says, and how a duration is written.
-use Rattle.std.specs.Prelude.{ℕ, ◌==◌, nat_le, nat_lt, Bool, true, false, List, [], ◌∷◌, Result, Ok}
+use Rattle.std.specs.Prelude.{ℕ, ◌==◌, nat_le, nat_lt, Bool, true, false, List, [], ◌∷◌, Option, Some, None, Result, Ok, ℤ, ◌+ℤ◌}
 use Rattle.speedate.specs.Base.{ParseError}
+use Rattle.speedate.specs.Duration.{signed_amount}
 use Rattle.speedate.specs.DurationNumbers.{DurationNumbers}
 use Rattle.speedate.specs.Timestamp.{seconds_per_day}
 use Rattle.speedate.specs.Requirement.{NumberRow, ◌else_fault◌, first_fault_or}
+use Rattle.speedate_c.specs.Written.{with_value}
 use Rattle.speedate_c.specs.declared.duration.SpeedateDuration.{SpeedateDuration}
 
 -- the numbers of a duration from outside, whatever they are
@@ -41,3 +43,11 @@ shown_duration numbers = record {
   second = numbers.second;
   microsecond = numbers.microsecond;
 }
+
+-- the sum of the amounts of durations from outside in microseconds, each with its sign, after a
+-- sum; there is none if a number is out of range
+abbrev pub sum_after : ℤ → List SpeedateDuration → Option ℤ
+sum_after sum [] = Some sum
+sum_after sum (duration ∷ durations) =
+    with_value (duration_of duration) None
+    (λ numbers. sum_after (sum +ℤ signed_amount numbers) durations)

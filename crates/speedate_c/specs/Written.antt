@@ -2,9 +2,10 @@
 -- what stood there.
 use Rattle.std.specs.Prelude.{ℕ, ◌+◌, ℤ, pos, List, ◌∷◌, ◌++◌, length, drop, nat_lt, Option, Some, None, Result, Ok, Err, if◌then◌else◌}
 use Rattle.speedate.specs.Base.{CallKind, ParseError}
+use Rattle.speedate.specs.declared.LineError.{LineError}
 use Rattle.speedate.specs.Part.{part_end}
-use Rattle.speedate_c.specs.Code.{buffer_too_small, fault_code, fault_of, kind_number, no_such_date}
-use Rattle.speedate_c.specs.Code.{success}
+use Rattle.speedate_c.specs.Code.{buffer_too_small, fault_code, fault_of, kind_number}
+use Rattle.speedate_c.specs.Code.{line_error_code, no_such_date, success}
 use Rattle.speedate_c.specs.declared.part.SpeedatePart.{SpeedatePart}
 
 -- what follows from a value that is in its ranges; what is left where it is not
@@ -25,6 +26,11 @@ written_value value = (success, value)
 abbrev pub written_answer : {A B : Type 0} → (A → B) → B → Result A ParseError → ℤ × B
 written_answer shown before (Ok value) = (success, shown value)
 written_answer shown before (Err fault) = (fault_code fault, before)
+
+-- written of a number, or of the error of a line that has none
+abbrev pub written_number : ℤ → Result ℤ LineError → ℤ × ℤ
+written_number before (Ok number) = (success, number)
+written_number before (Err error) = (line_error_code error, before)
 
 -- written of an answer at the front of a text: its value as C sees it, and how many bytes it takes
 abbrev pub written_front : {A B : Type 0} → (A → B) → B → ℕ → Result (A × ℕ) ParseError → ℤ × B × ℕ

@@ -1,19 +1,23 @@
 //! The duration between two values, and the value a duration after another, as C sees them.
 
-ghost use Rattle.std.specs.Prelude.{◌≡◌, neg_ℤ};
+ghost use Rattle.std.specs.Prelude.{◌≡◌, neg_ℤ, pos};
+ghost use Rattle.std.specs.Option.{option_map};
+ghost use Rattle.speedate.specs.Column.{number_of_amount};
 ghost use Rattle.speedate.specs.Duration.{amount_answer, date_later, date_time_later};
 ghost use Rattle.speedate.specs.Duration.{duration_between, duration_between_dates, negated};
-ghost use Rattle.speedate.specs.Duration.{signed_amount};
-ghost use Rattle.speedate_c.specs.Written.{written_answer, written_value, with_value};
+ghost use Rattle.speedate.specs.Duration.{signed_amount, sum_microseconds};
+ghost use Rattle.speedate_c.specs.Written.{with_option, with_value, written_answer};
+ghost use Rattle.speedate_c.specs.Written.{written_number, written_value};
 ghost use Rattle.speedate_c.specs.Code.{value_out_of_range};
 ghost use Rattle.speedate_c.specs.Date.{date_of, shown_date};
 ghost use Rattle.speedate_c.specs.DateTime.{date_time_of, shown_date_time};
-ghost use Rattle.speedate_c.specs.Duration.{duration_of, shown_duration};
+ghost use Rattle.speedate_c.specs.Duration.{duration_of, shown_duration, sum_after};
 
+use crate::code::{SUCCESS, VALUE_OUT_OF_RANGE, line_error_code};
 use crate::date::{SpeedateDate, write_date};
 use crate::datetime::{SpeedateDateTime, write_date_time};
 use crate::duration::{SpeedateDuration, write_duration};
-use speedate::Duration;
+use speedate::{Duration, DurationSum, duration_microseconds};
 
 /// The duration from one date-time to another, by their instants in UTC, as [`Duration::between`]
 /// gives it: an hour from 2020-01-01T12:00:00Z to 2020-01-01T12:00:00-01:00.
@@ -153,4 +157,61 @@ pub extern "C" fn speedate_duration_from_signed_microseconds(
 {
     let answer = Duration::from_signed_microseconds(i128::from(microseconds));
     write_duration(answer, out)
+}
+
+/// The microseconds of a duration with the sign, as [`duration_microseconds`] gives them: -1,500,000 for
+/// -PT1.5S.
+///
+/// `VALUE_OUT_OF_RANGE` is that of the duration; `NUMBER_TOO_LARGE` if they are 2^63 or more without the sign.
+#[unsafe(no_mangle)]
+pub extern "C" fn speedate_duration_signed_total_microseconds(
+    duration: SpeedateDuration,
+    out: &mut i64,
+) -> i32
+    ensures answer { (result, out.new)
+        ≡ with_value (duration_of duration) (value_out_of_range, out.old)
+        (λ duration. written_number out.old (number_of_amount (signed_amount duration))) }
+{
+    let duration = value_or_return!(duration);
+    match duration_microseconds(&duration) {
+        Ok(number) => {
+            *out = number;
+            SUCCESS
+        }
+        Err(error) => line_error_code(error),
+    }
+}
+
+/// The sum of durations, each with its sign, as [`Duration::sum`] gives it: PT1H30M of PT2H and -PT30M, and
+/// PT0S of none.
+///
+/// `VALUE_OUT_OF_RANGE` if a number of one is out of range; then `DurationDaysTooLarge` if the sum has more
+/// than 999,999,999 days.
+#[unsafe(no_mangle)]
+pub extern "C" fn speedate_duration_sum(
+    durations: &[SpeedateDuration],
+    out: &mut SpeedateDuration,
+) -> i32
+    ensures answer { (result, out.new)
+        ≡ with_option (sum_after (pos 0) durations.now) (value_out_of_range, out.old)
+        (λ sum. written_answer shown_duration out.old (amount_answer sum)) }
+{
+    let Some(sum) = sum_of(durations) else {
+        return VALUE_OUT_OF_RANGE;
+    };
+    write_duration(sum.to_duration(), out)
+}
+
+/// The sum of durations, if the numbers of each are in their ranges.
+fn sum_of(durations: &[SpeedateDuration]) -> Option<DurationSum>
+    ensures sum { option_map sum_microseconds result ≡ sum_after (pos 0) durations.now }
+{
+    let mut sum = DurationSum::ZERO;
+    for duration in durations {
+        match duration.to_value() {
+            Ok(value) => sum = sum.with(&value),
+            Err(_) => return None,
+        }
+    }
+    Some(sum)
 }

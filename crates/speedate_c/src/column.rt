@@ -3,6 +3,7 @@
 ghost use Rattle.std.specs.Prelude.{◌≡◌, slice_get};
 ghost use Rattle.speedate_c.specs.Code.{success};
 ghost use Rattle.speedate_c.specs.Column.{IsColumn, column_choices_of, ended_code, parsers};
+ghost use Rattle.speedate_c.specs.Column.{written_lines};
 
 mod date;
 mod date_time;
@@ -11,7 +12,10 @@ mod time;
 
 use crate::code::{SUCCESS, line_error_code};
 use crate::config::flag;
-use speedate::{LineConfig, LineReader, Progress, read_column, read_column_with_errors};
+use speedate::{
+    LineConfig, LinePrinter, LineReader, Progress, print_column, read_column,
+    read_column_with_errors,
+};
 
 /// How a column is read. In each field but `at_end` 0 means the default.
 #[repr(C)]
@@ -140,5 +144,20 @@ fn write_column<R: LineReader>(
         read_column_with_errors(text, choices.lines, reader, refused_number, out, errors)
     };
     *progress = SpeedateProgress::from_progress(read);
+    SUCCESS
+}
+
+/// Prints numbers as lines, and writes how far the text has come, and gives the code.
+#[inline(always)]
+fn write_lines<P: LinePrinter>(
+    numbers: &[P::Number],
+    printer: &P,
+    buffer: &mut [u8],
+    progress: &mut SpeedateProgress,
+) -> i32
+    ensures written { (result, buffer.new, progress.new)
+        ≡ written_lines (P.line printer.now) numbers.now buffer.old }
+{
+    *progress = SpeedateProgress::from_progress(print_column(numbers, printer, buffer));
     SUCCESS
 }

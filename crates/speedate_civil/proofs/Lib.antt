@@ -1,18 +1,18 @@
 mod AfterTimeLemmas
 mod ClockFrontLemmas
 mod ClockLemmas
-mod DateLemmas
+pub mod DateLemmas
 pub mod DateOrderLemmas
 pub mod DateTimeInstantLemmas
-mod DateTimeLemmas
+pub mod DateTimeLemmas
 pub mod DateTimeTimestampLemmas
 pub mod DateTimestampLemmas
-mod DayNumberLemmas
+pub mod DayNumberLemmas
 mod ErrorPlaceLemmas
 mod FrontLemmas
 mod FullClockLemmas
 pub mod InstantOrderLemmas
-mod NoControlLemmas
+pub mod NoControlLemmas
 mod MomentLemmas
 mod NumberTextLemmas
 mod OffsetLemmas
@@ -20,7 +20,7 @@ mod OffsetMoveLemmas
 mod ReadLemmas
 mod Rfc3339Lemmas
 mod StrictPlaceLemmas
-mod TimeLemmas
+pub mod TimeLemmas
 pub mod ValueLemmas
 pub mod MonthLemmas
 mod YearLemmas

@@ -227,6 +227,33 @@ fn totals(rt: HostRuntime) {
     }
 }
 
+/// Durations, and their sum, or the error.
+const SUMS: &str = "\
+-PT0S                           -PT0S                           PT0S
+PT2H                            -PT30M                          PT1H30M
+-PT0.5S                         -PT0.75S                        -PT1.25S
+PT23H59M59.999999S              PT0.000001S                     P1D
+-P2739726Y9DT23H59M59.999999S   -PT0.000001S                    duration_days_too_large
+P2739726Y9DT23H59M59.999999S    PT0.000001S                     duration_days_too_large";
+
+#[test]
+fn sums(rt: HostRuntime) {
+    same(
+        &rt,
+        Duration::sum(&[]),
+        Duration::new(true, 0, 0, 0),
+        "none",
+    );
+    for row in SUMS.lines() {
+        let [first, second, want, ..] = words(row);
+        let first: Duration = parsed(&rt, first);
+        let second: Duration = parsed(&rt, second);
+        expect(&rt, Duration::sum(&[first, second]), want, row);
+        let three = [first, second, second.negated()];
+        same(&rt, Duration::sum(&three), Duration::sum(&[first]), row);
+    }
+}
+
 #[test]
 fn lengths(rt: HostRuntime) {
     for row in LENGTHS.lines() {

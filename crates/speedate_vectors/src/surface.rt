@@ -1,11 +1,12 @@
 //! The traits of each type that `speedate` gives out.
 
 use speedate::{
-    CallKind, ConfigError, Date, DateConfig, DateConfigBuilder, DateReader, DateTime,
-    DateTimeClockReader, DateTimeConfig, DateTimeConfigBuilder, DateTimeOffsetReader,
-    DateTimeParser, DateTimeReader, Decimal, Duration, DurationReader, IntFloat, IsoOrder,
-    LineConfig, LineError, LineReader, MicrosecondsPrecisionOverflowBehavior, Moment, ParseError,
-    Progress, Refused, Time, TimeConfig, TimeConfigBuilder, TimeOffsetReader, TimeParser,
+    CallKind, ConfigError, Date, DateConfig, DateConfigBuilder, DatePrinter, DateReader, DateTime,
+    DateTimeClockPrinter, DateTimeClockReader, DateTimeConfig, DateTimeConfigBuilder,
+    DateTimeOffsetReader, DateTimeParser, DateTimePrinter, DateTimeReader, Decimal, Duration,
+    DurationPrinter, DurationReader, DurationSum, IntFloat, IsoOrder, LineConfig, LineError,
+    LinePrinter, LineReader, MicrosecondsPrecisionOverflowBehavior, Moment, ParseError, Progress,
+    Refused, Time, TimeConfig, TimeConfigBuilder, TimeOffsetReader, TimeParser, TimePrinter,
     TimeReader, TimestampUnit,
 };
 use std::error::Error;
@@ -15,6 +16,8 @@ use std::str::FromStr;
 fn is_copied<T: Copy + Debug>() {}
 
 fn is_reader<T: Copy + Debug + LineReader>() {}
+
+fn is_printer<T: Copy + Debug + LinePrinter>() {}
 
 fn is_value<T: Copy + Debug + Eq>() {}
 
@@ -39,7 +42,12 @@ fn each_type_has_its_traits() {
     is_reader::<TimeReader>();
     is_reader::<TimeOffsetReader>();
     is_reader::<DurationReader>();
-    is_value::<(LineError, Refused)>();
+    is_printer::<DatePrinter>();
+    is_printer::<DateTimePrinter>();
+    is_printer::<DateTimeClockPrinter>();
+    is_printer::<TimePrinter>();
+    is_printer::<DurationPrinter>();
+    is_value::<(LineError, Refused, DurationSum)>();
     is_value::<(Date, Time, DateTime, Duration, Moment)>();
     is_choice::<TimestampUnit>();
     is_choice::<MicrosecondsPrecisionOverflowBehavior>();

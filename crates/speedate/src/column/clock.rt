@@ -4,7 +4,9 @@ ghost use Rattle.std.specs.Prelude.{◌≡◌, Ok};
 ghost use Rattle.speedate_civil.specs.DateTime.{date_and_time, local_microsecond};
 ghost use Rattle.speedate.specs.Column.{offset_as_number};
 
-use super::{DateTimeParser, LineError, LineReader};
+use super::date_time::push_date_time;
+use super::{DateTimeParser, LINE_MAX, LineError, LinePrinter, LineReader};
+use arrayvec::ArrayString;
 use speedate_base::faults::ParseError;
 use speedate_civil::datetime::DateTime;
 
@@ -74,5 +76,27 @@ pub(super) fn offset_number(offset: Option<i32>) -> Result<i32, LineError>
     match offset {
         Some(second) => Ok(second),
         None => Err(LineError::Parse(ParseError::TzRequired)),
+    }
+}
+
+/// Prints microseconds since 1970-01-01T00:00:00 on a clock as date-times without an offset, for
+/// [`print_column`](crate::print_column): 1,000,000 as `1970-01-01T00:00:01`. What it refuses, and
+/// `i64::MIN`, are as with [`DateTimePrinter`](crate::DateTimePrinter).
+#[derive(Clone, Copy, Debug)]
+pub struct DateTimeClockPrinter;
+
+impl LinePrinter for DateTimeClockPrinter {
+    ghost use Rattle.std.specs.Prelude.{None};
+    ghost use Rattle.speedate.specs.ColumnText.{ReadsClocks, date_time_line};
+
+    type Number = i64;
+
+    ghost line = { λ printer number. date_time_line None number };
+
+    ghost leads_back = { λ printer answer refused. ReadsClocks answer refused };
+
+    #[inline(always)]
+    fn push_line(&self, number: i64, text: &mut ArrayString<LINE_MAX>) -> Result<(), LineError> {
+        push_date_time(number, None, text)
     }
 }

@@ -1,7 +1,9 @@
 //! Columns of dates.
 
-use super::{LineError, LineReader};
+use super::{LINE_MAX, LineError, LinePrinter, LineReader};
+use arrayvec::ArrayString;
 use speedate_base::config::DateConfig;
+use speedate_base::faults::ParseError;
 use speedate_civil::date::Date;
 
 /// Reads a line as a date, and counts its days from 1970-01-01: 1 for `1970-01-02`, and -1 for
@@ -45,6 +47,40 @@ impl LineReader for DateReader {
         match Date::parse_front(text) {
             Ok((date, size)) => Some((date.days_since(&EPOCH), size)),
             Err(_) => None,
+        }
+    }
+}
+
+/// Prints days since 1970-01-01 as dates, for [`print_column`](crate::print_column): 1 as `1970-01-02`.
+/// `i32::MIN` is an empty line, as a column has it of a refused line. A day outside the years 0000 to 9999
+/// is refused, with `DateTooSmall` or `DateTooLarge`.
+#[derive(Clone, Copy, Debug)]
+pub struct DatePrinter;
+
+impl LinePrinter for DatePrinter {
+    ghost use Rattle.speedate.specs.ColumnText.{ReadsDates, date_line};
+
+    type Number = i32;
+
+    ghost line = { λ printer number. date_line number };
+
+    ghost leads_back = { λ printer answer refused. ReadsDates answer refused };
+
+    #[inline(always)]
+    fn push_line(&self, number: i32, text: &mut ArrayString<LINE_MAX>) -> Result<(), LineError> {
+        if number == i32::MIN {
+            return Ok(());
+        }
+        match EPOCH.checked_add_days(number) {
+            Some(date) => {
+                date.push_onto(text);
+                Ok(())
+            }
+            None => Err(LineError::Parse(if number < 0 {
+                ParseError::DateTooSmall
+            } else {
+                ParseError::DateTooLarge
+            })),
         }
     }
 }

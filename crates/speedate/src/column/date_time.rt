@@ -1,12 +1,16 @@
 //! Columns of date-times.
 
-ghost use Rattle.std.specs.Prelude.{◌≡◌, ◌+ℤ◌, ◌-ℤ◌, ◌≤ℤ◌, pos};
+ghost use Rattle.std.specs.Prelude.{◌≡◌, ◌+ℤ◌, ◌-ℤ◌, ◌≤ℤ◌, [], IfErr, IfOk, pos};
 ghost use Rattle.std.specs.Option.{ForSome};
 ghost use Rattle.speedate_base.specs.Offset.{IsOffset};
-ghost use Rattle.speedate_base.specs.Timestamp.{IsInYears, first_second, last_second, unix_instant};
+ghost use Rattle.speedate_base.specs.Timestamp.{IsInYears, first_second, instant_at, last_second};
+ghost use Rattle.speedate_base.specs.Timestamp.{unix_instant};
 ghost use Rattle.speedate_civil.specs.DateTime.{date_time_at, utc_microsecond, utc_second};
+ghost use Rattle.speedate_base.specs.Requirement.{result_map};
+ghost use Rattle.speedate.specs.ColumnText.{IsShownLine, date_time_line};
 
-use super::{LineError, LineReader};
+use super::{LINE_MAX, LineError, LinePrinter, LineReader};
+use arrayvec::ArrayString;
 use speedate_base::config::{DateTimeConfig, MicrosecondsPrecisionOverflowBehavior, TimeConfig};
 use speedate_base::faults::ParseError;
 use speedate_base::util::UnixTime;
@@ -184,4 +188,63 @@ fn timestamp_second(time: UnixTime, offset: Option<i32>) -> i64
     ensures largest { result ≤ℤ (last_second +ℤ pos 86399) }
 {
     time.second - i64::from(offset.unwrap_or(0))
+}
+
+/// Prints microseconds since 1970-01-01T00:00:00 in UTC as date-times with `Z`, for
+/// [`print_column`](crate::print_column): 1,000,000 as `1970-01-01T00:00:01Z`. `i64::MIN` is an empty line, as
+/// a column has it of a refused line. An instant outside the years 0000 to 9999 is refused, with `DateTooSmall`
+/// or `DateTooLarge`.
+#[derive(Clone, Copy, Debug)]
+pub struct DateTimePrinter;
+
+impl LinePrinter for DateTimePrinter {
+    ghost use Rattle.std.specs.Prelude.{Some, pos};
+    ghost use Rattle.speedate.specs.ColumnText.{ReadsDateTimes, date_time_line};
+
+    type Number = i64;
+
+    ghost line = { λ printer number. date_time_line (Some (pos 0)) number };
+
+    ghost leads_back = { λ printer answer refused. ReadsDateTimes answer refused };
+
+    #[inline(always)]
+    fn push_line(&self, number: i64, text: &mut ArrayString<LINE_MAX>) -> Result<(), LineError> {
+        push_date_time(number, Some(0), text)
+    }
+}
+
+/// Puts the date-time with an offset whose clock shows the instant of a number into an empty text.
+#[inline(always)]
+pub(super) fn push_date_time(
+    number: i64,
+    offset: Option<i32>,
+    text: &mut ArrayString<LINE_MAX>,
+) -> Result<(), LineError>
+    requires empty { text.old.bytes ≡ [] }
+    requires offset { ForSome offset IsOffset }
+    ensures line { result_map (λ done. text.new.bytes) result ≡ date_time_line offset number }
+    ensures shown { IfOk result (λ done. IsShownLine offset number text.new.bytes) }
+    ensures kept { IfErr result (λ error. text.new.bytes ≡ []) }
+{
+    if number == i64::MIN {
+        return Ok(());
+    }
+    match DateTime::from_unix_time(instant(number), offset) {
+        Ok(value) => {
+            value.push_onto(text);
+            Ok(())
+        }
+        Err(fault) => Err(LineError::Parse(fault)),
+    }
+}
+
+/// The instant of microseconds since 1970-01-01T00:00:00.
+#[inline(always)]
+fn instant(microsecond: i64) -> UnixTime
+    ensures instant { unix_instant result ≡ instant_at microsecond }
+{
+    UnixTime {
+        second: microsecond.div_euclid(1_000_000),
+        microsecond: microsecond.rem_euclid(1_000_000) as u32,
+    }
 }

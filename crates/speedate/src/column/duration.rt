@@ -1,7 +1,12 @@
 //! Columns of durations.
 
-use super::{LineError, LineReader};
+ghost use Rattle.std.specs.Prelude.{◌≡◌};
+ghost use Rattle.speedate.specs.Duration.{duration_numbers, signed_amount};
+ghost use Rattle.speedate.specs.Column.{number_of_amount};
+
+use super::{LINE_MAX, LineError, LinePrinter, LineReader};
 use crate::duration::Duration;
+use arrayvec::ArrayString;
 use speedate_base::config::TimeConfig;
 
 /// Reads a line as a duration, as [`Duration::parse_bytes_with_config`] does, and counts its
@@ -11,25 +16,6 @@ use speedate_base::config::TimeConfig;
 pub struct DurationReader {
     /// How a line is parsed.
     pub config: TimeConfig,
-}
-
-impl DurationReader {
-    ghost use Rattle.std.specs.Prelude.{◌≡◌};
-    ghost use Rattle.speedate.specs.Duration.{duration_numbers, signed_amount};
-    ghost use Rattle.speedate.specs.Column.{number_of_amount};
-
-    /// The microseconds of a duration, if they fit.
-    fn microseconds(duration: &Duration) -> Result<i64, LineError>
-        ensures number { result
-            ≡ number_of_amount (signed_amount (duration_numbers duration.now)) }
-    {
-        let amount = duration.signed_total_microseconds();
-        if amount.unsigned_abs() < 1 << 63 {
-            Ok(amount as i64)
-        } else {
-            Err(LineError::NumberTooLarge)
-        }
-    }
 }
 
 impl LineReader for DurationReader {
@@ -42,8 +28,52 @@ impl LineReader for DurationReader {
     fn number(&self, line: &[u8]) -> Result<i64, LineError> {
         let behavior = self.config.microseconds_precision_overflow_behavior;
         match Duration::parse::<true>(line, self.config.iso_order, behavior) {
-            Ok(duration) => Self::microseconds(&duration),
+            Ok(duration) => duration_microseconds(&duration),
             Err(fault) => Err(LineError::Parse(fault)),
         }
+    }
+}
+
+/// The microseconds of a duration, with the sign, as a column has them: -1,500,000 for -PT1.5S.
+///
+/// # Errors
+///
+/// `NumberTooLarge` if they are 2^63 or more without the sign, which is over 106,751,991 days.
+#[inline(always)]
+pub fn duration_microseconds(duration: &Duration) -> Result<i64, LineError>
+    ensures number { result ≡ number_of_amount (signed_amount (duration_numbers duration.now)) }
+{
+    let amount = duration.signed_total_microseconds();
+    if amount.unsigned_abs() < 1 << 63 {
+        Ok(amount as i64)
+    } else {
+        Err(LineError::NumberTooLarge)
+    }
+}
+
+/// The number that a column has of a refused line.
+const LEAST: i64 = i64::MIN;
+
+/// Prints microseconds as durations, for [`print_column`](crate::print_column): -1,500,000 as `-PT1.5S`.
+/// `i64::MIN` is an empty line, as a column has it of a refused line.
+#[derive(Clone, Copy, Debug)]
+pub struct DurationPrinter;
+
+impl LinePrinter for DurationPrinter {
+    ghost use Rattle.speedate.specs.ColumnText.{ReadsDurations, duration_line};
+
+    type Number = i64;
+
+    ghost line = { λ printer number. duration_line number };
+
+    ghost leads_back = { λ printer answer refused. ReadsDurations answer refused };
+
+    #[inline(always)]
+    fn push_line(&self, number: i64, text: &mut ArrayString<LINE_MAX>) -> Result<(), LineError> {
+        if number == LEAST {
+            return Ok(());
+        }
+        Duration::from_microseconds(number).push_onto(text);
+        Ok(())
     }
 }

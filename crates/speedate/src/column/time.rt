@@ -4,10 +4,14 @@ ghost use Rattle.std.specs.Prelude.{◌≡◌, pos};
 ghost use Rattle.speedate_civil.specs.Time.{microsecond_of_day, time_of_day};
 
 use super::clock::offset_number;
-use super::{LineError, LineReader};
+use super::{LINE_MAX, LineError, LinePrinter, LineReader};
+use arrayvec::ArrayString;
 use speedate_base::config::{MicrosecondsPrecisionOverflowBehavior, TimeConfig};
 use speedate_base::faults::ParseError;
 use speedate_civil::time::Time;
+
+/// The microseconds of a day.
+const MICROSECONDS_PER_DAY: i64 = 86_400_000_000;
 
 /// How a column parses its times: `TimeParser::Text(TimeConfig::default())` takes `12:13`.
 #[derive(Clone, Copy, Debug)]
@@ -85,4 +89,39 @@ fn microsecond_of_day(time: &Time) -> i64
     ensures microsecond { result ≡ pos (microsecond_of_day (time_of_day time.now)) }
 {
     1_000_000 * i64::from(time.total_seconds()) + i64::from(time.microsecond)
+}
+
+/// Prints microseconds after midnight as times, for [`print_column`](crate::print_column): 43,994,500,000 as
+/// `12:13:14.500000`. `i64::MIN` is an empty line, as a column has it of a refused line. A number that is not
+/// 0 to 86,399,999,999 is refused, with `TimeTooLarge`.
+#[derive(Clone, Copy, Debug)]
+pub struct TimePrinter;
+
+impl LinePrinter for TimePrinter {
+    ghost use Rattle.speedate.specs.ColumnText.{ReadsTimes, time_line};
+
+    type Number = i64;
+
+    ghost line = { λ printer number. time_line number };
+
+    ghost leads_back = { λ printer answer refused. ReadsTimes answer refused };
+
+    #[inline(always)]
+    fn push_line(&self, number: i64, text: &mut ArrayString<LINE_MAX>) -> Result<(), LineError> {
+        if number == i64::MIN {
+            return Ok(());
+        }
+        if number < 0 || number >= MICROSECONDS_PER_DAY {
+            return Err(LineError::Parse(ParseError::TimeTooLarge));
+        }
+        let second = (number / 1_000_000) as u32;
+        let microsecond = (number % 1_000_000) as u32;
+        match Time::from_timestamp(second, microsecond) {
+            Ok(time) => {
+                time.push_onto(text);
+                Ok(())
+            }
+            Err(fault) => Err(LineError::Parse(fault)),
+        }
+    }
 }

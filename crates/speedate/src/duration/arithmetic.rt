@@ -159,7 +159,7 @@ impl Duration {
     }
 
     /// The duration of a number of microseconds.
-    fn from_microseconds(amount: i64) -> Duration
+    pub(crate) fn from_microseconds(amount: i64) -> Duration
         ensures numbers { duration_numbers result ≡ duration_of_amount amount }
     {
         let size = amount.unsigned_abs();

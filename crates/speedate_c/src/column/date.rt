@@ -3,11 +3,14 @@
 ghost use Rattle.std.specs.Prelude.{◌≡◌, MatchOption};
 ghost use Rattle.speedate_c.specs.Code.{config_out_of_range, success};
 ghost use Rattle.speedate_c.specs.Column.{IsColumn, chosen_for_dates};
-ghost use Rattle.speedate_c.specs.Column.{date_reader, least_of_32_bits};
+ghost use Rattle.speedate_c.specs.Column.{date_reader, written_lines};
+ghost use Rattle.speedate.specs.ColumnText.{date_line, least_of_32_bits};
 
-use super::{ColumnChoices, LineParser, SpeedateColumnConfig, SpeedateProgress, write_column};
+use super::{
+    ColumnChoices, LineParser, SpeedateColumnConfig, SpeedateProgress, write_column, write_lines,
+};
 use crate::config::SpeedateConfig;
-use speedate::{DateConfig, DateReader};
+use speedate::{DateConfig, DatePrinter, DateReader};
 
 impl ColumnChoices {
     /// The reader of dates, if the parser is one of dates.
@@ -47,4 +50,21 @@ pub extern "C" fn speedate_date_column(
     let choices = config_or_return!(column.to_choices());
     let reader = config_or_return!(choices.date_reader(config));
     write_column(text, &choices, &reader, i32::MIN, out, errors, progress)
+}
+
+/// Prints days since 1970-01-01 as dates, a line for each, as [`print_column`] does by a
+/// [`DatePrinter`]: `1970-01-02` for 1.
+///
+/// A number without a line is no failure of the call: it ends the text, and the progress has the code of its
+/// error.
+#[unsafe(no_mangle)]
+pub extern "C" fn speedate_date_print_column(
+    days: &[i32],
+    buffer: &mut [u8],
+    progress: &mut SpeedateProgress,
+) -> i32
+    ensures answer { (result, buffer.new, progress.new)
+        ≡ written_lines date_line days.now buffer.old }
+{
+    write_lines(days, &DatePrinter, buffer, progress)
 }

@@ -1,19 +1,24 @@
 //! Columns of date-times as C sees them: of their instants, of what their clocks show, and of their offsets.
 
-ghost use Rattle.std.specs.Prelude.{◌≡◌, MatchOption};
+ghost use Rattle.std.specs.Prelude.{◌≡◌, MatchOption, None, Some, pos};
 ghost use Rattle.speedate.specs.Column.{clock_number, date_time_number, date_time_offset_number};
 ghost use Rattle.speedate.specs.Config.{choices};
 ghost use Rattle.speedate_c.specs.Code.{config_out_of_range, success};
 ghost use Rattle.speedate_c.specs.Column.{IsColumn, chosen_for_clocks};
 ghost use Rattle.speedate_c.specs.Column.{chosen_for_date_time_offsets, chosen_for_date_times};
 ghost use Rattle.speedate_c.specs.Column.{clock_number_by, date_time_number_by};
-ghost use Rattle.speedate_c.specs.Column.{date_time_offset_number_by, least_of_32_bits};
-ghost use Rattle.speedate_c.specs.Column.{least_of_64_bits};
+ghost use Rattle.speedate_c.specs.Column.{date_time_offset_number_by};
+ghost use Rattle.speedate_c.specs.Column.{written_lines};
+ghost use Rattle.speedate.specs.ColumnText.{date_time_line, least_of_32_bits};
+ghost use Rattle.speedate.specs.ColumnText.{least_of_64_bits};
 
-use super::{ColumnChoices, LineParser, SpeedateColumnConfig, SpeedateProgress, write_column};
+use super::{
+    ColumnChoices, LineParser, SpeedateColumnConfig, SpeedateProgress, write_column, write_lines,
+};
 use crate::config::SpeedateConfig;
 use speedate::{
-    DateTimeClockReader, DateTimeConfig, DateTimeOffsetReader, DateTimeParser, DateTimeReader,
+    DateTimeClockPrinter, DateTimeClockReader, DateTimeConfig, DateTimeOffsetReader,
+    DateTimeParser, DateTimePrinter, DateTimeReader,
 };
 
 impl ColumnChoices {
@@ -129,4 +134,37 @@ pub extern "C" fn speedate_datetime_offset_column(
     let parser = choices.date_time_parser(&config);
     let reader = DateTimeOffsetReader { parser };
     write_column(text, &choices, &reader, i32::MIN, out, errors, progress)
+}
+
+/// Prints microseconds since 1970-01-01T00:00:00 in UTC as date-times with `Z`, a line for each, as
+/// [`print_column`] does by a [`DateTimePrinter`]: `1970-01-01T00:00:01Z` for 1,000,000.
+///
+/// A number without a line ends the text, as with [`speedate_date_print_column`].
+#[unsafe(no_mangle)]
+pub extern "C" fn speedate_datetime_print_column(
+    microseconds: &[i64],
+    buffer: &mut [u8],
+    progress: &mut SpeedateProgress,
+) -> i32
+    ensures answer { (result, buffer.new, progress.new)
+        ≡ written_lines (date_time_line (Some (pos 0))) microseconds.now buffer.old }
+{
+    write_lines(microseconds, &DateTimePrinter, buffer, progress)
+}
+
+/// Prints microseconds since 1970-01-01T00:00:00 on a clock as date-times without an offset, a line for each, as
+/// [`print_column`] does by a [`DateTimeClockPrinter`]: `1970-01-01T00:00:01` for
+/// 1,000,000.
+///
+/// A number without a line ends the text, as with [`speedate_date_print_column`].
+#[unsafe(no_mangle)]
+pub extern "C" fn speedate_datetime_clock_print_column(
+    microseconds: &[i64],
+    buffer: &mut [u8],
+    progress: &mut SpeedateProgress,
+) -> i32
+    ensures answer { (result, buffer.new, progress.new)
+        ≡ written_lines (date_time_line None) microseconds.now buffer.old }
+{
+    write_lines(microseconds, &DateTimeClockPrinter, buffer, progress)
 }

@@ -5,11 +5,12 @@ ghost use Rattle.speedate.specs.Column.{duration_number};
 ghost use Rattle.speedate.specs.Config.{choices};
 ghost use Rattle.speedate_c.specs.Code.{config_out_of_range, success};
 ghost use Rattle.speedate_c.specs.Column.{IsColumn, chosen_for_durations};
-ghost use Rattle.speedate_c.specs.Column.{duration_number_by, least_of_64_bits};
+ghost use Rattle.speedate_c.specs.Column.{duration_number_by, written_lines};
+ghost use Rattle.speedate.specs.ColumnText.{duration_line, least_of_64_bits};
 
-use super::{SpeedateColumnConfig, SpeedateProgress, write_column};
+use super::{SpeedateColumnConfig, SpeedateProgress, write_column, write_lines};
 use crate::config::SpeedateConfig;
-use speedate::{DateTimeConfig, DurationReader};
+use speedate::{DateTimeConfig, DurationPrinter, DurationReader};
 
 /// The reader of durations.
 #[inline(always)]
@@ -44,4 +45,18 @@ pub extern "C" fn speedate_duration_column(
     let choices = config_or_return!(column.to_choices());
     let reader = duration_reader(&config);
     write_column(text, &choices, &reader, i64::MIN, out, errors, progress)
+}
+
+/// Prints microseconds as durations, a line for each, as [`print_column`] does by a
+/// [`DurationPrinter`]: `-PT1.5S` for -1,500,000. Each number has a line.
+#[unsafe(no_mangle)]
+pub extern "C" fn speedate_duration_print_column(
+    microseconds: &[i64],
+    buffer: &mut [u8],
+    progress: &mut SpeedateProgress,
+) -> i32
+    ensures answer { (result, buffer.new, progress.new)
+        ≡ written_lines duration_line microseconds.now buffer.old }
+{
+    write_lines(microseconds, &DurationPrinter, buffer, progress)
 }

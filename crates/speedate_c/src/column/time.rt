@@ -6,12 +6,15 @@ ghost use Rattle.speedate.specs.Column.{time_of_line};
 ghost use Rattle.speedate.specs.Config.{choices};
 ghost use Rattle.speedate_c.specs.Code.{config_out_of_range, success};
 ghost use Rattle.speedate_c.specs.Column.{IsColumn, chosen_for_time_offsets};
-ghost use Rattle.speedate_c.specs.Column.{chosen_for_times, least_of_32_bits, least_of_64_bits};
-ghost use Rattle.speedate_c.specs.Column.{time_by_parser};
+ghost use Rattle.speedate_c.specs.Column.{chosen_for_times};
+ghost use Rattle.speedate_c.specs.Column.{time_by_parser, written_lines};
+ghost use Rattle.speedate.specs.ColumnText.{least_of_32_bits, least_of_64_bits, time_line};
 
-use super::{ColumnChoices, LineParser, SpeedateColumnConfig, SpeedateProgress, write_column};
+use super::{
+    ColumnChoices, LineParser, SpeedateColumnConfig, SpeedateProgress, write_column, write_lines,
+};
 use crate::config::SpeedateConfig;
-use speedate::{DateTimeConfig, TimeOffsetReader, TimeParser, TimeReader};
+use speedate::{DateTimeConfig, TimeOffsetReader, TimeParser, TimePrinter, TimeReader};
 
 impl ColumnChoices {
     /// The parser of times, if the column has one.
@@ -85,4 +88,20 @@ pub extern "C" fn speedate_time_offset_column(
     let parser = config_or_return!(choices.time_parser(&config));
     let reader = TimeOffsetReader { parser };
     write_column(text, &choices, &reader, i32::MIN, out, errors, progress)
+}
+
+/// Prints microseconds after midnight as times, a line for each, as [`print_column`] does
+/// by a [`TimePrinter`]: `12:13:14.500000` for 43,994,500,000.
+///
+/// A number without a line ends the text, as with [`speedate_date_print_column`].
+#[unsafe(no_mangle)]
+pub extern "C" fn speedate_time_print_column(
+    microseconds: &[i64],
+    buffer: &mut [u8],
+    progress: &mut SpeedateProgress,
+) -> i32
+    ensures answer { (result, buffer.new, progress.new)
+        ≡ written_lines time_line microseconds.now buffer.old }
+{
+    write_lines(microseconds, &TimePrinter, buffer, progress)
 }

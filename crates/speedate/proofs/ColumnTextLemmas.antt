@@ -1,0 +1,223 @@
+-- The text of a column, line by line.
+use Rattle.std.proofs.Common.{Bool, true, false, ◌≡◌, ◌≢◌, ◌∙◌, ap, sym, refl, ℕ, ◌+◌, ◌-◌, ◌<◌, ◌≤◌, List, [], ◌∷◌, ◌++◌, length, take, drop, get_or, map, append_assoc, append-nil, arith, Option, Some, None, Result, Ok, Err}
+use Rattle.std.proofs.Math.Seq.{take-append_seam, drop-append_seam}
+use Rattle.std.proofs.lemmas.List.{length-append, length-take-le, map-append, take_all, take-append-drop, drop-drop}
+use Rattle.std.proofs.lemmas.Bool.{lt-ltb, le-ltb}
+use Rattle.std.proofs.lemmas.List.Elements.{All-from_get_or}
+use Rattle.speedate_base.specs.Ascii.{HasNoControl, carriage_return, line_feed}
+use Rattle.speedate.specs.Column.{Column, LineConfig, LineError, column, entry, line_answer}
+use Rattle.speedate.specs.Column.{onto_column, text_column}
+use Rattle.speedate.specs.ColumnText.{ColumnText, column_text, no_lines, number_or, onto_lines}
+use Rattle.speedate.specs.Lines.{Pieces, complete_lines, last_line, lines, pieces}
+use Rattle.speedate.specs.Lines.{unfinished_line, whole_lines}
+use Rattle.speedate.proofs.LineLemmas.{EndsNoLine, IsFree, pieces-append, pieces-line}
+use Rattle.speedate.proofs.LineLemmas.{no_return-printed}
+use Rattle.speedate.proofs.WholeLineLemmas.{without_return-kept}
+
+-- the whole text, by what is printed of it and the text of what is left
+pub record IsPrintedSoFar (whole left : ColumnText) (lines bytes : ℕ) (out_old out : List ℕ)
+    : Type 0 where
+  pub count : whole.lines ≡ lines + left.lines
+  pub fault : whole.fault ≡ left.fault
+  pub text : whole.text ≡ take bytes out ++ left.text
+  pub kept : drop bytes out ≡ drop bytes out_old
+
+-- a text of whole lines, which each reader that leads back reads as these numbers
+pub record IsReadSoFar {N : Type 0}
+    (LeadsBack : (List ℕ → Result N LineError) → N → Type 0) (text : List ℕ) (numbers : List N)
+    : Type 0 where
+  pub whole : unfinished_line text ≡ []
+  pub count : length (complete_lines text) ≡ length numbers
+  pub reads : (answer : List ℕ → Result N LineError) (refused : N) (config : LineConfig)
+      → LeadsBack answer refused
+      → map (λ line. number_or refused (line_answer answer config line)) (complete_lines text)
+      ≡ numbers
+
+-- a column in which a refused line has a number has a number of each line
+onto-map : {N : Type 0} → (refused : N) (answer : Result N LineError) (rest : Column N)
+    → (onto_column (entry (Some refused) answer) rest).numbers
+    ≡ number_or refused answer ∷ rest.numbers
+onto-map refused (Ok number) rest = refl
+onto-map refused (Err fault) rest = refl
+
+column-map : {N : Type 0} → (answer : List ℕ → Result N LineError) (refused : N)
+    (all : List (List ℕ))
+    → (column answer (Some refused) all).numbers ≡ map (λ line. number_or refused (answer line)) all
+column-map answer refused [] = refl
+column-map {N = N} answer refused (line ∷ all) =
+    onto-map refused (answer line) (column answer (Some refused) all)
+    ∙ ap (λ (numbers : List N). number_or refused (answer line) ∷ numbers)
+    (column-map answer refused all)
+
+-- the lines of a text that ends with a line feed are whole
+whole_lines-whole : (at_end : Bool) (text : List ℕ) → unfinished_line text ≡ []
+    → whole_lines at_end text ≡ complete_lines text
+whole_lines-whole true text whole =
+    ap (λ (last : List ℕ). complete_lines text ++ last_line last) whole
+    ∙ append-nil (complete_lines text)
+whole_lines-whole false text whole = refl
+
+-- the column of such a text
+pub text_column-read : {N : Type 0}
+    → (LeadsBack : (List ℕ → Result N LineError) → N → Type 0) (text : List ℕ)
+    (numbers : List N) → IsReadSoFar LeadsBack text numbers
+    → (answer : List ℕ → Result N LineError) (refused : N) (config : LineConfig) (room : ℕ)
+    → length numbers ≤ room → LeadsBack answer refused
+    → (text_column answer config (Some refused) room text).numbers ≡ numbers
+unfolding text_column
+text_column-read {N = N} LeadsBack text numbers read answer refused config room enough back =
+    let all = complete_lines text in
+    let cut = ap (take room) (whole_lines-whole config.at_end text read.whole)
+    ∙ take_all room all (omega (arith, read.count, enough)) in
+    let line = line_answer answer config in
+    ap (λ (all : List (List ℕ)). (column line (Some refused) all).numbers) cut
+    ∙ column-map line refused all
+    ∙ read.reads answer refused config back
+
+-- after one more line
+pub IsPrintedSoFar-more : (whole left rest : ColumnText) (lines next_line bytes next : ℕ)
+    (out_old out out_new line : List ℕ)
+    → IsPrintedSoFar whole left lines bytes out_old out → left ≡ onto_lines line rest
+    → next_line ≡ lines + 1 → next ≡ bytes + (length line + 1)
+    → bytes + length line < length out
+    → out_new ≡ take bytes out ++ (line ++ line_feed ∷ drop (bytes + length line + 1) out)
+    → IsPrintedSoFar whole rest next_line next out_old out_new
+    × (take next out_new ≡ take bytes out ++ (line ++ line_feed ∷ []))
+IsPrintedSoFar-more whole left rest lines next_line bytes next out_old out out_new line before is
+    one_more there within put =
+    let front : List ℕ = take bytes out in
+    let ended : List ℕ = line ++ line_feed ∷ [] in
+    let tail : List ℕ = drop (bytes + length line + 1) out in
+    let long : length front ≡ bytes = length-take-le bytes out (omega (arith, within)) in
+    let size : length (front ++ ended) ≡ next =
+    omega (arith, there, long, length-append front ended, length-append line (line_feed ∷ [])) in
+    let parts : out_new ≡ (front ++ ended) ++ tail =
+    put
+    ∙ ap (λ (list : List ℕ). front ++ list) (sym (append_assoc line (line_feed ∷ []) tail))
+    ∙ sym (append_assoc front ended tail) in
+    let taken : take next out_new ≡ front ++ ended =
+    ap (take next) parts
+    ∙ ap (λ (n : ℕ). take n ((front ++ ended) ++ tail)) (sym size)
+    ∙ take-append_seam (front ++ ended) tail in
+    let dropped : drop next out_new ≡ tail =
+    ap (drop next) parts
+    ∙ ap (λ (n : ℕ). drop n ((front ++ ended) ++ tail)) (sym size)
+    ∙ drop-append_seam (front ++ ended) tail in
+    let after : bytes + length line + 1 ≡ bytes + (length line + 1) = omega arith in
+    let cut : tail ≡ drop next out_old =
+    ap (λ (n : ℕ). drop n out) after
+    ∙ sym (drop-drop (length line + 1) bytes out)
+    ∙ ap (drop (length line + 1)) before.kept
+    ∙ drop-drop (length line + 1) bytes out_old
+    ∙ ap (λ (n : ℕ). drop n out_old) (sym there) in (
+      record {
+        count = omega (arith, before.count, one_more, ap (λ (all : ColumnText). all.lines) is);
+        fault = before.fault ∙ ap (λ (all : ColumnText). all.fault) is;
+        text = before.text
+            ∙ ap (λ (all : ColumnText). front ++ all.text) is
+            ∙ ap (λ (list : List ℕ). front ++ list)
+            (sym (append_assoc line (line_feed ∷ []) rest.text))
+            ∙ sym (append_assoc front ended rest.text)
+            ∙ ap (λ (list : List ℕ). list ++ rest.text) (sym taken);
+        kept = dropped ∙ cut;
+      },
+      taken,
+    )
+
+-- a line without control characters holds no line feed, and ends with no carriage return
+free : (line : List ℕ) → HasNoControl (length line) line → IsFree line
+free line printed =
+    All-from_get_or EndsNoLine line 0 (λ k below same.
+    absurd (omega (arith, printed k below, same)))
+
+no_return : (line : List ℕ) → HasNoControl (length line) line
+    → get_or line (length line - 1) 0 ≢ carriage_return
+no_return [] printed = λ same. absurd (omega (arith, same))
+no_return (byte ∷ bytes) printed =
+    no_return-printed (byte ∷ bytes) (length (byte ∷ bytes)) printed (omega arith)
+
+-- one more line is read as its number
+pub IsReadSoFar-more : {N : Type 0}
+    → (LeadsBack : (List ℕ → Result N LineError) → N → Type 0) (text line : List ℕ)
+    (numbers : List N) (number : N)
+    → IsReadSoFar LeadsBack text numbers → HasNoControl (length line) line
+    → ((answer : List ℕ → Result N LineError) (refused : N) → LeadsBack answer refused
+    → number_or refused (answer line) ≡ number)
+    → IsReadSoFar LeadsBack (text ++ (line ++ line_feed ∷ [])) (numbers ++ number ∷ [])
+IsReadSoFar-more {N = N} LeadsBack text line numbers number before printed back =
+    let ended : List ℕ = line ++ line_feed ∷ [] in
+    let all = complete_lines text in
+    let is : pieces (text ++ ended) ≡ record { complete = all ++ line ∷ []; unfinished = [] } =
+    pieces-append text ended
+    ∙ ap (λ (last : List ℕ). record {
+      complete = all ++ complete_lines (last ++ ended);
+      unfinished = unfinished_line (last ++ ended);
+    }) before.whole
+    ∙ ap (λ (rest : Pieces). record {
+      complete = all ++ rest.complete;
+      unfinished = rest.unfinished;
+    }) (pieces-line line [] (free line printed)) in
+    let complete : complete_lines (text ++ ended) ≡ all ++ line ∷ [] =
+    ap (λ (rest : Pieces). rest.complete) is in
+    record {
+      whole = ap (λ (rest : Pieces). rest.unfinished) is;
+      count =
+          ap length complete
+          ∙ omega (
+            arith,
+            before.count,
+            length-append all (line ∷ []),
+            length-append numbers (number ∷ []),
+          );
+      reads = λ answer refused config leads.
+          let of_line = λ (line : List ℕ). number_or refused (line_answer answer config line) in
+          let kept = without_return-kept config.drops_returns line (no_return line printed) in
+          let last = ap (λ (line : List ℕ). number_or refused (answer line)) kept
+          ∙ back answer refused leads in
+          ap (map of_line) complete
+          ∙ map-append of_line all (line ∷ [])
+          ∙ ap (λ (front : List N). front ++ of_line line ∷ [])
+          (before.reads answer refused config leads)
+          ∙ ap (λ (one : N). numbers ++ one ∷ []) last;
+    }
+
+-- the text of numbers by that of the first
+pub column_text-more : {N : Type 0} → (line_of : N → Result (List ℕ) LineError) (room : ℕ)
+    (number : N) (numbers : List N) (line : List ℕ) → line_of number ≡ Ok line
+    → length line < room
+    → column_text line_of room (number ∷ numbers)
+    ≡ onto_lines line (column_text line_of (room - (length line + 1)) numbers)
+column_text-more line_of room number numbers line is fits =
+    rw (is, lt-ltb (length line) room fits) refl
+
+pub column_text-full : {N : Type 0} → (line_of : N → Result (List ℕ) LineError) (room : ℕ)
+    (number : N) (numbers : List N) (line : List ℕ) → line_of number ≡ Ok line
+    → room ≤ length line → column_text line_of room (number ∷ numbers) ≡ no_lines None
+column_text-full line_of room number numbers line is full =
+    rw (is, le-ltb (length line) room full) refl
+
+pub column_text-ended : {N : Type 0} → (line_of : N → Result (List ℕ) LineError) (room : ℕ)
+    (number : N) (numbers : List N) (fault : LineError) → line_of number ≡ Err fault
+    → column_text line_of room (number ∷ numbers) ≡ no_lines (Some fault)
+column_text-ended line_of room number numbers fault is = rw is refl
+
+-- the whole text, where the text of what is left has no line
+pub whole-printed : (whole left : ColumnText) (lines bytes : ℕ) (out_old out : List ℕ)
+    (fault : Option LineError)
+    → IsPrintedSoFar whole left lines bytes out_old out → left ≡ no_lines fault
+    → bytes ≤ length out
+    → (out ≡ whole.text ++ drop bytes out_old) × (bytes ≡ length whole.text)
+    × (lines ≡ whole.lines) × (fault ≡ whole.fault)
+whole-printed whole left lines bytes out_old out fault so_far none within =
+    let front : List ℕ = take bytes out in
+    let text : whole.text ≡ front =
+    so_far.text
+    ∙ ap (λ (all : ColumnText). front ++ all.text) none
+    ∙ append-nil front in (
+      sym (take-append-drop bytes out)
+          ∙ ap (λ (list : List ℕ). list ++ drop bytes out) (sym text)
+          ∙ ap (λ (list : List ℕ). whole.text ++ list) so_far.kept,
+      sym (length-take-le bytes out within) ∙ ap length (sym text),
+      omega (arith, so_far.count, ap (λ (all : ColumnText). all.lines) none),
+      sym (so_far.fault ∙ ap (λ (all : ColumnText). all.fault) none),
+    )

@@ -1,0 +1,400 @@
+-- The lines of numbers: that they hold no control character, and are read as their numbers.
+use Rattle.std.proofs.Common.{rules, codes, negsuc, of_z, SFits, w64, ◌&&◌, inl, inr, All, decimal, ◌%◌, ◌/◌, ◌==◌, ◌+ℤ◌, ◌-ℤ◌, ◌*ℤ◌, Bool, true, false, ◌≡◌, ◌≢◌, ◌∙◌, ap, sym}
+use Rattle.std.proofs.Common.{subst, refl, ℕ, ◌+◌, ◌<◌, ◌≤◌, ◌^◌, List, [], ◌∷◌, ◌++◌, length, append-nil, arith, Option, Some, None, Result, Ok, Err, ℤ, pos, unwrap_or, IfErr, IfOk, if◌then◌else◌}
+use Rattle.std.proofs.lemmas.Int.{ints}
+use Rattle.speedate_civil.specs.Base.{Behavior, ParseError}
+use Rattle.std.proofs.lemmas.Fmt.{decimal_by_steps}
+use Rattle.std.proofs.lemmas.List.Elements.{All-append, All-cons, All-get_or, All-head, All-nil, All-tail}
+use Rattle.std.proofs.lemmas.Bool.Decides.{nat_tests}
+use Rattle.speedate_base.specs.Ascii.{HasNoControl, space}
+use Rattle.speedate_base.specs.Requirement.{result_and_then}
+use Rattle.speedate_base.specs.Offset.{IsWholeMinutes}
+use Rattle.speedate_civil.specs.Calendar.{Ymd, IsDate, days_between}
+use Rattle.speedate_civil.specs.Date.{date_front, date_text}
+use Rattle.speedate_civil.specs.DateTime.{DateAndTime, IsDateAndTime, date_time_front}
+use Rattle.speedate_civil.specs.DateTime.{date_time_text, local_microsecond, local_second}
+use Rattle.speedate_civil.specs.DateTime.{utc_microsecond}
+use Rattle.speedate_civil.specs.Time.{IsTime, TimeOfDay, microsecond_of_day, time_front, time_text}
+use Rattle.speedate_civil.specs.Time.{timestamp_answer}
+use Rattle.speedate_civil.proofs.DateLemmas.{date_text-front, date_text-reads}
+use Rattle.speedate_civil.proofs.DateTimeLemmas.{date_time_text-front, date_time_text-reads}
+use Rattle.speedate_civil.proofs.NoControlLemmas.{date_front-no_control, time_front-no_control}
+use Rattle.speedate_civil.proofs.NoControlLemmas.{date_time_front-no_control}
+use Rattle.speedate_civil.proofs.TimeLemmas.{nothing-after, time_text-front, time_text-reads}
+use Rattle.speedate.specs.declared.column.date.DateReader.{DateReader}
+use Rattle.speedate.specs.declared.column.date_time.DateTimeParser.{DateTimeParser}
+use Rattle.speedate.specs.Column.{LineError, as_number, clock_number, date_number}
+use Rattle.speedate.specs.Column.{date_time_number, date_time_of_line, epoch, taken_answer}
+use Rattle.speedate.specs.Column.{with_offset}
+use Rattle.speedate.specs.ColumnText.{IsRelaxed, IsShownLine, ReadsClocks, ReadsDates}
+use Rattle.speedate.specs.ColumnText.{ReadsDateTimes, ReadsTimes, least_of_32_bits}
+use Rattle.speedate.specs.ColumnText.{least_of_64_bits, number_or}
+use Rattle.speedate_base.specs.Ascii.{capital_d, capital_h, capital_m, capital_p, capital_s}
+use Rattle.speedate_base.specs.Ascii.{capital_t, capital_y, digit_zero, full_stop, hyphen}
+use Rattle.speedate_base.specs.Digits.{six_digit_text, two_digit_text}
+use Rattle.speedate.specs.Column.{number_of_amount, number_of_duration}
+use Rattle.speedate.specs.ColumnText.{ReadsDurations}
+use Rattle.speedate.specs.Duration.{counted_text, days_text, duration_of_amount, duration_text}
+use Rattle.speedate.specs.Duration.{hours_text, is_whole_days, kept_digit, rest_text}
+use Rattle.speedate.specs.Duration.{days_or_clock_or, seconds_text, short_fraction_text, start_text}
+use Rattle.speedate.specs.Duration.{unsigned_answer_or, without_last_zeros}
+use Rattle.speedate.specs.DurationNumbers.{DurationNumbers, IsDuration}
+use Rattle.speedate.proofs.DurationLemmas.{signed_amount-kept}
+use Rattle.speedate.proofs.IsoTextLemmas.{duration_text-reads}
+use Rattle.speedate.proofs.FrontNumberLemmas.{date_number-of_date, date_time_of_line-read}
+
+-- a text that is read whole holds no control character
+whole-no_control : {A : Type 0} (answer : Result (A × ℕ) ParseError) (text : List ℕ) (value : A)
+    → answer ≡ Ok (value, length text)
+    → IfOk answer (λ front. HasNoControl front.1 text) → HasNoControl (length text) text
+whole-no_control {A = A} answer text value is printed =
+    subst (λ (read : Result (A × ℕ) ParseError). IfOk read (λ front. HasNoControl front.1 text)) is
+    printed
+
+-- Dates.
+
+pub date_text-no_control : (date : Ymd) → IsDate date
+    → HasNoControl (length (date_text date)) (date_text date)
+date_text-no_control date valid =
+    let text = date_text date in
+    let front = sym (ap date_front (append-nil text)) ∙ date_text-front date [] valid in
+    whole-no_control (date_front text) text date front (date_front-no_control text)
+
+pub date-reads : (answer : List ℕ → Result ℤ LineError) (refused number : ℤ) (date : Ymd)
+    → ReadsDates answer refused → IsDate date → days_between epoch date ≡ number
+    → number_or refused (answer (date_text date)) ≡ number
+date-reads answer refused number date reads valid counted =
+    let reader = reads.0 in
+    let line = date_text date in
+    ap (λ (answer : List ℕ → Result ℤ LineError). number_or refused (answer line)) reads.1
+    ∙ ap (number_or refused)
+    (date_number-of_date reader line date (date_text-reads date valid))
+    ∙ counted
+
+no_date : (reader : DateReader) (refused : ℤ) → number_or refused (date_number reader []) ≡ refused
+no_date DateReader.Text refused = refl
+no_date (DateReader.OrTimestamp config) refused = refl
+
+pub no_date-reads : (answer : List ℕ → Result ℤ LineError) (refused number : ℤ)
+    → ReadsDates answer refused → number ≡ least_of_32_bits
+    → number_or refused (answer []) ≡ number
+no_date-reads answer refused number reads least =
+    ap (λ (answer : List ℕ → Result ℤ LineError). number_or refused (answer [])) reads.1
+    ∙ no_date reads.0 refused ∙ reads.2 ∙ sym least
+
+-- Date-times.
+
+pub utc-whole : IsWholeMinutes (Some (pos 0))
+utc-whole = search rules
+
+pub none-whole : IsWholeMinutes None
+none-whole = search rules
+
+pub date_time_text-no_control : (value : DateAndTime) → IsDateAndTime value
+    → IsWholeMinutes value.time.offset
+    → HasNoControl (length (date_time_text value)) (date_time_text value)
+date_time_text-no_control value valid whole =
+    let text = date_time_text value in
+    let front = sym (ap (date_time_front Behavior.Error) (append-nil text))
+    ∙ date_time_text-front Behavior.Error value [] valid whole (nothing-after value.time) in
+    whole-no_control (date_time_front Behavior.Error text) text value front
+    (date_time_front-no_control Behavior.Error text)
+
+pub IsShownLine-no_control : (offset : Option ℤ) (number : ℤ) (line : List ℕ)
+    → IsWholeMinutes offset → IsShownLine offset number line → HasNoControl (length line) line
+IsShownLine-no_control offset number line whole shown =
+    elim shown [
+      | inl empty ↦ λ k below. absurd (omega (arith, below, ap length empty.1))
+      | inr some ↦ subst (λ (text : List ℕ). HasNoControl (length text) text) (sym some.4)
+          (date_time_text-no_control some.0 some.1
+          (subst IsWholeMinutes (sym some.2) whole))
+    ]
+
+relaxed-taken : (parser : DateTimeParser) (line : List ℕ) → IsRelaxed parser
+    → taken_answer parser line ≡ Ok tt
+relaxed-taken (DateTimeParser.Text config) line relaxed = refl
+relaxed-taken (DateTimeParser.OrTimestamp config) line relaxed = refl
+relaxed-taken (DateTimeParser.Strict behavior) line relaxed = absurd relaxed
+
+no_date_time : (parser : DateTimeParser) → IsRelaxed parser
+    → date_time_of_line parser [] ≡ Err ParseError.TooShort
+no_date_time (DateTimeParser.Text config) relaxed = refl
+no_date_time (DateTimeParser.OrTimestamp config) relaxed = refl
+no_date_time (DateTimeParser.Strict behavior) relaxed = absurd relaxed
+
+-- the date-time of a line that shows a number, or none
+date_time_of_line-shown : (parser : DateTimeParser) (value : DateAndTime) → IsRelaxed parser
+    → IsDateAndTime value → IsWholeMinutes value.time.offset
+    → date_time_of_line parser (date_time_text value) ≡ Ok value
+date_time_of_line-shown parser value relaxed valid whole =
+    let line = date_time_text value in
+    date_time_of_line-read parser line value
+    (λ behavior. date_time_text-reads behavior value valid whole)
+    (relaxed-taken parser line relaxed)
+
+-- in UTC an instant is what the clock shows
+utc-local : (value : DateAndTime) → value.time.offset ≡ Some (pos 0)
+    → utc_microsecond value ≡ local_microsecond value
+utc-local value utc =
+    ap (λ (offset : Option ℤ). pos 1000000
+    *ℤ (local_second value -ℤ unwrap_or offset (pos 0)) +ℤ pos value.time.microsecond) utc
+    ∙ omega (arith, ints)
+
+offset-there : (assumes : Bool) (value : DateAndTime) → value.time.offset ≡ Some (pos 0)
+    → with_offset assumes value ≡ Ok value
+offset-there true value utc = refl
+offset-there false value utc = rw utc refl
+
+pub date_time-reads : (answer : List ℕ → Result ℤ LineError) (refused number : ℤ) (line : List ℕ)
+    → ReadsDateTimes answer refused → IsShownLine (Some (pos 0)) number line
+    → number_or refused (answer line) ≡ number
+date_time-reads answer refused number line reads shown =
+    let reader = reads.0 in
+    let relaxed = reads.1 in
+    let held = number_or refused in
+    let count = as_number utc_microsecond in
+    ap (λ (answer : List ℕ → Result ℤ LineError). held (answer line)) reads.2
+    ∙ elim shown [
+      | inl empty ↦ ap (λ (line : List ℕ). held (date_time_number reader line)) empty.1
+          ∙ ap (λ (read : Result DateAndTime ParseError). held
+          (count (result_and_then (with_offset reader.assumes_utc) read)))
+          (no_date_time reader.parser relaxed)
+          ∙ reads.3 ∙ sym empty.0
+      | inr some ↦
+          let value = some.0 in
+          let utc = some.2 in
+          let whole = subst IsWholeMinutes (sym utc) utc-whole in
+          ap (λ (line : List ℕ). held (date_time_number reader line)) some.4
+          ∙ ap (λ (read : Result DateAndTime ParseError). held
+          (count (result_and_then (with_offset reader.assumes_utc) read)))
+          (date_time_of_line-shown reader.parser value relaxed some.1 whole)
+          ∙ ap (λ (read : Result DateAndTime ParseError). held (count read))
+          (offset-there reader.assumes_utc value utc)
+          ∙ utc-local value utc
+          ∙ some.3
+    ]
+
+pub clock-reads : (answer : List ℕ → Result ℤ LineError) (refused number : ℤ) (line : List ℕ)
+    → ReadsClocks answer refused → IsShownLine None number line
+    → number_or refused (answer line) ≡ number
+clock-reads answer refused number line reads shown =
+    let reader = reads.0 in
+    let relaxed = reads.1 in
+    let held = number_or refused in
+    let count = as_number local_microsecond in
+    ap (λ (answer : List ℕ → Result ℤ LineError). held (answer line)) reads.2
+    ∙ elim shown [
+      | inl empty ↦ ap (λ (line : List ℕ). held (clock_number reader line)) empty.1
+          ∙ ap (λ (read : Result DateAndTime ParseError). held (count read))
+          (no_date_time reader.parser relaxed)
+          ∙ reads.3 ∙ sym empty.0
+      | inr some ↦
+          let value = some.0 in
+          let whole = subst IsWholeMinutes (sym some.2) none-whole in
+          ap (λ (line : List ℕ). held (clock_number reader line)) some.4
+          ∙ ap (λ (read : Result DateAndTime ParseError). held (count read))
+          (date_time_of_line-shown reader.parser value relaxed some.1 whole)
+          ∙ some.3
+    ]
+
+-- Times.
+
+pub time_text-no_control : (time : TimeOfDay) → IsTime time → IsWholeMinutes time.offset
+    → HasNoControl (length (time_text time)) (time_text time)
+time_text-no_control time valid whole =
+    let text = time_text time in
+    let front = sym (ap (time_front Behavior.Error) (append-nil text))
+    ∙ time_text-front Behavior.Error time [] valid whole (nothing-after time) in
+    whole-no_control (time_front Behavior.Error text) text time front
+    (time_front-no_control Behavior.Error text)
+
+pub time-reads : (answer : List ℕ → Result ℤ LineError) (refused number : ℤ) (time : TimeOfDay)
+    → ReadsTimes answer refused → IsTime time → IsWholeMinutes time.offset
+    → pos (microsecond_of_day time) ≡ number
+    → number_or refused (answer (time_text time)) ≡ number
+time-reads answer refused number time reads valid whole counted =
+    let behavior = reads.0.microseconds_precision_overflow_behavior in
+    ap (λ (answer : List ℕ → Result ℤ LineError). number_or refused (answer (time_text time)))
+    reads.1
+    ∙ ap (λ (read : Result TimeOfDay ParseError). number_or refused
+    (as_number (λ time. pos (microsecond_of_day time)) read))
+    (time_text-reads behavior time valid whole)
+    ∙ counted
+
+pub no_time-reads : (answer : List ℕ → Result ℤ LineError) (refused number : ℤ)
+    → ReadsTimes answer refused → number ≡ least_of_64_bits
+    → number_or refused (answer []) ≡ number
+no_time-reads answer refused number reads least =
+    ap (λ (answer : List ℕ → Result ℤ LineError). number_or refused (answer [])) reads.1
+    ∙ reads.2 ∙ sym least
+
+-- Durations.
+
+-- the bytes of a text are no control characters
+abbrev IsPrinted : List ℕ → Type 0
+IsPrinted text = All (λ byte. space ≤ byte) text
+
+printed-no_control : (text : List ℕ) → IsPrinted text → HasNoControl (length text) text
+printed-no_control text all k below = All-get_or (λ (byte : ℕ). space ≤ byte) text k 0 below all
+
+one : (byte : ℕ) → space ≤ byte → IsPrinted (byte ∷ [])
+one byte is =
+    let Is = λ (byte : ℕ). space ≤ byte in
+    All-cons Is byte [] is (All-nil Is)
+
+both : (first second : List ℕ) → IsPrinted first → IsPrinted second → IsPrinted (first ++ second)
+both first second one two = All-append (λ (byte : ℕ). space ≤ byte) first second one two
+
+nothing : IsPrinted []
+nothing = All-nil (λ (byte : ℕ). space ≤ byte)
+
+decimal-printed : (number : ℕ) → number < 2 ^ 64 → IsPrinted (decimal number)
+decimal-printed =
+    decimal_by_steps (λ number text. IsPrinted text)
+    (λ number small. one (48 + number) (omega arith))
+    (λ number digits long before. both digits ((48 + number % 10) ∷ []) before
+    (one (48 + number % 10) (omega arith)))
+
+chosen-printed : (test : Bool) (first second : List ℕ) → IsPrinted first → IsPrinted second
+    → IsPrinted (if test then first else second)
+chosen-printed true first second one two = one
+chosen-printed false first second one two = two
+
+counted-printed : (number unit : ℕ) → number < 2 ^ 64 → space ≤ unit
+    → IsPrinted (counted_text number unit)
+counted-printed number unit small is = chosen-printed (number == 0) [] _ nothing
+    (both (decimal number) (unit ∷ []) (decimal-printed number small) (one unit is))
+
+kept-printed : (digit : ℕ) (rest : List ℕ) → space ≤ digit → IsPrinted rest
+    → IsPrinted (kept_digit digit rest)
+kept-printed digit [] is all = chosen-printed (digit == digit_zero) [] _ nothing (one digit is)
+kept-printed digit (next ∷ rest) is all = both (digit ∷ []) (next ∷ rest) (one digit is) all
+
+without-printed : (digits : List ℕ) → IsPrinted digits → IsPrinted (without_last_zeros digits)
+without-printed [] all = nothing
+without-printed (digit ∷ digits) all =
+    kept-printed digit (without_last_zeros digits)
+    (All-head (λ (byte : ℕ). space ≤ byte) digit digits all)
+    (without-printed digits (All-tail (λ (byte : ℕ). space ≤ byte) digit digits all))
+
+two-printed : (number : ℕ) → IsPrinted (two_digit_text number)
+two-printed number =
+    both ((48 + number / 10) ∷ []) ((48 + number % 10) ∷ []) (one _ (omega arith))
+    (one _ (omega arith))
+
+six-printed : (number : ℕ) → IsPrinted (six_digit_text number)
+six-printed number =
+    let second = two_digit_text (number % 10000 / 100) in
+    let third = two_digit_text (number % 10000 % 100) in
+    both (two_digit_text (number / 10000)) (second ++ third) (two-printed (number / 10000))
+    (both second third (two-printed (number % 10000 / 100)) (two-printed (number % 10000 % 100)))
+
+fraction-printed : (microsecond : ℕ) → IsPrinted (short_fraction_text microsecond)
+fraction-printed microsecond =
+    chosen-printed (microsecond == 0) [] _ nothing
+    (both (full_stop ∷ []) _ (one full_stop (omega arith))
+    (without-printed (six_digit_text microsecond) (six-printed microsecond)))
+
+seconds-printed : (second microsecond : ℕ) → second < 60
+    → IsPrinted (seconds_text second microsecond)
+seconds-printed second microsecond small =
+    chosen-printed ((second == 0) && (microsecond == 0)) [] _ nothing
+    (both (decimal second ++ short_fraction_text microsecond) _
+    (both (decimal second) _ (decimal-printed second (omega (arith, small)))
+    (fraction-printed microsecond))
+    (one capital_s (omega arith)))
+
+hours-printed : (numbers : DurationNumbers) → numbers.second < 86400
+    → IsPrinted (hours_text numbers)
+hours-printed numbers small =
+    let hours = counted_text (numbers.second / 3600) capital_h in
+    let minutes = counted_text (numbers.second / 60 % 60) capital_m in
+    both (hours ++ minutes) _
+    (both hours minutes (counted-printed _ capital_h (omega (arith, small)) (omega arith))
+    (counted-printed _ capital_m (omega arith) (omega arith)))
+    (seconds-printed (numbers.second % 60) numbers.microsecond (omega arith))
+
+rest-printed : (numbers : DurationNumbers) → numbers.second < 86400
+    → IsPrinted (rest_text numbers)
+rest-printed numbers small =
+    chosen-printed (is_whole_days numbers) _ _
+    (chosen-printed (numbers.day == 0) (codes "T0S") [] (both (capital_t ∷ []) (48 ∷ 83 ∷ [])
+    (one capital_t (omega arith)) (both (48 ∷ []) (83 ∷ []) (one 48 (omega arith))
+    (one 83 (omega arith)))) nothing)
+    (both (capital_t ∷ []) (hours_text numbers) (one capital_t (omega arith))
+    (hours-printed numbers small))
+
+start-printed : (positive : Bool) → IsPrinted (start_text positive)
+start-printed true = one capital_p (omega arith)
+start-printed false =
+    both (hyphen ∷ []) (capital_p ∷ []) (one hyphen (omega arith)) (one capital_p (omega arith))
+
+pub duration_text-no_control : (numbers : DurationNumbers) → IsDuration numbers
+    → HasNoControl (length (duration_text numbers)) (duration_text numbers)
+duration_text-no_control numbers valid =
+    let year = numbers.day / 365 in
+    let years = counted-printed year capital_y (omega (arith, valid)) (omega arith) in
+    let days = counted-printed (numbers.day % 365) capital_d (omega arith) (omega arith) in
+    printed-no_control (duration_text numbers)
+    (both (start_text numbers.positive ++ days_text numbers) _
+    (both (start_text numbers.positive) _ (start-printed numbers.positive)
+    (both (counted_text (numbers.day / 365) capital_y) _ years days))
+    (rest-printed numbers (omega (arith, valid))))
+
+-- an amount whose size fits 63 bits is its number
+amount-kept : (amount : ℤ) → SFits w64 amount → amount ≢ least_of_64_bits
+    → number_of_amount amount ≡ Ok amount
+amount-kept amount fits other = grind (arith, ints, nat_tests)
+
+pub duration-reads : (answer : List ℕ → Result ℤ LineError) (refused number : ℤ)
+    → ReadsDurations answer refused → SFits w64 number → number ≢ least_of_64_bits
+    → IsDuration (duration_of_amount number)
+    → number_or refused (answer (duration_text (duration_of_amount number))) ≡ number
+duration-reads answer refused number reads fits other valid =
+    let config = reads.0.config in
+    let behavior = config.microseconds_precision_overflow_behavior in
+    let numbers = duration_of_amount number in
+    let line = duration_text numbers in
+    ap (λ (answer : List ℕ → Result ℤ LineError). number_or refused (answer line)) reads.1
+    ∙ ap (λ (read : Result DurationNumbers ParseError). number_or refused
+    (number_of_duration read)) (duration_text-reads config.iso_order behavior numbers valid)
+    ∙ ap (λ (amount : ℤ). number_or refused (number_of_amount amount))
+    (signed_amount-kept number)
+    ∙ ap (number_or refused) (amount-kept number fits other)
+
+pub no_duration-reads : (answer : List ℕ → Result ℤ LineError) (refused number : ℤ)
+    → ReadsDurations answer refused → number ≡ least_of_64_bits
+    → number_or refused (answer []) ≡ number
+unfolding unsigned_answer_or days_or_clock_or
+no_duration-reads answer refused number reads least =
+    ap (λ (answer : List ℕ → Result ℤ LineError). number_or refused (answer [])) reads.1
+    ∙ reads.2 ∙ sym least
+
+-- what a printer of a date-time leaves holds no control character
+pub line-no_control : {A : Type 0} (result : Result A LineError) (offset : Option ℤ) (number : ℤ)
+    (line : List ℕ) → IsWholeMinutes offset
+    → IfOk result (λ done. IsShownLine offset number line) → IfErr result (λ error. line ≡ [])
+    → HasNoControl (length line) line
+line-no_control (Ok done) offset number line whole shown kept =
+    IsShownLine-no_control offset number line whole shown
+line-no_control (Err error) offset number line whole shown kept =
+    λ k below. absurd (omega (arith, below, ap length kept))
+
+-- what follows if something was printed
+pub ok-turned : {A : Type 0} (result : Result A LineError) (P Q : Type 0) → (Q → P)
+    → IfOk result (λ done. Q) → IfOk result (λ done. P)
+ok-turned (Ok done) P Q turn held = turn held
+ok-turned (Err error) P Q turn held = held
+
+-- a time of seconds and microseconds has no offset
+pub timestamp-offset : (second microsecond : ℕ) (time : TimeOfDay)
+    → timestamp_answer second microsecond None ≡ Ok time → IsWholeMinutes time.offset
+timestamp-offset second microsecond time is = search rules
+
+-- the smallest number, by its bits
+pub least-is : (number : ℤ) → SFits w64 number → of_z w64 number ≡ 9223372036854775808
+    → number ≡ least_of_64_bits
+least-is (pos size) fits is = absurd (omega (arith, fits.sfits, is))
+least-is (negsuc below) fits is =
+    let same : below ≡ 9223372036854775807 = omega (arith, fits.sfits, is) in
+    ap negsuc same
