@@ -40,6 +40,7 @@
 #include <string_view>
 #include <type_traits>
 #include <utility>
+#include <vector>
 #if __cplusplus >= 202002L
 #include <compare>
 #include <version>
@@ -732,6 +733,18 @@ class Duration : public detail::Ordered<Duration> {
         return std::chrono::microseconds(
             detail::sure<std::int32_t>([&](auto *out) { return speedate_duration_signed_microseconds(c_, out); }));
     }
+    /* All microseconds, or SPEEDATE_NUMBER_TOO_LARGE, over 106,751,991 days. */
+    Result<std::chrono::microseconds> signed_total_microseconds() const {
+        return detail::written<std::chrono::microseconds, std::int64_t>(
+            [&](auto *out) { return speedate_duration_signed_total_microseconds(c_, out); });
+    }
+    /* The sum of the durations of a container, or SPEEDATE_DURATION_DAYS_TOO_LARGE. */
+    template <class Durations> static Result<Duration> sum(const Durations &durations) {
+        std::vector<SpeedateDuration> all;
+        for (const Duration &duration : durations)
+            all.push_back(duration.c_);
+        return from_c([&](auto *out) { return speedate_duration_sum(all.data(), all.size(), out); });
+    }
     Duration operator-() const noexcept {
         return Duration(detail::sure<SpeedateDuration>([&](auto *out) { return speedate_duration_negate(c_, out); }));
     }
@@ -824,6 +837,22 @@ template <class Number> class Column {
     Call call_;
 };
 
+/* A call that prints a column, of which each below is one: date_print_column(days, buffer). */
+template <class Number> class PrintColumn {
+  public:
+    using Call = int (*)(const Number *, std::size_t, char *, std::size_t, SpeedateProgress *);
+    explicit constexpr PrintColumn(Call call) noexcept : call_(call) {}
+
+    template <class Numbers, class Buffer> Progress operator()(const Numbers &numbers, Buffer &&buffer) const {
+        return Progress(sure<SpeedateProgress>([&](auto *progress) {
+            return call_(std::data(numbers), std::size(numbers), std::data(buffer), std::size(buffer), progress);
+        }));
+    }
+
+  private:
+    Call call_;
+};
+
 } // namespace detail
 
 /* Read the lines of a text as numbers, as many as there is room for in `out`, an array, a std::vector, a std::span or
@@ -837,6 +866,14 @@ inline constexpr detail::Column<std::int32_t> datetime_offset_column(speedate_da
 inline constexpr detail::Column<std::int64_t> time_column(speedate_time_column);
 inline constexpr detail::Column<std::int32_t> time_offset_column(speedate_time_offset_column);
 inline constexpr detail::Column<std::int64_t> duration_column(speedate_duration_column);
+
+/* Print the numbers of a container as lines, as many as there is room for in a container of char, as a std::string is.
+ * If there is no error, and a number without a line, empty it, and go on with that number. */
+inline constexpr detail::PrintColumn<std::int32_t> date_print_column(speedate_date_print_column);
+inline constexpr detail::PrintColumn<std::int64_t> datetime_print_column(speedate_datetime_print_column);
+inline constexpr detail::PrintColumn<std::int64_t> datetime_clock_print_column(speedate_datetime_clock_print_column);
+inline constexpr detail::PrintColumn<std::int64_t> time_print_column(speedate_time_print_column);
+inline constexpr detail::PrintColumn<std::int64_t> duration_print_column(speedate_duration_print_column);
 
 /* ---- Numbers and versions ---- */
 

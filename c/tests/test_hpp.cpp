@@ -207,6 +207,11 @@ static void durations() {
     CHECK(duration.signed_total_seconds() == std::chrono::seconds(-86402));
     CHECK(duration.signed_total_ms() == std::chrono::milliseconds(-86402000));
     CHECK(duration.signed_microseconds() == std::chrono::microseconds(-3));
+    CHECK(duration.signed_total_microseconds().value() == std::chrono::microseconds(-86402000003));
+    CHECK(length("P999999999D").signed_total_microseconds().error() == Error(SPEEDATE_NUMBER_TOO_LARGE));
+    CHECK(said(Duration::sum(std::array<Duration, 2>{length("PT2H"), length("-PT30M")})) == "PT1H30M" &&
+          said(Duration::sum(std::vector<Duration>())) == "PT0S" &&
+          said(Duration::sum(std::vector<Duration>(2, length("P999999999D")))) == "duration_days_too_large");
     CHECK((-duration).to_text() == "P1DT2.000003S");
     const DateTime start = moment("2020-02-29T23:00Z"), end = moment("2020-03-01T00:30Z");
     CHECK(Duration::between(start, end).to_text() == "PT1H30M" &&
@@ -309,6 +314,25 @@ static void columns() {
     CHECK(numbers[0] == 4000000 && errors[0] == 0 && errors[1] == SPEEDATE_DURATION_UNIT_ORDER);
 }
 
+static void columns_in_print() {
+    std::string text(40, '-');
+    const std::int32_t days[] = {1, -1, INT32_MIN, -719529};
+    Progress printed = date_print_column(days, text);
+    CHECK(printed.lines == 3 && printed.bytes == 23 && printed.error == Error(SPEEDATE_DATE_TOO_SMALL));
+    CHECK(text == "1970-01-02\n1969-12-31\n\n" + std::string(17, '-'));
+    std::array<char, 21> line;
+    const std::vector<std::int64_t> numbers = {1000000, 0};
+    printed = datetime_print_column(numbers, line);
+    CHECK(printed.lines == 1 && !printed.error &&
+          std::string_view(line.data(), printed.bytes) == "1970-01-01T00:00:01Z\n");
+    printed = datetime_clock_print_column(numbers, line);
+    CHECK(std::string_view(line.data(), printed.bytes) == "1970-01-01T00:00:01\n");
+    printed = time_print_column(numbers, line);
+    CHECK(std::string_view(line.data(), printed.bytes) == "00:00:01\n00:00:00\n");
+    printed = duration_print_column(numbers, line);
+    CHECK(std::string_view(line.data(), printed.bytes) == "PT1S\nPT0S\n");
+}
+
 static void chrono() {
     const DateTime value = moment("2020-02-29T12:13:14.5+01:30");
     const SysTime point(std::chrono::microseconds(1582972994500000));
@@ -387,6 +411,7 @@ int main() {
     date_times();
     durations();
     columns();
+    columns_in_print();
     chrono();
     keys();
     return failures != 0;
