@@ -6,6 +6,7 @@ pub mod RefusalLemmas
 pub mod RequirementLemmas
 pub mod TextLemmas
 pub mod TimestampLemmas
+mod BetweenLemmas
 mod BlockLemmas
 mod EightDigitsLemmas
 pub mod PatternLemmas

@@ -19,7 +19,9 @@ pub use digits::{
 };
 pub use fraction::{Fraction, takes_digits};
 pub use int_float::{Decimal, IntFloat};
-pub use lanes::{LANES, are_between, digit_pairs, eight_bytes, first_eight, fit_length};
+pub use lanes::{
+    LANES, are_between, digit_pairs, eight_are_between, eight_bytes, first_eight, fit_length,
+};
 
 /// The whole number that a text is: -12 for `"-012"`.
 ///

@@ -5,13 +5,15 @@ use Rattle.std.proofs.lemmas.Bool.{and_parts}
 use Rattle.std.proofs.lemmas.Bool.Decides.{nat_tests}
 use Rattle.std.specs.Char.{is_ascii_digit}
 use Rattle.speedate_base.specs.Digits.{are_at_most, eight_at, fit_length, two_digits_at}
+use Rattle.speedate_base.specs.Digits.{two_digit_value}
+use Rattle.speedate_base.proofs.PatternLemmas.{by_eight}
 use Rattle.speedate_base.specs.Ascii.{HasNoControl, colon, hyphen}
 use Rattle.speedate_civil.specs.Base.{Behavior}
 use Rattle.speedate_civil.specs.Calendar.{Ymd}
 use Rattle.speedate_civil.specs.Date.{date_front}
 use Rattle.speedate_civil.specs.DateTime.{DateAndTime, IsUtcFront, is_separator, local_second}
 use Rattle.speedate_civil.specs.DateTime.{utc_microsecond}
-use Rattle.speedate_civil.specs.ParserParts.{HasFullClock, IsOffsetOrUtc}
+use Rattle.speedate_civil.specs.ParserParts.{HasFullClock, IsOffsetOrUtc, hour_and_minute_form}
 use Rattle.speedate_civil.specs.Time.{Clock, clock_front, clock_with_offset}
 use Rattle.speedate_civil.proofs.FrontLemmas.{date_time_front-alone, date_time_front-is}
 use Rattle.speedate_civil.proofs.FrontLemmas.{time_front-is}
@@ -145,6 +147,43 @@ full-clock text enough date clock =
       minute = below-60 _ _ (byte 3 (lit< tt)) (byte 4 (lit< tt));
       second = below-60 _ _ (byte 6 (lit< tt)) (byte 7 (lit< tt));
     }
+
+abbrev pub highest_offset : List ℕ
+highest_offset = 50 ∷ 57 ∷ 58 ∷ 53 ∷ 57 ∷ 255 ∷ 255 ∷ 255 ∷ []
+
+-- eight bytes between those of these two begin as an hour and a minute
+abbrev pub LooksLikeOffset : List ℕ → Type 0
+LooksLikeOffset bytes = AreBetween hour_and_minute_form bytes highest_offset
+    → (5 ≤ fit_length hour_and_minute_form bytes) × (two_digit_value bytes 3 ≤ 59)
+
+offset-byte : (bytes : List ℕ) (k : ℕ) → length bytes ≡ 8 → k < 8
+    → AreBetween hour_and_minute_form bytes highest_offset
+    → (get_or hour_and_minute_form k 0 ≤ get_or bytes k 0)
+    × (get_or bytes k 0 ≤ get_or highest_offset k 0)
+offset-byte bytes k long small all =
+    let both = and_parts (are_at_most hour_and_minute_form bytes)
+    (are_at_most bytes highest_offset) all in
+    let there : k < length bytes = omega (arith, long, small) in (
+      at_most-at hour_and_minute_form bytes k both.0 small there,
+      at_most-at bytes highest_offset k both.1 there small,
+    )
+
+looks-eight : (a b c d e f g h : ℕ) → LooksLikeOffset (a ∷ b ∷ c ∷ d ∷ e ∷ f ∷ g ∷ h ∷ [])
+looks-eight a b c d e f g h all =
+    let bytes : List ℕ = a ∷ b ∷ c ∷ d ∷ e ∷ f ∷ g ∷ h ∷ [] in
+    let byte = λ (k : ℕ) (small : k < 8). offset-byte bytes k refl small all in
+    let fits : 5 ≤ fit_length hour_and_minute_form bytes =
+    rw (
+      is_digit _ a (lit≤ tt) (byte 0 (lit< tt)),
+      is_digit _ b (lit≤ tt) (byte 1 (lit< tt)),
+      is_mark colon c (byte 2 (lit< tt)),
+      is_digit _ d (lit≤ tt) (byte 3 (lit< tt)),
+      is_digit _ e (lit≤ tt) (byte 4 (lit< tt)),
+    ) (omega arith) in
+    (fits, below-60 d e (byte 3 (lit< tt)) (byte 4 (lit< tt)))
+
+pub looks-offset : (bytes : List ℕ) → length bytes ≡ 8 → LooksLikeOffset bytes
+looks-offset = by_eight LooksLikeOffset looks-eight
 
 -- a date, a separator, a clock and an offset, or none, are a date-time at the front of a text
 pub utc-front : (assumes_utc : Bool) (text : List ℕ) (date : Ymd) (clock : Clock) (offset : ℤ × ℕ)

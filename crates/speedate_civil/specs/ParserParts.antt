@@ -1,7 +1,8 @@
 -- What parsers decide by on their way to an answer.
-use Rattle.std.specs.Prelude.{◌≡◌, ℕ, ◌≤◌, List, Bool, true, false, ◌||◌, codes, drop, length, Option, is_some, Ok, ℤ, pos, if◌then◌else◌}
+use Rattle.std.specs.Prelude.{◌≡◌, ℕ, ◌≤◌, List, [], ◌∷◌, Bool, true, false, ◌||◌, codes, drop, length, Option, is_some, Ok, ℤ, pos, if◌then◌else◌}
 use Rattle.std.specs.Option.{unwrap_or}
 use Rattle.speedate_civil.specs.Base.{ParseError}
+use Rattle.speedate_base.specs.Ascii.{colon, digit_zero}
 use Rattle.speedate_base.specs.Digits.{eight_at, fit_length, two_digits_at, two_digit_value}
 use Rattle.speedate_base.specs.Offset.{IsOffset}
 use Rattle.speedate_civil.specs.declared.time.pure.AfterMinute.{AfterMinute}
@@ -35,6 +36,11 @@ pub record HasFullClock (text : List ℕ) : Type 0 where
   pub clock : fit_length (codes "00:00:00") (eight_at (drop 11 text) 0) ≡ 8
   pub minute : two_digit_value (drop 11 text) 3 ≤ 59
   pub second : two_digit_value (drop 11 text) 6 ≤ 59
+
+-- the hour and the minute of an offset, and three bytes of which nothing is asked
+abbrev pub hour_and_minute_form : List ℕ
+hour_and_minute_form =
+    digit_zero ∷ digit_zero ∷ colon ∷ digit_zero ∷ digit_zero ∷ 0 ∷ 0 ∷ 0 ∷ []
 
 -- an offset of these seconds begins a text, in so many bytes, or none does, where that stands for
 -- UTC

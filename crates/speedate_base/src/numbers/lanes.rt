@@ -122,6 +122,17 @@ pub fn are_between(lanes: u8x16, lowest: u8x16, highest: u8x16) -> bool
     (lanes - lowest).simd_gt(highest - lowest).to_bitmask() == 0
 }
 
+/// Whether each of eight bytes is between those of two texts at its place, like [`are_between`] for sixteen:
+/// true for `b"23:59\n20"` between `b"00:00\0\0\0"` and `b"29:59\xff\xff\xff"`.
+#[inline(always)]
+pub fn eight_are_between(lanes: u8x8, lowest: u8x8, highest: u8x8) -> bool
+    requires { IsTrue (are_at_most lowest highest) }
+    ensures between { result ≡ (are_at_most lowest lanes && are_at_most lanes highest) }
+{
+    let most = highest - lowest;
+    (lanes - lowest).simd_gt(most).to_bitmask() == 0
+}
+
 /// The number of digits at the front of eight bytes: 3 for `b"120.5678"`.
 #[inline(always)]
 pub(crate) fn digits_in_front(lanes: u8x8) -> usize

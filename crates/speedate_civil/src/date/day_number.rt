@@ -37,6 +37,19 @@ fn long_days_before_month(month: u8) -> u16
     (367 * u16::from(month) - 362) / 12
 }
 
+/// The days from 1 January to each month of a year whose February has 30 days; for January and February
+/// 367 more, which a year that begins in March has before them.
+const MONTH_STARTS: [u16; 13] = [0, 367, 398, 61, 92, 122, 153, 183, 214, 245, 275, 306, 336];
+
+/// The days from 1 January before a year of March to a month of that year, if February has 30 days.
+fn march_days_before_month(month: u8) -> u16
+    requires { IsInRange 1 12 month }
+    ensures early { month ≤ 2 → result ≡ (367 * month - 362) / 12 + 367 }
+    ensures late { 3 ≤ month → result ≡ (367 * month - 362) / 12 }
+{
+    MONTH_STARTS[usize::from(month)]
+}
+
 /// The days of the months before a month of a year.
 #[tactic(auto, using(crate::proofs::MonthLemmas::days_of_months_is))]
 fn days_before_month(year: u16, month: u8) -> u16
@@ -123,13 +136,9 @@ impl Date {
         let centuries = years / 100;
         let before_year = 1461 * years / 4 - centuries + centuries / 4;
         let days = before_year
-            + u32::from(long_days_before_month(self.month))
+            + u32::from(march_days_before_month(self.month))
             + u32::from(self.day);
-        days - if is_early {
-            DAYS_BEFORE_YEAR_0 + 1 - JANUARY_START
-        } else {
-            DAYS_BEFORE_YEAR_0 + 62
-        }
+        days - (DAYS_BEFORE_YEAR_0 + 62)
     }
 
     /// The date of a day number: 0000-02-29 for 59. It is the date that many days after 0000-01-01.

@@ -11,7 +11,7 @@ ghost use Rattle.speedate_base.specs.Offset.{IsOffset, IsWholeMinutes};
 ghost use Rattle.speedate_base.specs.Timestamp.{seconds_per_day};
 ghost use Rattle.speedate_base.specs.Requirement.{first_refusal_or, shifted};
 ghost use Rattle.speedate_civil.specs.Time.{end_fault, has_minus_sign, is_plus_or_minus, is_utc};
-ghost use Rattle.speedate_civil.specs.ParserParts.{IsOffsetOrUtc};
+ghost use Rattle.speedate_civil.specs.ParserParts.{IsOffsetOrUtc, hour_and_minute_form};
 ghost use Rattle.speedate_civil.specs.Time.{offset_digits, offset_front_or, signed_front};
 ghost use Rattle.speedate_civil.specs.Time.{signed_front_or};
 ghost use Rattle.speedate_civil.specs.Time.{offset_minute, offset_digits_size, offset_size_text};
@@ -20,7 +20,9 @@ ghost use Rattle.speedate_civil.specs.Time.{offset_text};
 use crate::text::two_digit_text;
 use arrayvec::ArrayString;
 use speedate_base::faults::ParseError;
-use speedate_base::numbers::{byte_at, digit_pairs, eight_bytes, first_eight, fit_length};
+use speedate_base::numbers::{
+    byte_at, digit_pairs, eight_are_between, eight_bytes, first_eight, fit_length,
+};
 use speedate_base::refusal::Refusal;
 use speedate_base::util::SECONDS_PER_DAY;
 use std::simd::prelude::*;
@@ -69,17 +71,26 @@ pub(crate) fn offset_or_utc(bytes: &[u8], place: usize, assumes_utc: bool) -> Op
     ensures short { IfSome result (λ front. front.1 ≤ 6) }
 {
     let first = bytes[place];
-    if is_plus_or_minus(first) {
-        return short_offset(first == b'-', first_eight(&bytes[place + 1..]));
-    }
     if is_utc(first) {
         return Some((0, 1));
+    }
+    if is_sign(first) {
+        return short_offset(first == b'-', first_eight(&bytes[place + 1..]));
     }
     if assumes_utc && first != 0xe2 {
         Some((0, 0))
     } else {
         None
     }
+}
+
+/// What [`is_plus_or_minus`] tells, by two tests: where no other byte is looked for before, the compiler
+/// makes one shorter test of them.
+#[inline(always)]
+fn is_sign(byte: u8) -> bool
+    ensures value { result ≡ is_plus_or_minus byte }
+{
+    byte == b'+' || byte == b'-'
 }
 
 /// The offset whose eight bytes after the sign are given, if it is `HH:MM` or `HHMM`, and how many bytes it
@@ -105,16 +116,29 @@ fn colon_offset(west: bool, front: u8x8) -> Option<i32>
     ensures offset { IfSome result (λ offset. signed_front west 1 front ≡ Ok (Some offset, 6)) }
     ensures range { IfSome result IsOffset }
 {
-    let pattern = u8x8::from_array(*b"00:00:00");
-    if fit_length(front, pattern) < 5 {
+    if !has_hour_and_minute(front) {
         return None;
     }
-    let [hour, _, _, minute, _, _, _, _] = digit_pairs(front, pattern, 5);
-    if hour > 23 || minute > 59 {
+    let form = u8x8::from_array(*b"00:00\0\0\0");
+    let [hour, _, _, minute, _, _, _, _] = digit_pairs(front, form, 5);
+    if hour > 23 {
         return None;
     }
     let seconds = 3600 * u32::from(hour) + 60 * u32::from(minute);
     Some(with_sign(west, seconds))
+}
+
+/// Whether eight bytes begin as `HH:MM` looks, with a minute below 60: true for `b"29:59\n20"`.
+#[inline(always)]
+fn has_hour_and_minute(front: u8x8) -> bool
+    ensures form { IsTrue result → 5 ≤ fit_length hour_and_minute_form front }
+    ensures minute { IsTrue result → two_digit_value front 3 ≤ 59 }
+{
+    eight_are_between(
+        front,
+        u8x8::from_array(*b"00:00\0\0\0"),
+        u8x8::from_array(*b"29:59\xff\xff\xff"),
+    )
 }
 
 /// The offset whose bytes after the sign are given, if it is `HHMM`.

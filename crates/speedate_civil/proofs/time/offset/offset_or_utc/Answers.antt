@@ -44,17 +44,22 @@ signed-is assumes_utc rest numbers byte (Some front) at after sign is small = re
 }
 signed-is assumes_utc rest numbers byte None at after sign is small = tt
 
+-- UTC itself
+utc-is : (rest : List ℕ) (byte : ℕ) → slice_index rest 0 ≡ byte → is_utc byte ≡ true
+    → offset_front rest ≡ Ok (Some (pos 0), 1)
+utc-is rest byte at utc = grind (arith, nat_tests)
+
 -- no offset
 none-is : (rest : List ℕ) (byte : ℕ) → slice_index rest 0 ≡ byte → is_plus_or_minus byte ≡ false
     → is_utc byte ≡ false → byte ≢ 226 → offset_front rest ≡ Ok (None, 0)
 none-is rest byte at sign utc other = grind (arith, nat_tests)
 
-pub returns-then-is_plus_or_minus-clause-offset : goal.returns-then-is_plus_or_minus-clause-offset
-returns-then-is_plus_or_minus-clause-offset c =
+pub returns-then-is_sign-clause-offset : goal.returns-then-is_sign-clause-offset
+returns-then-is_sign-clause-offset c =
     let bytes = c.args.bytes.now in
     let place = c.args.place in
     let rest : List ℕ = drop place bytes in
-    let sign = sym c.if-is_plus_or_minus.ensures.value in
+    let sign = sym c.if-is_sign.ensures.value in
     let at = first bytes place _ refl in
     let front = rw (c.first_eight.ensures.bytes, take_rest bytes (place + 1)) at
     c.short_offset.ensures.offset in
@@ -66,7 +71,7 @@ returns-then-is_utc-clause-offset c =
     let at = first c.args.bytes.now c.args.place _ refl in
     record {
       offset = Some (pos 0);
-      read = rw (at, sym c.if-is_plus_or_minus.ensures.value, sym c.if-is_utc.ensures.value) refl;
+      read = utc-is (drop c.args.place c.args.bytes.now) _ at (sym c.if-is_utc.ensures.value);
       second = refl;
       there = there c.args.assumes_utc;
       range = search rules;
@@ -76,7 +81,7 @@ pub returns-then-first-clause-offset : goal.returns-then-first-clause-offset
 returns-then-first-clause-offset c =
     let bytes = c.args.bytes.now in
     let at = first bytes c.args.place _ refl in
-    let sign = sym c.if-is_plus_or_minus.ensures.value in
+    let sign = sym c.if-is_sign.ensures.value in
     let utc = sym c.if-is_utc.ensures.value in
     record {
       offset = None;
