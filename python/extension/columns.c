@@ -5,14 +5,11 @@
 
 /* ---- Columns ---- */
 
-#define NOT_A_TIME INT64_MIN
 #define LAST_OF_TEXTS 99   /* the last code that tells something of a text */
-#define BLOCK 32768        /* numbers at a time */
 #define BLOCK_BYTES 262144 /* of memory that may change, at a time */
 #define LONG_BYTES 65536   /* of lines, from which on other threads run meanwhile */
 #define REFUSED 256        /* lines at a time that are refused */
 #define ROWS 1024          /* of a table of faults, at a time */
-#define TURN_ITEMS 1024    /* after which other threads may have their turn */
 
 /* How the library reads lines into numbers. */
 typedef int ReadLines(const Text *text, SpeedateConfig config, SpeedateColumnConfig column, int64_t *numbers,
@@ -227,15 +224,15 @@ static int end_block(Column *column) {
 /* Hands the lock to another thread, if one has waited for it as long as CPython has a thread wait. CPython does so when a
  * function of Python begins. To release the lock here for a moment would not do: before that time a waiting thread only
  * begins to wait anew. */
-static int give_turn(const Column *column) {
-    PyObject *none = PyObject_CallObject(column->state->held[TURN], NULL);
+int give_turn(const State *state) {
+    PyObject *none = PyObject_CallObject(state->held[TURN], NULL);
     Py_XDECREF(none);
     return none ? 0 : -1;
 }
 
 /* Goes on to the next item. */
 static int end_item(Column *column) {
-    if (++column->count % TURN_ITEMS == 0 && give_turn(column) < 0)
+    if (++column->count % TURN_ITEMS == 0 && give_turn(column->state) < 0)
         return -1;
     return column->count < column->room ? 0 : end_block(column);
 }
@@ -442,7 +439,7 @@ static int add_some_lines(Column *column, Text *text, bool is_last) {
 static int add_ended_lines(Column *column, Text *text) {
     for (size_t size = text->size + 1; text->size > 0 && text->size < size;) {
         size = text->size;
-        if (add_some_lines(column, text, false) < 0 || (column->keeps_lock && give_turn(column) < 0))
+        if (add_some_lines(column, text, false) < 0 || (column->keeps_lock && give_turn(column->state) < 0))
             return -1;
     }
     return 0;
@@ -511,14 +508,14 @@ static bool has_bytes(const Py_buffer *buffer) {
 
 /* Whether a buffer is a row of integers in the order of bytes of this machine, which is how NumPy has them. Those of one
  * byte are texts. */
-static bool has_integers(const Py_buffer *buffer) {
+bool has_integers(const Py_buffer *buffer) {
     const char *format = buffer->format;
     bool is_whole = *format != '\0' && format[1] == '\0' && strchr("hilqHILQ", *format);
     return is_whole && buffer->ndim == 1 && PyBuffer_IsContiguous(buffer, 'C');
 }
 
 /* Makes a view of an object that has bytes or integers in memory, and none of any other. */
-static int view_memory(PyObject *texts, bool (*has)(const Py_buffer *), PyObject **view) {
+int view_memory(PyObject *texts, bool (*has)(const Py_buffer *), PyObject **view) {
     *view = PyObject_CheckBuffer(texts) ? PyMemoryView_FromObject(texts) : NULL;
     if (*view && !has(PyMemoryView_GET_BUFFER(*view)))
         Py_CLEAR(*view);
@@ -540,15 +537,33 @@ static bool differs_from_itself(PyObject *item) {
     return told;
 }
 
-static int is_missing(Column *column, PyObject *item) {
+/* Whether an item is missing, as pandas tells. What it has for that is asked for once, and kept. */
+int is_missing(const State *state, PyObject **kept, PyObject *item) {
     if (item == Py_None || (PyFloat_Check(item) ? isnan(PyFloat_AS_DOUBLE(item)) : differs_from_itself(item)))
         return 1;
-    if (!column->missing && !(column->missing = PyObject_CallObject(column->state->held[MISSING], NULL)))
+    if (!*kept && !(*kept = PyObject_CallObject(state->held[MISSING], NULL)))
         return -1;
-    for (Py_ssize_t i = 0; PyTuple_Check(column->missing) && i < PyTuple_GET_SIZE(column->missing); i++)
-        if (PyTuple_GET_ITEM(column->missing, i) == item)
+    for (Py_ssize_t i = 0; PyTuple_Check(*kept) && i < PyTuple_GET_SIZE(*kept); i++)
+        if (PyTuple_GET_ITEM(*kept, i) == item)
             return 1;
     return 0;
+}
+
+/* Takes the integer of an item. One over 64 bits becomes the nearest of 64 that is not NOT_A_TIME, and is refused as that is. */
+int take_whole(const State *state, const char *name, Py_ssize_t index, PyObject *item, int64_t *out) {
+    PyObject *plain = item;
+    int overflow;
+    Py_INCREF(plain);
+    if (!PyLong_CheckExact(item)) {
+        Py_DECREF(plain);
+        if (!(plain = PyObject_CallFunction(state->held[WHOLE], "snO", name, index, item)))
+            return -1;
+    }
+    *out = PyLong_AsLongLongAndOverflow(plain, &overflow);
+    Py_DECREF(plain);
+    if (overflow != 0)
+        *out = overflow > 0 ? INT64_MAX : INT64_MIN + 1;
+    return PyErr_Occurred() ? -1 : 0;
 }
 
 /* The number of a timestamp, or what becomes of it if it is refused. */
@@ -560,23 +575,12 @@ static inline int add_timestamp(Column *column, int64_t timestamp, int64_t *numb
     return refuse_text(column, code, next_index(column), NULL, NULL, 0, ITEM);
 }
 
-/* The same of an integer. One over 64 bits is refused as the largest or the smallest of 64 is, which no unit has. */
-static int read_plain_integer(Column *column, PyObject *item, int64_t *number) {
-    int overflow = 0;
-    int64_t timestamp = PyLong_AsLongLongAndOverflow(item, &overflow);
-    return add_timestamp(column, overflow > 0 ? INT64_MAX : overflow < 0 ? INT64_MIN : timestamp, number);
-}
-
-/* The same of an object that stands for an integer. */
+/* The same of an object that is an integer, or stands for one. */
 static int read_integer(Column *column, PyObject *item, int64_t *number) {
-    char name[32];
-    if (PyLong_CheckExact(item))
-        return read_plain_integer(column, item, number);
-    PyOS_snprintf(name, sizeof name, "text %zd", next_index(column));
-    PyObject *plain = PyObject_CallFunction(column->state->held[CLAMPED], "sO", name, item);
-    int status = plain ? read_plain_integer(column, plain, number) : -1;
-    Py_XDECREF(plain);
-    return status;
+    int64_t timestamp;
+    if (take_whole(column->state, "text", next_index(column), item, &timestamp) < 0)
+        return -1;
+    return add_timestamp(column, timestamp, number);
 }
 
 /* The number of a text, which may be a line with its end. */
@@ -616,7 +620,7 @@ static int refuse_integer(Column *column, PyObject *item, int64_t *number) {
 static int read_item(Column *column, PyObject *item, bool is_line, int64_t *number) {
     if (is_text(item))
         return read_text_item(column, item, is_line ? LINE : ITEM, number);
-    int missing = PyLong_CheckExact(item) ? 0 : is_missing(column, item);
+    int missing = PyLong_CheckExact(item) ? 0 : is_missing(column->state, &column->missing, item);
     *number = NOT_A_TIME;
     if (missing != 0)
         return missing < 0 ? -1 : 0;
@@ -625,29 +629,30 @@ static int read_item(Column *column, PyObject *item, bool is_line, int64_t *numb
     return raise_error(call_on_item(column, WRONG_ITEM, item)), -1;
 }
 
-/* An integer of a buffer. One that is too large is refused as it is as an object. */
-static int add_integer(Column *column, const Py_buffer *buffer, const char *at, int64_t *number) {
-#define INTEGER_OF(letter, type) \
+/* An integer of a buffer, or the nearest of 64 bits. */
+int64_t whole_at(const Py_buffer *buffer, size_t place) {
+    const char *at = (const char *)buffer->buf + place * (size_t)buffer->itemsize;
+#define WHOLE_OF(letter, type) \
     case letter: { \
         type it; \
         memcpy(&it, at, sizeof it); \
-        return add_timestamp(column, it, number); \
+        return it; \
     }
-#define LARGE_OF(letter, type) \
+#define LARGE_WHOLE_OF(letter, type) \
     case letter: { \
         type it; \
         memcpy(&it, at, sizeof it); \
-        return add_timestamp(column, it > INT64_MAX ? INT64_MAX : (int64_t)it, number); \
+        return it > INT64_MAX ? INT64_MAX : (int64_t)it; \
     }
     switch (*buffer->format) {
-        INTEGER_OF('h', short)
-        INTEGER_OF('i', int)
-        INTEGER_OF('l', long)
-        INTEGER_OF('q', long long)
-        INTEGER_OF('H', unsigned short)
-        INTEGER_OF('I', unsigned)
-        LARGE_OF('L', unsigned long)
-        LARGE_OF('Q', unsigned long long)
+        WHOLE_OF('h', short)
+        WHOLE_OF('i', int)
+        WHOLE_OF('l', long)
+        WHOLE_OF('q', long long)
+        WHOLE_OF('H', unsigned short)
+        WHOLE_OF('I', unsigned)
+        LARGE_WHOLE_OF('L', unsigned long)
+        LARGE_WHOLE_OF('Q', unsigned long long)
     default:
         Py_UNREACHABLE(); /* has_integers takes none */
     }
@@ -657,8 +662,7 @@ static int add_integers(Column *column, const Py_buffer *buffer) {
     size_t count = (size_t)(buffer->len / buffer->itemsize);
     int status = start_block(column, count);
     for (size_t i = 0; status == 0 && i < count; i++) {
-        const char *at = (const char *)buffer->buf + i * (size_t)buffer->itemsize;
-        status = add_integer(column, buffer, at, column->numbers + column->count);
+        status = add_timestamp(column, whole_at(buffer, i), column->numbers + column->count);
         if (status == 0)
             status = end_item(column);
     }

@@ -29,8 +29,8 @@ enum { NO_HINT, BYTE_ORDER_MARK = 1, LINE_END = 2, OF_BYTES = 4, INTEGER_OR_TIME
 /* The places of the objects that are held from the import on. Nothing is added afterwards. */
 enum {
     /* what is imported */
-    DATETIME, ARRAY, CONFIG, FAULT, UNREPRESENTABLE, REFUSAL, INTEGER, CHOICE, PLAIN, MISSING, ITEMS, TURN, CLAMPED,
-    DIGITS, WRONG_ITEM,
+    DATETIME, ARRAY, CONFIG, FAULT, UNREPRESENTABLE, REFUSAL, INTEGER, CHOICE, PLAIN, MISSING, ITEMS, TURN, WHOLE,
+    DIGITS, WRONG_ITEM, NUMBERS_OF,
     NUMBERS, INDEX, HINT, UTCOFFSET, FROMBYTES,       /* names of attributes */
     HINTS,                                            /* the words of each hint */
     ARGUMENTS = HINTS + ALL_HINTS,                    /* of the fault of each code */
@@ -82,6 +82,7 @@ typedef struct {
 #define GIVEN PyObject *module, PyObject *const *arguments, Py_ssize_t count, PyObject *keywords
 
 int bind_keyword(const Signature *signature, PyObject *keyword, PyObject *argument, PyObject **bound);
+int lacks_argument(const Signature *signature, int place);
 
 /* Puts each argument at the place of its parameter, and NULL where there is none. */
 static inline int bind(const Signature *signature, PyObject *const *arguments, Py_ssize_t count, PyObject *keywords,
@@ -94,10 +95,7 @@ static inline int bind(const Signature *signature, PyObject *const *arguments, P
     if (count > signature->positional)
         return type_error("%s() takes at most %zd positional arguments but %zd were given", signature->name,
                           signature->positional, count);
-    if (!bound[0])
-        return type_error("%s() missing 1 required positional argument: '%s'", signature->name,
-                          signature->parameters[0]);
-    return 0;
+    return bound[0] ? 0 : lacks_argument(signature, 0);
 }
 
 static inline int give_bytes(const char *bytes, Py_ssize_t size, PyObject *owner, Text *text) {
@@ -190,6 +188,19 @@ int of_type(int hint, PyObject *object);
 PyObject *with_hint(const State *state, PyObject *fault, int hint);
 int part_in_column(int call, SpeedateConfig config, PyObject *object, const Text *text, Part *part);
 
+/* ---- Numbers in memory, and items: columns.c ---- */
+
+#define NOT_A_TIME INT64_MIN
+#define BLOCK 32768     /* numbers at a time */
+#define TURN_ITEMS 1024 /* after which other threads may have their turn */
+
+bool has_integers(const Py_buffer *buffer);
+int view_memory(PyObject *texts, bool (*has)(const Py_buffer *), PyObject **view);
+int64_t whole_at(const Py_buffer *buffer, size_t place);
+int is_missing(const State *state, PyObject **kept, PyObject *item);
+int take_whole(const State *state, const char *name, Py_ssize_t index, PyObject *item, int64_t *out);
+int give_turn(const State *state);
+
 /* ---- Calls ---- */
 
 #define CALL(name, read) \
@@ -218,6 +229,7 @@ DECLARE(time_column);
 DECLARE(time_offset_column);
 DECLARE(duration_column);
 DECLARE(text);
+DECLARE(text_column);
 PyObject *call_found(PyObject *module, PyObject *arguments);
 
 #pragma GCC visibility pop

@@ -34,9 +34,10 @@ static const struct {
     [MISSING] = {"speedate._types", "_missing"},
     [ITEMS] = {"speedate._types", "_items"},
     [TURN] = {"speedate._types", "_turn"},
-    [CLAMPED] = {"speedate._types", "_clamped"},
+    [WHOLE] = {"speedate._types", "_whole"},
     [DIGITS] = {"speedate._types", "_digits"},
     [WRONG_ITEM] = {"speedate._types", "_wrong_item"},
+    [NUMBERS_OF] = {"speedate._types", "_numbers_of"},
 };
 
 /* ---- Errors ---- */
@@ -392,6 +393,19 @@ static PyMethodDef methods[] = {
            "('2020-02-29T12:13:00Z', '12:13:14.500000', '2020-02-29')\n"
            ">>> text(datetime.timedelta(microseconds=-1))\n"
            "'-PT0.000001S'\n"),
+    METHOD(text_column, "(numbers, kind)",
+           "The lines of a column of numbers, as `bytes`: the inverse of the call that reads such a column, by its name.\n\n"
+           "`kind` is `date`, `time`, `date_time`, `date_time_clock` or `duration`, and the numbers mean what they do in\n"
+           "`date_column`, `time_column` and so on. They are a column, an array of NumPy, also of its times in the unit of the\n"
+           "column, a column of pandas, or an iterable of integers. What `pandas.isna` calls missing, and -2**63, is an empty\n"
+           "line, which the other call reads with `empty=\"nat\"`. A number that has no text raises a `Fault` with its `index`.\n\n"
+           ">>> text_column(date_column([\"1970-01-02\", None]), \"date\")\n"
+           "b'1970-01-02\\n\\n'\n"
+           ">>> text_column([1_500_000, -1], \"date_time\")\n"
+           "b'1970-01-01T00:00:01.500000Z\\n1969-12-31T23:59:59.999999Z\\n'\n"
+           ">>> text_column([86_400_000_000], \"time\")\n"
+           "Traceback (most recent call last):\n"
+           "speedate.Fault: time_too_large in text 0: expected a time within the day: 00:00:00 to 23:59:59.999999\n"),
     {"_words", call_words, METH_O, "_words(code)\n--\n\nThe name and the documentation of a fault."},
     {"_found", call_found, METH_VARARGS,
      "_found(code, source, call)\n--\n\nThe place of an error, the end of its part and what was expected, from what a Fault keeps."},

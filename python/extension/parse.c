@@ -24,6 +24,11 @@ int bind_keyword(const Signature *signature, PyObject *keyword, PyObject *argume
                       words_on_errors(signature, keyword));
 }
 
+int lacks_argument(const Signature *signature, int place) {
+    return type_error("%s() missing 1 required positional argument: '%s'", signature->name,
+                      signature->parameters[place]);
+}
+
 /* Gives the bytes of an object of bytes that has just been made, or not. */
 static int give_made(PyObject *made, Text *text) {
     return !made ? -1 : give_bytes(PyBytes_AS_STRING(made), PyBytes_GET_SIZE(made), made, text);

@@ -128,3 +128,179 @@ PyObject *call_text(GIVEN) {
     Py_DECREF(plain);
     return text;
 }
+
+/* ---- Columns ---- */
+
+#define LINE_SIZE SPEEDATE_DATETIME_TEXT_SIZE /* the most bytes of a line of a column, with its end */
+
+/* How the library prints numbers as lines. It may change the numbers. */
+typedef int PrintLines(int64_t *numbers, size_t count, char *lines, size_t size, SpeedateProgress *progress);
+
+#define PRINT_LINES(name, call) \
+    static int name(int64_t *numbers, size_t count, char *lines, size_t size, SpeedateProgress *progress) { \
+        return call(numbers, count, lines, size, progress); \
+    }
+PRINT_LINES(print_times, speedate_time_print_column)
+PRINT_LINES(print_date_times, speedate_datetime_print_column)
+PRINT_LINES(print_clocks, speedate_datetime_clock_print_column)
+PRINT_LINES(print_durations, speedate_duration_print_column)
+
+/* The number of 32 bits that is nearest to one of 64: what does not fit is no day in either. */
+static int32_t narrowed(int64_t number) {
+    if (number == NOT_A_TIME)
+        return INT32_MIN;
+    return number > INT32_MAX ? INT32_MAX : number <= INT32_MIN ? INT32_MIN + 1 : (int32_t)number;
+}
+
+/* Days have 64 bits in NumPy, and 32 in C. They move forward in their places. */
+static int print_dates(int64_t *numbers, size_t count, char *lines, size_t size, SpeedateProgress *progress) {
+    for (size_t i = 0; i < count; i++) {
+        int32_t day = narrowed(numbers[i]);
+        memcpy((char *)numbers + i * sizeof day, &day, sizeof day);
+    }
+    return speedate_date_print_column((const int32_t *)numbers, count, lines, size, progress);
+}
+
+/* The kinds of columns that can be printed, by the name of the call that reads one. */
+enum { KINDS = 5 };
+static const struct {
+    const char *name;
+    PrintLines *print;
+} kinds[KINDS] = {
+    {"date", print_dates},
+    {"time", print_times},
+    {"date_time", print_date_times},
+    {"date_time_clock", print_clocks},
+    {"duration", print_durations},
+};
+
+/* A column that is printed: its lines so far, with room after them, and the numbers of the next ones. */
+typedef struct {
+    const State *state;
+    PrintLines *print;
+    PyObject *missing; /* what pandas has for a missing item, once that was asked for */
+    PyObject *lines;
+    Py_ssize_t used;   /* bytes of the lines */
+    Py_ssize_t before; /* how many numbers are printed */
+    int64_t *numbers;
+    size_t count; /* of them */
+} PrintedColumn;
+
+/* Makes room for the lines of the numbers. */
+static int make_room(PrintedColumn *column) {
+    Py_ssize_t size = PyBytes_GET_SIZE(column->lines), needed = column->used + (Py_ssize_t)column->count * LINE_SIZE;
+    if (needed <= size)
+        return 0;
+    return _PyBytes_Resize(&column->lines, needed > 2 * size ? needed : 2 * size);
+}
+
+/* Prints the numbers. Signals are heard. */
+static int print_numbers(PrintedColumn *column) {
+    SpeedateProgress progress = {0, 0, SPEEDATE_OK};
+    if (make_room(column) < 0)
+        return -1;
+    char *lines = PyBytes_AS_STRING(column->lines);
+    size_t room = (size_t)(PyBytes_GET_SIZE(column->lines) - column->used);
+    int code = column->print(column->numbers, column->count, lines + column->used, room, &progress);
+    if (code == SPEEDATE_OK)
+        code = progress.error;
+    if (code != SPEEDATE_OK)
+        return raise_error(new_fault_at(column->state, code, column->before + (Py_ssize_t)progress.lines)), -1;
+    column->used += (Py_ssize_t)progress.bytes;
+    column->before += (Py_ssize_t)column->count;
+    column->count = 0;
+    return PyErr_CheckSignals();
+}
+
+static int put_number(PrintedColumn *column, int64_t number) {
+    column->numbers[column->count++] = number;
+    if (column->count % TURN_ITEMS == 0 && give_turn(column->state) < 0)
+        return -1;
+    return column->count < BLOCK ? 0 : print_numbers(column);
+}
+
+/* Prints the numbers before an item that failed, of which one may have no text: the first error is raised. */
+static int fail_after_numbers(PrintedColumn *column) {
+    PyObject *type, *value, *traceback;
+    PyErr_Fetch(&type, &value, &traceback);
+    if (print_numbers(column) == 0) {
+        PyErr_Restore(type, value, traceback);
+        return -1;
+    }
+    Py_XDECREF(type);
+    Py_XDECREF(value);
+    Py_XDECREF(traceback);
+    return -1;
+}
+
+static int put_item(PrintedColumn *column, PyObject *item) {
+    int64_t number = NOT_A_TIME;
+    int missing = PyLong_CheckExact(item) ? 0 : is_missing(column->state, &column->missing, item);
+    Py_ssize_t index = column->before + (Py_ssize_t)column->count;
+    if (missing < 0 || (!missing && take_whole(column->state, "number", index, item, &number) < 0))
+        return fail_after_numbers(column);
+    return put_number(column, number);
+}
+
+static int put_items(PrintedColumn *column, PyObject *items) {
+    PyObject *item, *iterator = PyObject_GetIter(items);
+    if (!iterator)
+        return -1;
+    int status = 0;
+    while (status == 0 && (item = PyIter_Next(iterator)) != NULL) {
+        status = put_item(column, item);
+        Py_DECREF(item);
+    }
+    Py_DECREF(iterator);
+    return status == 0 && PyErr_Occurred() ? fail_after_numbers(column) : status;
+}
+
+static int put_memory(PrintedColumn *column, const Py_buffer *buffer) {
+    int status = 0;
+    size_t count = (size_t)(buffer->len / buffer->itemsize);
+    for (size_t i = 0; status == 0 && i < count; i++)
+        status = put_number(column, whole_at(buffer, i));
+    return status;
+}
+
+static int put_numbers(PrintedColumn *column, PyObject *numbers) {
+    PyObject *view;
+    if (view_memory(numbers, has_integers, &view) < 0)
+        return -1;
+    int status = view ? put_memory(column, PyMemoryView_GET_BUFFER(view)) : put_items(column, numbers);
+    Py_XDECREF(view);
+    return status < 0 || print_numbers(column) < 0 ? -1 : 0;
+}
+
+/* The lines of the numbers, if they could be made. */
+static PyObject *lines_of(PrintedColumn *column, PyObject *numbers) {
+    column->numbers = PyMem_Malloc(BLOCK * sizeof *column->numbers);
+    column->lines = PyBytes_FromStringAndSize(NULL, 0);
+    if (!column->numbers)
+        PyErr_NoMemory();
+    if (!column->numbers || !column->lines || put_numbers(column, numbers) < 0)
+        Py_CLEAR(column->lines);
+    else
+        _PyBytes_Resize(&column->lines, column->used);
+    PyMem_Free(column->numbers);
+    Py_XDECREF(column->missing);
+    return column->lines;
+}
+
+PyObject *call_text_column(GIVEN) {
+    static const Signature signature = {"text_column", {"numbers", "kind"}, 2};
+    PrintedColumn column = {.state = PyModule_GetState(module)};
+    PyObject *bound[2], *lines = NULL;
+    if (bind(&signature, arguments, count, keywords, bound) < 0 || (!bound[1] && lacks_argument(&signature, 1) < 0))
+        return NULL;
+    PyObject *place = PyObject_CallFunction(column.state->held[CHOICE], "sOsssss", "kind", bound[1], kinds[0].name,
+                                            kinds[1].name, kinds[2].name, kinds[3].name, kinds[4].name);
+    PyObject *counted = !place ? NULL : PyObject_CallFunctionObjArgs(column.state->held[NUMBERS_OF], bound[0], bound[1], NULL);
+    if (counted) {
+        column.print = kinds[PyLong_AsLong(place)].print;
+        lines = lines_of(&column, counted);
+    }
+    Py_XDECREF(counted);
+    Py_XDECREF(place);
+    return lines;
+}

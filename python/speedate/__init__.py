@@ -22,7 +22,7 @@ from ._version import __version__
 from ._speedate import (
     Config, Fault, Refusal, Unrepresentable, date as date, date_column, date_from_timestamp, date_front, date_time,
     date_time_clock_column, date_time_column, date_time_from_timestamp, date_time_front, date_time_offset_column,
-    date_time_strict, duration, duration_column, text, time as time, time_column, time_from_timestamp, time_front,
+    date_time_strict, duration, duration_column, text, text_column, time as time, time_column, time_from_timestamp, time_front,
     time_offset_column, time_strict)
 
 # `date` and `time` are left out: `from speedate import *` would hide the class, and the module, of that name. Their `as` says
@@ -30,7 +30,7 @@ from ._speedate import (
 __all__ = [
     "Config", "Fault", "Refusal", "Unrepresentable", "__version__", "date_column", "date_from_timestamp", "date_front",
     "date_time", "date_time_clock_column", "date_time_column", "date_time_from_timestamp", "date_time_front",
-    "date_time_offset_column", "date_time_strict", "duration", "duration_column", "text", "time_column",
+    "date_time_offset_column", "date_time_strict", "duration", "duration_column", "text", "text_column", "time_column",
     "time_from_timestamp", "time_front", "time_offset_column", "time_strict"]
 
 for _call in (date, time, *map(globals().get, __all__)):

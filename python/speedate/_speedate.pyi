@@ -13,6 +13,7 @@ _Texts = Union[Iterable[Union[_Text, SupportsIndex, None]], _Bytes]
 _NoColumn = Union[str, Mapping[Any, Any]]
 _Faults = Union[Literal["raise", "nat"], List[Fault], Dict[str, array.array[int]]]
 _Naive = Literal["error", "utc", "UTC"]
+_Kind = Literal["date", "time", "date_time", "date_time_clock", "duration"]
 _Newline = Literal["\r\n", "\n"]
 _Empty = Literal["error", "nat"]
 
@@ -102,6 +103,10 @@ def duration_column(
     texts: _Texts, config: Optional[Config] = None, *, faults: _Faults = "raise", newline: _Newline = "\r\n",
     empty: _Empty = "error", lines: bool = False
 ) -> array.array[int]: ...
+@overload
+def text_column(numbers: Union[_NoColumn, bytes, bytearray], kind: _Kind) -> None: ...  # type: ignore
+@overload
+def text_column(numbers: Iterable[Optional[SupportsIndex]], kind: _Kind) -> bytes: ...
 def text(value: Union[datetime.date, datetime.time, datetime.timedelta]) -> str: ...
 def _words(code: int) -> Tuple[str, str]: ...
 def _found(code: int, source: Optional[_Text], call: int) -> Tuple[Optional[int], Optional[int], str]: ...

@@ -212,10 +212,9 @@ def _integer(name, value, low, high):
     return number
 
 
-def _clamped(name, value):
-    """An integer, or that of 64 bits which is nearest to it."""
-    low, high = -(2**63), 2**63 - 1
-    return max(low, min(_integer(name, value, -math.inf, math.inf), high))
+def _whole(name, index, value):
+    """An integer of any size in a column."""
+    return _integer(f"{name} {index}", value, -math.inf, math.inf)
 
 
 def _wrong_item(index, item, reads_timestamps):
@@ -330,25 +329,48 @@ def _missing():
     return getattr(pandas, "NA", None), getattr(pandas, "NaT", None)
 
 
+def _is_of_pandas(values):
+    pandas = sys.modules.get("pandas")
+    return isinstance(values, (getattr(pandas, "Series", ()), getattr(pandas, "Index", ())))
+
+
 def _turn():
     """CPython lets another thread run when a function begins, if that has waited long enough."""
 
 
-def _items(texts):
-    """The items of what is no bytes, and whether they are lines of a file. It refuses what has other items than texts."""
+def _check_column(name, values):
     from collections.abc import Mapping
 
+    if isinstance(values, Mapping) or hasattr(values, "columns"):
+        raise TypeError(f"{name} has to be one column, not {type(values).__name__}: pass its values, or one of its columns")
+
+
+def _items(texts):
+    """The items of what is no bytes, and whether they are lines of a file. It refuses what has other items than texts."""
     if isinstance(texts, str):
         raise TypeError(f"texts has to be an iterable of texts, a file, or bytes, not {type(texts).__name__}")
-    if isinstance(texts, Mapping) or hasattr(texts, "columns"):
-        raise TypeError(f"texts has to be one column, not {type(texts).__name__}: pass its values, or one of its columns")
+    _check_column("texts", texts)
     return _values(texts), hasattr(texts, "readline")
+
+
+def _numbers_of(numbers, kind):
+    """The integers that a column is printed from: those that an array of NumPy counts its times in, if it has the unit."""
+    if isinstance(numbers, (str, bytes, bytearray)):
+        raise TypeError(f"numbers has to be an iterable of integers, not {type(numbers).__name__}")
+    _check_column("numbers", numbers)
+    numbers = numbers.to_numpy() if _is_of_pandas(numbers) else numbers
+    of_numpy = getattr(numbers, "dtype", None)
+    if getattr(of_numpy, "kind", "") not in ("m", "M"):
+        return numbers
+    unit = {"date": "datetime64[D]", "time": "timedelta64[us]", "duration": "timedelta64[us]"}.get(kind, "datetime64[us]")
+    if of_numpy != unit:
+        raise TypeError(f'numbers has to be of {unit}, not {of_numpy}: astype("{unit}") makes it so')
+    return numbers.view("int64")
 
 
 def _values(texts):
     """Of a column of pandas with objects or integers its array, over which an iteration takes less time; or the texts."""
-    pandas = sys.modules.get("pandas")
-    if isinstance(texts, (getattr(pandas, "Series", ()), getattr(pandas, "Index", ()))):
+    if _is_of_pandas(texts):
         values = texts.to_numpy()
         if values.dtype.kind in "iu" and values.dtype.itemsize == 1:
             raise TypeError(f'texts has integers of one byte, which are texts in memory: astype("int64") makes integers of a {type(texts).__name__} of {values.dtype}')

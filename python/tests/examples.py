@@ -20,10 +20,13 @@ import speedate
 
 # Of a block that has the word: what stands before it, a value after it, and what this is.
 CASES = {
+    "frame": ("import pandas", "True", "True"),
     "pandas": ("import pandas", "True", "True"),
     "numpy.frombuffer(column, \"datetime64[us]\")\nframe": (
         "import numpy, pandas", "frame['moment'].tolist()",
         "[pandas.Timestamp('2026-11-01T08:00Z'), pandas.NaT, pandas.Timestamp('2026-11-02T08:30Z')]"),
+    "lines = speedate.text_column": (
+        "frame = pandas.DataFrame({'moment': pandas.to_datetime(['2020-02-29T12:13:14.5Z', None])})", "lines", "b'2020-02-29T12:13:14.500000Z\\n\\n'"),
     "chunksize": (
         "pathlib.Path('payments.csv').write_text(pathlib.Path('payments.csv').read_text() + 'x,29.2.2020\\nx,2020-02-29T00:00Z\\nx,never\\n')",
         "rows", "[3, 5]"),

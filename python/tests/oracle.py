@@ -13,7 +13,7 @@ import itertools
 import pathlib
 import struct
 
-from speedate._types import _FIELDS, _choice, _clamped, _digits, _integer, _items, _missing, _plain, _wrong, _wrong_item
+from speedate._types import _FIELDS, _choice, _digits, _integer, _items, _missing, _numbers_of, _plain, _whole, _wrong, _wrong_item
 
 
 MARK = b"\xef\xbb\xbf"
@@ -443,6 +443,12 @@ def _is_integer(text):
     return hasattr(text, "__index__") and not isinstance(text, (str, bytes, bytearray, memoryview))
 
 
+def _clamped(name, index, value):
+    """An integer, or the nearest one of 64 bits that is not the number of a missing one."""
+    number = _whole(name, index, value)
+    return max(1 - 2**63, min(number, 2**63 - 1))
+
+
 def _column(read, place_of, texts, faults, newline, empty, lines, read_integer=None, has_timestamps=False):
     """The numbers of texts, each by a call that gives it of the bytes, or raises a Fault, whose place and kind of call another
     call gives."""
@@ -458,7 +464,7 @@ def _column(read, place_of, texts, faults, newline, empty, lines, read_integer=N
             text = _digits(index, text, has_timestamps)
         elif not is_integer and not isinstance(text, (str, bytes, bytearray, memoryview)):
             raise _wrong_item(index, text, has_timestamps)
-        whole = _clamped(f"text {index}", text) if is_integer else _bytes(text, f"text {index}")
+        whole = _clamped("text", index, text) if is_integer else _bytes(text, f"text {index}")
         if whole == b"" and empty == "nat":
             column.append(-(2**63))
             continue
@@ -662,6 +668,36 @@ def duration_column(texts, config=None, *, faults="raise", newline="\r\n", empty
         return part.place if code else None, KINDS["speedate_duration_parse"]
 
     return _column(read, place_of, texts, faults, newline, empty, lines)
+
+
+def _line(number, kind):
+    """The text of a number of a column, by the calls that make the value of a number and print it."""
+    micros, out = _Config(0, kind == "date_time", 3), {"date": _Date, "time": _Time, "duration": _Duration}.get(kind, _DateTime)()
+    if kind == "date":
+        number = max(-(10**12), min(number, 10**12))
+        _check(_library.speedate_date_from_timestamp(number * 86_400, 1, _Config(0, 0, 1), out))
+        return _printed(_library.speedate_date_to_text, out)
+    if kind == "time":
+        _check(40 * (not 0 <= number < 86_400_000_000))  # time_too_large
+        _check(_library.speedate_time_from_timestamp(*divmod(number, 1_000_000), micros, out))
+        return _printed(_library.speedate_time_to_text, out)
+    if kind == "duration":
+        seconds, micro = divmod(abs(number), 1_000_000)
+        return _printed(_library.speedate_duration_to_text, _Duration(number < 0, *divmod(seconds, 86_400), micro))
+    _check(_library.speedate_datetime_from_timestamp(number, 0, micros, out))
+    return _printed(_library.speedate_datetime_to_text, out)
+
+
+def text_column(numbers, kind):
+    _choice("kind", kind, "date", "time", "date_time", "date_time_clock", "duration")
+    lines = []
+    for index, it in enumerate(_numbers_of(numbers, kind)):
+        number = -(2**63) if _is_missing(it) else _clamped("number", index, it) if it != -(2**63) else it
+        try:
+            lines.append("" if number == -(2**63) else _line(number, kind))
+        except Fault as fault:
+            raise Fault(fault.code, index) from None
+    return "".join(f"{it}\n" for it in lines).encode()
 
 
 def _clock(value):

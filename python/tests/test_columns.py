@@ -12,6 +12,7 @@ import itertools
 import mmap
 import os
 import pathlib
+import random
 import signal
 import subprocess
 import sys
@@ -541,6 +542,71 @@ class Others(unittest.TestCase):
         self.assertEqual(sizes.tolist(), [datetime.timedelta(seconds=1.5), None, datetime.timedelta(-1)])
 
 
+# The calls that read columns of the kinds that are printed, the bounds of their numbers, and the value of a number.
+EPOCH = datetime.datetime(1970, 1, 1)
+PRINTED = {
+    "date": (speedate.date_column, -719_528, 2_932_896, lambda it: datetime.date(1970, 1, 1) + datetime.timedelta(it)),
+    "time": (speedate.time_column, 0, 86_399_999_999, lambda it: (EPOCH + datetime.timedelta(microseconds=it)).time()),
+    "date_time": (speedate.date_time_column, -62_167_219_200_000_000, 253_402_300_799_999_999, lambda it: (EPOCH + datetime.timedelta(microseconds=it)).replace(tzinfo=datetime.timezone.utc)),
+    "date_time_clock": (speedate.date_time_clock_column, -62_167_219_200_000_000, 253_402_300_799_999_999, lambda it: EPOCH + datetime.timedelta(microseconds=it)),
+    "duration": (speedate.duration_column, 1 - 2**63, 2**63 - 1, lambda it: datetime.timedelta(microseconds=it))}
+
+
+class Printed(unittest.TestCase):
+    """Columns that are printed, beside the call that reads them and the texts of single values."""
+
+    def test_inverse(self):
+        draw = random.Random(1)
+        for kind, (read, least, most, value) in PRINTED.items():
+            numbers = [least, most, NAT, 0, *(draw.choice([NAT, draw.randrange(least, most + 1), draw.randrange(2_000)]) for _ in range(70_000))]
+            for count in (0, 1, 4, 32_767, 32_768, 32_769, 70_004):
+                lines = speedate.text_column(array.array("q", numbers[:count]), kind)
+                self.assertIs(type(lines), bytes)
+                self.assertTrue(read(lines, empty="nat").tolist() == numbers[:count], (kind, count))
+            for line, number in zip(lines.decode().split("\n"), numbers[:20_000]):
+                # Python lacks the year 0.
+                if not (number != NAT and least < 0 and kind != "duration" and number < least + 366 * (1 if kind == "date" else 86_400_000_000)):
+                    self.assertEqual(line, "" if number == NAT else speedate.text(value(number)))
+            for number in (least - 1, most + 1, 2**63 - 1, 1 - 2**63, 2**64, -(2**64)):
+                if not least <= number <= most or kind != "duration":
+                    self.check_refused(kind, [0] * 5 + [number] + [0], number)
+
+    def check_refused(self, kind, numbers, number):
+        if number == NAT or kind == "duration":
+            return
+        with self.assertRaises(speedate.Fault) as caught:
+            speedate.text_column(numbers, kind)
+        self.assertEqual((caught.exception.index, caught.exception.name), (5, "time_too_large" if kind == "time" else "date_too_large" if number > 0 else "date_too_small"))
+        with self.assertRaisesRegex(speedate.Fault, "^[a-z_]*_too_(large|small) in text 40000: expected "):
+            speedate.text_column(itertools.chain([0] * 40_000, [number]), kind)
+
+    def test_sources(self):
+        for kind, (read, *_) in PRINTED.items():
+            numbers = [5, NAT, 1_000]
+            wanted = speedate.text_column(numbers, kind)
+            self.assertEqual(wanted.count(b"\n"), 3)
+            missing = [None, float("nan"), decimal.Decimal("nan"), *([pandas.NA, pandas.NaT] if pandas else [])]
+            sources = [array.array("q", numbers), tuple(numbers), iter(numbers), memoryview(array.array("q", [5, 0, NAT, 0, 1_000, 0]))[::2], read(wanted, empty="nat"), *([5, it, 1_000] for it in missing)]
+            if numpy:
+                unit = {"date": "M8[D]", "time": "m8[us]", "duration": "m8[us]"}.get(kind, "M8[us]")
+                whole = numpy.array(numbers)
+                sources += [whole, whole.astype(">i8"), numpy.repeat(whole, 2)[::2], whole.view(unit), numpy.repeat(whole.view(unit), 2)[::2], whole.astype(object)]
+                self.assertEqual(speedate.text_column(numpy.array([5, 100], "i1"), kind), speedate.text_column([5, 100], kind))
+                for wrong in ("M8[ns]", "m8[s]", "M8[D]" if unit != "M8[D]" else "M8[us]"):
+                    with self.assertRaisesRegex(TypeError, r"^numbers has to be of \w+64\[\w+\], not \w+64\[\w+\]: astype\(.* makes it so$"):
+                        speedate.text_column(whole.view(wrong), kind)
+            if pandas:
+                sources += [pandas.Series(numbers, index=[3, 2, 1]), pandas.Index(numbers), pandas.Series([5, None, 1_000], dtype="Int64")]
+            for it in sources:
+                self.assertEqual(speedate.text_column(it, kind), wanted, (kind, it))
+        if pandas and int(pandas.__version__.partition(".")[0]) >= 1:
+            moments = pandas.Series(pandas.to_datetime(["2020-02-29T12:13:14.5Z", None]))
+            self.assertEqual(speedate.text_column(moments.dt.tz_convert(None).to_numpy("datetime64[us]"), "date_time"), b"2020-02-29T12:13:14.500000Z\n\n")
+        for wrong, words in ((5, "'int' object is not iterable"), ("5", "an iterable of integers, not str"), (b"5", "not bytes"), ({}, "one column, not dict"), ([1.5], "number 0 has to be int, not float"), ([0, "1"], "number 1 has to be int, not str"), ([True], "not bool")):
+            with self.assertRaisesRegex(TypeError, words):
+                speedate.text_column(wrong, "date")
+
+
 class Interpreter(unittest.TestCase):
     def sources(self, count):
         yield f"{SECOND}\n".encode() * count
@@ -558,12 +624,12 @@ class Interpreter(unittest.TestCase):
         before = signal.signal(signal.SIGALRM, interrupt)
         try:
             moments = [(speedate.date_time_column, it) for it in self.sources(2_000_000)]
-            for read, it in (*moments, (speedate.date_column, b"1970-01-02\n" * 6_000_000), (speedate.duration_column, b"PT1S\n" * 6_000_000)):
+            for read, it in (*moments, (speedate.date_column, b"1970-01-02\n" * 6_000_000), (speedate.duration_column, b"PT1S\n" * 6_000_000), *((speedate.text_column, it) for it in ([5] * 4_000_000, array.array("q", [5] * 4_000_000)))):
                 told = []
                 with self.assertRaises(Interrupt):
                     signal.setitimer(signal.ITIMER_REAL, 0.005)
                     # A column that has heard nothing is in the list before the interpreter hears it.
-                    told.extend(map(read, [it]))
+                    told.extend(map(read, [it], ["date_time"]) if read is speedate.text_column else map(read, [it]))
                     time.sleep(1)
                 self.assertEqual(len(told), 0, type(it))
         finally:
@@ -676,6 +742,7 @@ print((resource.getrusage(resource.RUSAGE_SELF).ru_maxrss - before) * 1024 / 32_
             *(lambda it=it: functools.partial(read, it, faults={}) for it in (texts, LINES, bytearray(LINES))),
             *map(listed, [lambda: texts, lambda: iter(texts), lambda: LINES, lambda: bytearray(LINES * 3), lambda: spread(LINES), lambda: io.BytesIO(LINES)]),
             lambda: functools.partial(read, LINES), lambda: functools.partial(read, [5], faults="nat"), lambda: functools.partial(speedate.Config, "s", 0),
+            lambda: functools.partial(speedate.text_column, [5, None] * 50_000, "duration"), lambda: functools.partial(speedate.text_column, array.array("q", [5, 2**40]), "date"),
             lambda: functools.partial(speedate.time, "24:00"), lambda: functools.partial(speedate.time, type("Text", (str,), {})("12:13"))]
         for make in makers:
             failed = 0

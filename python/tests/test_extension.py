@@ -28,6 +28,7 @@ COUNT = 100_000
 SIDES = (speedate, oracle)
 CALLS = [name for name in ("date", "time", *speedate.__all__) if inspect.isbuiltin(getattr(speedate, name))]
 DAY = datetime.date(2020, 2, 29)
+KINDS = ["date", "time", "date_time", "date_time_clock", "duration"]
 # A good text of each call on columns.
 COLUMNS = {
     "date_time_column": "1970-01-01T00:00Z", "date_time_clock_column": "1970-01-01T00:00", "date_time_offset_column": "1970-01-01T00:00Z",
@@ -152,6 +153,16 @@ def drawn_column(draw, name):
         lambda: io.StringIO(lines.decode("utf-8", "replace"), newline="")])
 
 
+def drawn_numbers(draw, name):
+    """A function that makes the numbers of a column that is printed."""
+    bound = draw.choice([20_000, 3 * 10**6, 86_400 * 10**6, 3 * 10**17, 2**63 - 1])
+    numbers = [draw.choice([draw.randrange(bound)] * 9 + [-draw.randrange(bound), -(2**63)]) for _ in range(draw.randrange(5))]
+    items = [draw.choice([it] * 30 + [None, float("nan"), 2**63, -(2**63) - 1, 10**30, True, 1.5, "1"]) for it in numbers]
+    return draw.choice([
+        lambda: numbers, lambda: items, lambda: iter(items), lambda: array.array("q", numbers), lambda: memoryview(array.array("q", numbers)),
+        lambda: memoryview(array.array("q", [*numbers, *numbers]))[::2], lambda: array.array("Q", map(abs, numbers)), lambda: array.array("h", [it % 2**15 for it in numbers])])
+
+
 def array_of(numpy, items):
     """An array of objects, whatever these are."""
     made = numpy.empty(len(items), object)
@@ -193,8 +204,8 @@ DRAWN = {
     "text": drawn_text, "value": drawn_value, "timestamp": drawn_integer, "second": drawn_integer, "microsecond": drawn_integer,
     **dict.fromkeys(["timestamps", "exact", "strict", "lines"], lambda draw, name: draw.random() < 0.5),
     "naive": lambda draw, name: draw.choice(["error", "utc", "UTC"]), "newline": lambda draw, name: draw.choice(["\r\n", "\n"]),
-    "empty": lambda draw, name: draw.choice(["error", "nat"])}
-MADE = {"texts": drawn_column, "faults": drawn_faults}
+    "empty": lambda draw, name: draw.choice(["error", "nat"]), "kind": lambda draw, name: draw.choice(KINDS)}
+MADE = {"texts": drawn_column, "faults": drawn_faults, "numbers": drawn_numbers}
 PARAMETERS = {name: list(inspect.signature(getattr(speedate, name)).parameters.values()) for name in CALLS}
 
 
@@ -275,7 +286,7 @@ ODD = list(map(same, [
     Index(5), Index(2**70), Index(None), Iterates("2020-02-29T00:00Z"), Iterates(5), Iterates("2020-02-29T00:00Z", "2020-02-29T00:00Z"), Nameless("N", (), {})(),
     Other("2020-02-29"), type("Bytes", (bytes,), {})(b"12:13"), collections.UserString("1"), Ellipsis, NotImplemented, ValueError("x"), types,
 ])) + [lambda side: released(), lambda side: side.Config, lambda side: side.Config("ms", 0), lambda side: side, lambda side: side.Fault, lambda side: io.BytesIO(b"\n")]
-RIGHT = {"text": "12:13", "value": DAY, "timestamp": 0, "second": 1, "texts": []}
+RIGHT = {"text": "12:13", "value": DAY, "timestamp": 0, "second": 1, "texts": [], "numbers": [0], "kind": "date"}
 
 
 def wrong_calls():
@@ -287,7 +298,8 @@ def wrong_calls():
                 yield name, (), {**needed, it.name: wrong}
         yield name, (), {**needed, "other": same(1)}
         yield name, [same("12:13")], {PARAMETERS[name][0].name: same("12:13")}
-        yield name, (), {}
+        for it in needed:
+            yield name, (), {word: value for word, value in needed.items() if word != it}
 
 
 # ---- References ----

@@ -462,7 +462,7 @@ ARGUMENTS = {
     "timestamp": NUMBER, "second": NUMBER, "microsecond": NUMBER, "code": NUMBER, "value": (None, datetime.date),
     "timestamp_unit": NAME, "timestamp_offset": (0, int, type(None)), "overflow_behavior": NAME, "iso_order": NAME,
     "texts": ([], bytes, list), "strict": FLAG, "naive": ("utc", str), "faults": ("nat", str, list, dict), "newline": ("\n", str),
-    "empty": ("nat", str), "lines": FLAG,
+    "empty": ("nat", str), "lines": FLAG, "numbers": ([], list, dict, array.array, memoryview), "kind": ("date", str),
     "index": (None, int, type(None)),
 }
 WRONG = [None, True, 0, 1.0, 3j, "1", b"1", [], {}, object(), speedate.text, array.array("d", [1]), memoryview(b"12345678").cast("d"),

@@ -34,6 +34,7 @@ column = speedate.time_column(row.values(), strict=True)
 column = speedate.time_offset_column({""}, lines=True)
 column = speedate.date_time_clock_column(mmap.mmap(-1, 1))
 column = speedate.date_time_offset_column(array.array("q"), timestamps=True)
+lines: bytes = speedate.text_column(column, "date") + speedate.text_column([1, None], "duration")
 refusal: speedate.Refusal = speedate.Unrepresentable("year_zero")
 said: str = refusal.message() + refusal.name + refusal.documentation + refusal.expected
 number: int = speedate.Fault(1, 5).code
@@ -67,6 +68,11 @@ column = speedate.date_time_column(texts, errors="coerce")  # call-overload
 column = speedate.date_time_column(texts, faults=())  # call-overload
 column = speedate.date_time_column(texts, newline="\r")  # call-overload
 column = speedate.date_time_column(texts, lines=1)  # call-overload
+lines = speedate.text_column(b"1", "date")  # assignment
+lines = speedate.text_column("1", "date")  # assignment
+lines = speedate.text_column(floats, "date")  # call-overload
+lines = speedate.text_column(column, "dates")  # call-overload
+lines = speedate.text_column(column)  # call-overload
 speedate.Fault("too_short")  # arg-type
 refusal.place = 5  # misc
 refusal.expected + 5  # operator
