@@ -30,6 +30,7 @@
 #include <cstdlib>
 #include <cstring>
 #include <functional>
+#include <initializer_list>
 #include <iterator>
 #include <limits>
 #include <optional>
@@ -40,7 +41,6 @@
 #include <string_view>
 #include <type_traits>
 #include <utility>
-#include <vector>
 #if __cplusplus >= 202002L
 #include <compare>
 #include <version>
@@ -738,12 +738,14 @@ class Duration : public detail::Ordered<Duration> {
         return detail::written<std::chrono::microseconds, std::int64_t>(
             [&](auto *out) { return speedate_duration_signed_total_microseconds(c_, out); });
     }
-    /* The sum of the durations of a container, or SPEEDATE_DURATION_DAYS_TOO_LARGE. */
-    template <class Durations> static Result<Duration> sum(const Durations &durations) {
-        std::vector<SpeedateDuration> all;
-        for (const Duration &duration : durations)
-            all.push_back(duration.c_);
-        return from_c([&](auto *out) { return speedate_duration_sum(all.data(), all.size(), out); });
+    /* The sum of the durations of a container where they are contiguous, or SPEEDATE_DURATION_DAYS_TOO_LARGE. */
+    template <class Durations = std::initializer_list<Duration>>
+    static Result<Duration> sum(const Durations &durations) {
+        static_assert(std::is_standard_layout_v<Duration> && sizeof(Duration) == sizeof(SpeedateDuration));
+        const Duration *const first = std::data(durations);
+        return from_c([&](auto *out) {
+            return speedate_duration_sum(reinterpret_cast<const SpeedateDuration *>(first), std::size(durations), out);
+        });
     }
     Duration operator-() const noexcept {
         return Duration(detail::sure<SpeedateDuration>([&](auto *out) { return speedate_duration_negate(c_, out); }));
@@ -843,7 +845,8 @@ template <class Number> class PrintColumn {
     using Call = int (*)(const Number *, std::size_t, char *, std::size_t, SpeedateProgress *);
     explicit constexpr PrintColumn(Call call) noexcept : call_(call) {}
 
-    template <class Numbers, class Buffer> Progress operator()(const Numbers &numbers, Buffer &&buffer) const {
+    template <class Numbers = std::initializer_list<Number>, class Buffer>
+    Progress operator()(const Numbers &numbers, Buffer &&buffer) const {
         return Progress(sure<SpeedateProgress>([&](auto *progress) {
             return call_(std::data(numbers), std::size(numbers), std::data(buffer), std::size(buffer), progress);
         }));

@@ -209,7 +209,8 @@ static void durations() {
     CHECK(duration.signed_microseconds() == std::chrono::microseconds(-3));
     CHECK(duration.signed_total_microseconds().value() == std::chrono::microseconds(-86402000003));
     CHECK(length("P999999999D").signed_total_microseconds().error() == Error(SPEEDATE_NUMBER_TOO_LARGE));
-    CHECK(said(Duration::sum(std::array<Duration, 2>{length("PT2H"), length("-PT30M")})) == "PT1H30M" &&
+    CHECK(said(Duration::sum({length("PT2H"), length("-PT30M")})) == "PT1H30M" &&
+          said(Duration::sum(std::array<Duration, 2>{length("PT2H"), length("-PT30M")})) == "PT1H30M" &&
           said(Duration::sum(std::vector<Duration>())) == "PT0S" &&
           said(Duration::sum(std::vector<Duration>(2, length("P999999999D")))) == "duration_days_too_large");
     CHECK((-duration).to_text() == "P1DT2.000003S");
@@ -320,6 +321,7 @@ static void columns_in_print() {
     Progress printed = date_print_column(days, text);
     CHECK(printed.lines == 3 && printed.bytes == 23 && printed.error == Error(SPEEDATE_DATE_TOO_SMALL));
     CHECK(text == "1970-01-02\n1969-12-31\n\n" + std::string(17, '-'));
+    CHECK(date_print_column({2932896, 2932897}, text).error == Error(SPEEDATE_DATE_TOO_LARGE));
     std::array<char, 21> line;
     const std::vector<std::int64_t> numbers = {1000000, 0};
     printed = datetime_print_column(numbers, line);

@@ -2,7 +2,8 @@ use core::error::Error;
 use core::fmt;
 
 use crate::ffi::{self, Code, ColumnConfig, Config};
-use crate::{DateConfig, DateTimeConfig, MicrosecondsPrecisionOverflowBehavior, ParseError, TimeConfig};
+use crate::value::Value;
+use crate::{DateConfig, DateTimeConfig, Duration, MicrosecondsPrecisionOverflowBehavior, ParseError, TimeConfig};
 
 /// How a text is cut into lines.
 ///
@@ -420,6 +421,90 @@ impl From<&DurationReader> for (Config, ColumnConfig) {
     fn from(reader: &DurationReader) -> Self {
         ((&reader.config).into(), ColumnConfig::default())
     }
+}
+
+/// The microseconds of a duration with its sign, as a column of durations has them.
+///
+/// ```
+/// use speedate::{duration_microseconds, Duration};
+///
+/// assert_eq!(duration_microseconds(&Duration::parse_str("-PT1.5S").unwrap()), Ok(-1_500_000));
+/// ```
+///
+/// # Errors
+///
+/// [`NumberTooLarge`](LineError::NumberTooLarge) if they are 2^63 or more without the sign, which is over 106,751,991 days;
+/// the error of the first field that is out of range.
+pub fn duration_microseconds(duration: &Duration) -> Result<i64, LineError> {
+    duration.check().map_err(LineError::Parse)?;
+    ffi::speedate_duration_signed_total_microseconds(duration).map_err(|_| LineError::NumberTooLarge)
+}
+
+/// How many bytes the longest line of a printer has, without its line feed.
+pub const LINE_MAX: usize = 32;
+
+/// Prints a number as a line. The printers of this crate do, and no other type can.
+pub trait LinePrinter: sealed::Sealed {
+    /// What is printed as a line.
+    type Number: Copy;
+
+    #[doc(hidden)]
+    fn print(&self, numbers: &[Self::Number], out: &mut [u8]) -> Progress;
+}
+
+/// Prints numbers as lines, in order, each with a line feed, as many as `out` has room for, and returns how far it came.
+///
+/// The smallest number, which a column has of a refused line, is an empty line. A number that has no line ends the text,
+/// and the progress has its error. If there is neither an error nor a line for each number, the next line does not fit:
+/// the numbers after those that the progress counts are left for a further call.
+///
+/// ```
+/// use speedate::{print_column, DatePrinter, LINE_MAX};
+///
+/// let mut out = [0; 2 * (LINE_MAX + 1)];
+/// let progress = print_column(&[1, -1], &DatePrinter, &mut out);
+/// assert_eq!(out[..progress.bytes], *b"1970-01-02\n1969-12-31\n");
+/// ```
+#[inline]
+pub fn print_column<P: LinePrinter>(numbers: &[P::Number], printer: &P, out: &mut [u8]) -> Progress {
+    printer.print(numbers, out)
+}
+
+/// Defines printers, each by its function of C.
+macro_rules! printers {
+    ($($(#[$document:meta])* $name:ident by $column:ident of $number:ty;)*) => {$(
+        $(#[$document])*
+        #[derive(Debug, Clone, Copy, PartialEq, Eq)]
+        pub struct $name;
+
+        impl sealed::Sealed for $name {}
+
+        impl LinePrinter for $name {
+            type Number = $number;
+
+            #[inline]
+            fn print(&self, numbers: &[$number], out: &mut [u8]) -> Progress {
+                ffi::$column(numbers, out)
+            }
+        }
+    )*};
+}
+
+printers! {
+    /// Prints days since 1970-01-01 as dates: 1 as `1970-01-02`. A day outside the years 0000 to 9999 is refused, with
+    /// [`DateTooSmall`](ParseError::DateTooSmall) or [`DateTooLarge`](ParseError::DateTooLarge).
+    DatePrinter by speedate_date_print_column of i32;
+    /// Prints microseconds since 1970-01-01T00:00:00 in UTC as date-times: 1,000,000 as `1970-01-01T00:00:01Z`. It refuses
+    /// what a [`DatePrinter`] does.
+    DateTimePrinter by speedate_datetime_print_column of i64;
+    /// Prints microseconds since 1970-01-01T00:00:00 on a clock as date-times without an offset: 1,000,000 as
+    /// `1970-01-01T00:00:01`. It refuses what a [`DatePrinter`] does.
+    DateTimeClockPrinter by speedate_datetime_clock_print_column of i64;
+    /// Prints microseconds after midnight as times: 43,994,500,000 as `12:13:14.500000`. A number that is not 0 to
+    /// 86,399,999,999 is refused, with [`TimeTooLarge`](ParseError::TimeTooLarge).
+    TimePrinter by speedate_time_print_column of i64;
+    /// Prints microseconds as durations: -1,500,000 as `-PT1.5S`.
+    DurationPrinter by speedate_duration_print_column of i64;
 }
 
 #[cfg(test)]

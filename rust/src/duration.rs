@@ -103,6 +103,36 @@ impl Duration {
         ffi::speedate_duration_from_signed_microseconds(microseconds).expect("a number of 64 bits is a duration")
     }
 
+    /// The sum of durations, each with its sign. It is exact, and zero is positive.
+    ///
+    /// ```
+    /// use speedate::Duration;
+    ///
+    /// let durations = ["PT2H", "-PT30M"].map(|text| Duration::parse_str(text).unwrap());
+    /// assert_eq!(Duration::sum(&durations).unwrap().to_string(), "PT1H30M");
+    /// ```
+    ///
+    /// # Errors
+    ///
+    /// The error of the first field that is out of range; [`DurationDaysTooLarge`](ParseError::DurationDaysTooLarge) if
+    /// the sum has more than 999,999,999 days.
+    pub fn sum(durations: &[Self]) -> Result<Self, ParseError> {
+        durations.iter().try_for_each(Value::check)?;
+        // After a sum comes a duration of the other sign, while there is one. So a partial sum is too large only if the
+        // whole one is.
+        let [mut positive, mut negative] =
+            [true, false].map(|sign| durations.iter().filter(move |it| it.positive == sign));
+        let mut sum = ffi::duration_sum(&[])?;
+        while let Some(next) = if sum.positive {
+            negative.next().or_else(|| positive.next())
+        } else {
+            positive.next().or_else(|| negative.next())
+        } {
+            sum = ffi::duration_sum(&[(&sum).into(), next.into()])?;
+        }
+        Ok(sum)
+    }
+
     /// What [`parse_bytes_with_config`](Self::parse_bytes_with_config) gives, with the part for which an input is refused.
     ///
     /// ```

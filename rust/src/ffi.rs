@@ -365,6 +365,36 @@ macro_rules! columns {
     )*};
 }
 
+unsafe extern "C" {
+    fn speedate_duration_sum(durations: *const CDuration, count: usize, out: *mut CDuration) -> c_int;
+}
+
+/// The sum of durations in range.
+pub(crate) fn duration_sum(durations: &[CDuration]) -> Result<Duration, Code> {
+    // SAFETY: the types are the header's; address and number are those of the slice, and `out` is a variable's.
+    written(|out: *mut CDuration| unsafe { speedate_duration_sum(durations.as_ptr(), durations.len(), out) })
+}
+
+/// Functions that print numbers as the lines of a text.
+macro_rules! print_columns {
+    ($(fn $name:ident($numbers:ident: *const $number:ty, count: usize);)*) => {$(
+        #[inline]
+        pub(crate) fn $name($numbers: &[$number], buffer: &mut [u8]) -> Progress {
+            unsafe extern "C" {
+                fn $name(
+                    $numbers: *const $number, count: usize, buffer: *mut u8, size: usize, progress: *mut CProgress,
+                ) -> c_int;
+            }
+            // SAFETY: the types are the header's; addresses and sizes are those of slices, which do not overlap, and
+            // `progress` is a variable's address.
+            written(|progress| unsafe {
+                $name($numbers.as_ptr(), $numbers.len(), buffer.as_mut_ptr(), buffer.len(), progress)
+            })
+            .expect("it refuses nothing")
+        }
+    )*};
+}
+
 /// Functions that say whether a value is in range.
 macro_rules! checks {
     ($(fn $name:ident($value:ident: $kind:ty);)*) => {$(
@@ -464,6 +494,7 @@ calls! {
     fn speedate_duration_compare(first: CDuration, second: CDuration) -> i32;
     fn speedate_duration_signed_total_seconds(duration: CDuration) -> i64;
     fn speedate_duration_signed_total_ms(duration: CDuration) -> i64;
+    fn speedate_duration_signed_total_microseconds(duration: CDuration) -> i64;
     fn speedate_duration_signed_microseconds(duration: CDuration) -> i32;
     fn speedate_duration_from_signed_microseconds(microseconds: i64) -> CDuration;
     fn speedate_duration_between(earlier: CDateTime, later: CDateTime) -> CDuration;
@@ -507,6 +538,14 @@ columns! {
     fn speedate_time_column([text] config: Config, column: ColumnConfig, [out: i64], [errors: u8]);
     fn speedate_time_offset_column([text] config: Config, column: ColumnConfig, [out: i32], [errors: u8]);
     fn speedate_duration_column([text] config: Config, column: ColumnConfig, [out: i64], [errors: u8]);
+}
+
+print_columns! {
+    fn speedate_date_print_column(days: *const i32, count: usize);
+    fn speedate_datetime_print_column(microseconds: *const i64, count: usize);
+    fn speedate_datetime_clock_print_column(microseconds: *const i64, count: usize);
+    fn speedate_time_print_column(microseconds: *const i64, count: usize);
+    fn speedate_duration_print_column(microseconds: *const i64, count: usize);
 }
 
 checks! {

@@ -38,9 +38,10 @@ mod time;
 mod value;
 
 pub use column::{
-    read_column, read_column_with_errors, DateReader, DateTimeClockReader, DateTimeOffsetReader, DateTimeParser,
-    DateTimeReader, DurationReader, LineConfig, LineError, LineReader, Progress, TimeOffsetReader, TimeParser,
-    TimeReader,
+    duration_microseconds, print_column, read_column, read_column_with_errors, DatePrinter, DateReader,
+    DateTimeClockPrinter, DateTimeClockReader, DateTimeOffsetReader, DateTimeParser, DateTimePrinter, DateTimeReader,
+    DurationPrinter, DurationReader, LineConfig, LineError, LinePrinter, LineReader, Progress, TimeOffsetReader,
+    TimeParser, TimePrinter, TimeReader, LINE_MAX,
 };
 pub use config::{
     DateConfig, DateConfigBuilder, DateTimeConfig, DateTimeConfigBuilder, TimeConfig, TimeConfigBuilder, TimestampUnit,

@@ -5,8 +5,8 @@ use std::panic::{catch_unwind, set_hook, take_hook};
 use std::sync::Once;
 
 use speedate::{
-    read_column, read_column_with_errors, Date, DateTime, DateTimeConfig, DateTimeParser, DateTimeReader, Duration,
-    DurationReader, LineConfig, ParseError, Refused, Time, TimeConfig,
+    duration_microseconds, read_column, read_column_with_errors, Date, DateTime, DateTimeConfig, DateTimeParser,
+    DateTimeReader, Duration, DurationReader, LineConfig, LineError, ParseError, Refused, Time, TimeConfig,
 };
 
 const DATE: Date = Date { year: 2020, month: 2, day: 29 };
@@ -114,7 +114,9 @@ fn durations() {
     for (it, error, field) in DURATIONS {
         assert_panics!(field; it.to_string(), it.signed_total_seconds(), it.signed_total_ms(), it.signed_microseconds());
         assert_eq!([it.after(&start), it.before(&start)], [Err(error.clone()), Err(error.clone())]);
-        assert_eq!([it.after(&bad), it.before(&bad)], [Err(error.clone()), Err(error)]);
+        assert_eq!([it.after(&bad), it.before(&bad)], [Err(error.clone()), Err(error.clone())]);
+        assert_eq!(Duration::sum(&[DURATION, it.clone()]), Err(error.clone()));
+        assert_eq!(duration_microseconds(&it), Err(LineError::Parse(error)));
         assert!(it.eq(&it) && it.cmp(&DURATION).is_gt());
     }
 }

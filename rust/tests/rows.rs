@@ -1,12 +1,15 @@
 //! The rows of `c/tests/rows.txt` whose call, value and configuration the API has.
 
+use std::fmt::Debug;
 use std::panic::{catch_unwind, set_hook, take_hook};
+use std::str::FromStr;
 
 use speedate::{
-    int_parse_str, read_column, read_column_with_errors, Date, DateConfig, DateReader, DateTime, DateTimeClockReader,
-    DateTimeConfig, DateTimeOffsetReader, DateTimeParser, DateTimeReader, Duration, DurationReader, LineConfig,
-    LineReader, MicrosecondsPrecisionOverflowBehavior, ParseError, Refused, Time, TimeConfig, TimeOffsetReader,
-    TimeParser, TimeReader, TimestampUnit,
+    duration_microseconds, int_parse_str, print_column, read_column, read_column_with_errors, Date, DateConfig,
+    DatePrinter, DateReader, DateTime, DateTimeClockPrinter, DateTimeClockReader, DateTimeConfig, DateTimeOffsetReader,
+    DateTimeParser, DateTimePrinter, DateTimeReader, Duration, DurationPrinter, DurationReader, LineConfig,
+    LinePrinter, LineReader, MicrosecondsPrecisionOverflowBehavior, ParseError, Progress, Refused, Time, TimeConfig,
+    TimeOffsetReader, TimeParser, TimePrinter, TimeReader, TimestampUnit,
 };
 
 const ROWS: &str = include_str!("../../c/tests/rows.txt");
@@ -21,7 +24,7 @@ fn rows() {
     assert!(wrong.is_empty(), "{wrong:#?}");
     assert!(tried.len() > 200, "only {} rows", tried.len());
     let columns = tried.iter().filter(|(row, _)| row.contains("_column")).count();
-    assert!(columns > 40, "only {columns} rows of columns");
+    assert!(columns > 70, "only {columns} rows of columns");
     let places = tried.iter().filter(|(row, _)| row.contains("_or_part")).count();
     assert!(places > 70, "only {places} rows of places");
 }
@@ -119,6 +122,12 @@ impl Row<'_> {
             "duration_from_signed_microseconds" => {
                 self.has(2, Ok::<_, ParseError>(Duration::from_signed_microseconds(self.get(1)?)))
             }
+            "duration_signed_total_microseconds" => self.has(2, duration_microseconds(&self.get(1)?)),
+            "duration_sum" => {
+                let (values, answer) = self.0.split_at(self.0.iter().position(|it| it.contains(char::is_alphabetic))?);
+                let durations: Option<Vec<Duration>> = values[1..].iter().map(|it| Field::of(it)).collect();
+                Row(answer).has(0, Duration::sum(&durations?))
+            }
             "duration_between" => self.get(4) == Some(Duration::between(&self.get(1)?, &self.get(2)?)),
             "duration_after" => self.has(3, self.get::<Duration>(1)?.after(&self.get(2)?)),
             "duration_before" => self.has(3, self.get::<Duration>(1)?.before(&self.get(2)?)),
@@ -136,6 +145,11 @@ impl Row<'_> {
             "time_column" => self.has_column(&TimeReader { parser: self.get_time_parser()? })?,
             "time_offset_column" => self.has_column(&TimeOffsetReader { parser: self.get_time_parser()? })?,
             "duration_column" => self.has_column(&DurationReader { config: time_config(1)? })?,
+            "date_print_column" => self.has_lines(&DatePrinter),
+            "datetime_print_column" => self.has_lines(&DateTimePrinter),
+            "datetime_clock_print_column" => self.has_lines(&DateTimeClockPrinter),
+            "time_print_column" => self.has_lines(&TimePrinter),
+            "duration_print_column" => self.has_lines(&DurationPrinter),
             _ => return None,
         })
     }
@@ -181,6 +195,17 @@ impl Row<'_> {
         written.extend(errors.map(|errors| joined(&errors[..progress.lines])));
         written.push(format!("{} {} {error}", progress.lines, progress.bytes));
         Some(self.0[5..] == written)
+    }
+
+    /// Whether numbers have these lines and this progress.
+    fn has_lines<P: LinePrinter<Number: FromStr<Err: Debug>>>(&self, printer: &P) -> bool {
+        let numbers: Vec<P::Number> = self.0[2].split_whitespace().map(|it| it.parse().unwrap()).collect();
+        let mut out = vec![b'-'; self.0[1].parse().unwrap()];
+        let Progress { lines, bytes, error } = print_column(&numbers, printer, &mut out);
+        let (text, rest) = out.split_at(bytes);
+        let error = error.map_or("ok".to_owned(), |error| error.to_string());
+        let written = [text.escape_ascii().to_string(), format!("{lines} {bytes} {error}")];
+        rest.iter().all(|byte| *byte == b'-') && self.0[3] == "ok" && self.0[4..] == written
     }
 
     fn get<T: Field>(&self, place: usize) -> Option<T> {
