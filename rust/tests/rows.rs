@@ -124,9 +124,9 @@ impl Row<'_> {
             }
             "duration_signed_total_microseconds" => self.has(2, duration_microseconds(&self.get(1)?)),
             "duration_sum" => {
-                let (values, answer) = self.0.split_at(self.0.iter().position(|it| it.contains(char::is_alphabetic))?);
-                let durations: Option<Vec<Duration>> = values[1..].iter().map(|it| Field::of(it)).collect();
-                Row(answer).has(0, Duration::sum(&durations?))
+                let place = self.0.iter().skip(1).position(|it| it.contains(char::is_alphabetic))? + 1;
+                let durations: Option<Vec<Duration>> = (1..place).map(|place| self.get(place)).collect();
+                self.has(place, Duration::sum(&durations?))
             }
             "duration_between" => self.get(4) == Some(Duration::between(&self.get(1)?, &self.get(2)?)),
             "duration_after" => self.has(3, self.get::<Duration>(1)?.after(&self.get(2)?)),
