@@ -663,15 +663,15 @@ class Interpreter(unittest.TestCase):
 
     def test_turns(self):
         """How long another thread waits at most while a column holds the lock."""
-        def run(texts, named, took, done):
+        def run(call, took, done):
             before = time.perf_counter()
-            speedate.date_time_column(texts, **named)
+            call()
             took.append(time.perf_counter() - before)
             done.append(True)
 
-        def longest_wait(texts, named):
+        def longest_wait(call):
             took, done, longest = [], [], 0
-            thread, last = threading.Thread(target=run, args=[texts, named, took, done]), time.perf_counter()
+            thread, last = threading.Thread(target=run, args=[call, took, done]), time.perf_counter()
             thread.start()
             while not done:
                 now = time.perf_counter()
@@ -679,12 +679,14 @@ class Interpreter(unittest.TestCase):
             thread.join()
             return longest, took[0]
 
-        named = {"timestamps": True, "config": speedate.Config("s", 0)}
-        for texts, options in (([SECOND] * 2_000_000, {}), (array.array("q", range(8_000_000)), named), (b"x\n" * 4_000_000, {"faults": {}})):
+        texts, numbers, unix, read = [SECOND] * 2_000_000, array.array("q", range(8_000_000)), speedate.Config("s", 0), speedate.date_time_column
+        for call in (
+                lambda: read(texts), lambda: read(numbers, unix, timestamps=True), lambda: read(b"x\n" * 4_000_000, faults={}),
+                lambda: speedate.text_column(numbers, "date_time")):
             waits = []
             # Other programs may have the processors for a while.
             while len(waits) < 8 and not any(wait < min(took / 3, max(0.06, took / 8)) for wait, took in waits):
-                waits.append(longest_wait(texts, options))
+                waits.append(longest_wait(call))
             self.assertLess(len(waits), 8, waits)
 
     def test_two_columns(self):
