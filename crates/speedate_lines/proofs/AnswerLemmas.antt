@@ -3,7 +3,8 @@ use Rattle.std.proofs.Common.{◌≡◌, ℕ, ◌<◌, ◌≤◌, List, [], ◌�
 use Rattle.speedate.specs.Base.{ParseError}
 use Rattle.std.proofs.lemmas.Bool.{lt-ltb, le-ltb}
 use Rattle.speedate.specs.Ascii.{line_feed}
-use Rattle.speedate_lines.specs.Answer.{longest_line, kinds, kind_and_text, answer_by_kind}
+use Rattle.speedate_stream.specs.Machine.{longest_line}
+use Rattle.speedate_lines.specs.Answer.{kinds, kind_and_text, answer_by_kind}
 use Rattle.speedate_lines.specs.Answer.{line_answer, reply, ok_answer, err_answer}
 
 pub line_answer-long : (line : List ℕ) → longest_line < length line

@@ -1,3 +1,2 @@
 mod AnswerLemmas
-mod KeptLineLemmas
-mod SentLemmas
+mod AnsweringLemmas

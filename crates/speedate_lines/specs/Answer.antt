@@ -1,5 +1,5 @@
 -- The program's answers to lines.
-use Rattle.std.specs.Prelude.{ℕ, length, List, [], ◌∷◌, ◌++◌, if◌then◌else◌, take, drop, codes, nat_lt, bytes_eq, Option, Some, None, Result, Ok, Err}
+use Rattle.std.specs.Prelude.{ℕ, false, length, List, [], ◌∷◌, ◌++◌, if◌then◌else◌, take, drop, codes, nat_lt, bytes_eq, Option, Some, None, Result, Ok, Err}
 use Rattle.std.specs.List.{flat_map}
 use Rattle.speedate.specs.Base.{Behavior, IsoOrder, ParseError, TimestampUnit}
 use Rattle.speedate.specs.Ascii.{line_feed, space}
@@ -8,11 +8,9 @@ use Rattle.speedate.specs.DateTime.{date_time_text, date_time_or_timestamp}
 use Rattle.speedate.specs.Duration.{duration_answer, duration_text}
 use Rattle.speedate.specs.Fault.{fault_name}
 use Rattle.speedate.specs.Time.{time_answer, time_text}
+use Rattle.speedate_stream.specs.Machine.{Machine, longest_line}
+use Rattle.speedate_lines.specs.declared.answer.Answering.{Answering}
 use Rattle.speedate_lines.specs.declared.answer.Kind.{Kind}
-
--- how many bytes a line may have
-abbrev pub longest_line : ℕ
-longest_line = 4096
 
 -- the answer to a text that was read: the canonical text of its value
 abbrev pub ok_answer : List ℕ → List ℕ
@@ -75,3 +73,12 @@ line_answer line =
 -- the answers to lines, each ended by a line feed
 abbrev pub answers : List (List ℕ) → List ℕ
 answers lines = flat_map (λ line. line_answer line ++ line_feed ∷ []) lines
+
+-- the machine of the program: it answers each line by its head, and never prints the line itself
+abbrev pub answering : Machine Answering
+answering = record {
+  after = λ state head. state;
+  text = λ state head. line_answer head ++ line_feed ∷ [];
+  rest = λ state head. None;
+  done = λ state. false;
+}

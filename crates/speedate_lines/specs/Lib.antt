@@ -1,3 +1,2 @@
 pub mod Answer
-pub mod Watch
 pub mod Run

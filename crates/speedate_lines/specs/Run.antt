@@ -1,64 +1,10 @@
--- What a run has read and written where it ends.
-use Rattle.std.specs.Prelude.{◌≡◌, ℕ, ◌+◌, ◌≤◌, List, [], ◌++◌, length, take, Option, ◌⊎◌, Bool, true, false, ◌||◌, codes, Result, Ok, Err, is_err, OnOk, OnErr}
+-- What a run of the program has read and written where it ends.
+use Rattle.std.specs.Prelude.{◌≡◌, ℕ, ◌≤◌, List, ◌++◌, length, Option, ◌⊎◌, codes, Result, Ok, Err}
 use Rattle.std.specs.Io.KnownBytes.{Consumes, IsAtEnd, Appends}
-use Rattle.speedate_lines.specs.declared.run.RunError.{RunError}
+use Rattle.speedate_stream.specs.declared.run.RunError.{RunError}
+use Rattle.speedate_stream.specs.Run.{AppendsFrom, longest_read}
 use Rattle.speedate.specs.Lines.{complete_lines, lines}
-use Rattle.speedate_lines.specs.Answer.{longest_line, answers}
-use Rattle.speedate_lines.specs.Watch.{Watch}
-
--- what is kept of an unfinished line: of one that is too long, enough to tell that it is
-abbrev pub kept_part : List ℕ → List ℕ
-kept_part line = take (longest_line + 1) line
-
--- how many bytes one read gives at most: as many as fit into the block
-abbrev pub longest_read : ℕ
-longest_read = 69633
-
--- a read put what it read after the first bytes of a block, and nothing at the end of the input
-pub record ReadsAfter (before after : Option (List ℕ)) (kept filled : ℕ)
-    (old new : List ℕ) : Type 0 where
-  pub more : List ℕ
-  pub consumed : Consumes before after more
-  pub one_read : length more ≤ longest_read
-  pub room : kept ≤ length old
-  pub ordered : kept ≤ filled
-  pub within : filled ≤ length new
-  pub text : take filled new ≡ take kept old ++ more
-  pub nothing : filled ≡ kept → (more ≡ []) × IsAtEnd after
-
--- What has gone out of some bytes, and of the answers of a run that failed.
-
--- some bytes have been written, except the last ones, which are left
-pub record AppendsBut (left : List ℕ) (old new : Option (List ℕ)) (bytes : List ℕ) : Type 0 where
-  pub written : List ℕ
-  pub sent : Appends old new written
-  pub whole : bytes ≡ written ++ left
-
--- a beginning of some bytes has been written
-pub record AppendsBeginning (old new : Option (List ℕ)) (bytes : List ℕ) : Type 0 where
-  pub left : List ℕ
-  pub sent : AppendsBut left old new bytes
-
--- what a call leaves that has to write some bytes: all of them but the last ones, which are left,
--- or a beginning of them if it fails
-pub record Writes {W A E : Type 0} (contents : W → Option (List ℕ)) (old new : Watch W)
-    (result : Result A E) (left bytes : List ℕ) : Type 0 where
-  pub failed : new.failed ≡ (old.failed || is_err result)
-  pub sent : OnOk result (AppendsBut left (contents old.inner) (contents new.inner) bytes)
-  pub beginning : OnErr result (AppendsBeginning (contents old.inner) (contents new.inner) bytes)
-
--- what a call leaves that has to write some bytes and does not flush
-pub record OnlyWrites {W A E : Type 0} (contents : W → Option (List ℕ)) (old new : Watch W)
-    (result : Result A E) (left bytes : List ℕ) : Type 0 where
-  pub writes : Writes contents old new result left bytes
-  pub unflushed : new.flushes ≡ old.flushes
-
--- a beginning of some bytes has been written, and in it the given first ones at least
-pub record AppendsFrom (first : List ℕ) (old new : Option (List ℕ)) (bytes : List ℕ) : Type 0 where
-  pub further : List ℕ
-  pub left : List ℕ
-  pub sent : Appends old new (first ++ further)
-  pub whole : bytes ≡ first ++ further ++ left
+use Rattle.speedate_lines.specs.Answer.{answers}
 
 -- what was written is the answers to the complete lines of what was read
 pub record AnswersCompleteLines (unread_old unread_new old new : Option (List ℕ)) : Type 0 where
@@ -83,12 +29,6 @@ pub record AnswersBeginning (unread_old unread_new old new : Option (List ℕ)) 
   pub sent : AppendsFrom (answers (complete_lines earlier)) old new due
 
 -- How the program tells how a run ended.
-
--- which of the input and the output of a run has failed: one of them or neither, and never both
-abbrev pub EndsBy : Result (Unit {0}) RunError → Bool → Bool → Type 0
-EndsBy (Ok ended) input output = (input ≡ false) × (output ≡ false)
-EndsBy (Err RunError.Read) input output = (input ≡ true) × (output ≡ false)
-EndsBy (Err RunError.Write) input output = (input ≡ false) × (output ≡ true)
 
 -- the exit status, and what standard error is told
 abbrev pub outcome_of : Result (Unit {0}) RunError → ℕ × List ℕ

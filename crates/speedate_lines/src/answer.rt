@@ -2,28 +2,19 @@
 
 ghost use Rattle.std.specs.Option.{option_map};
 ghost use Rattle.std.specs.Prelude.{◌≡◌, ◌+◌, ◌≤◌, true, false, length, take, drop, bytes_eq, MatchOption, [], ◌∷◌, ◌++◌};
-ghost use Rattle.arrayvec.specs.ArrayString.{array_string_len};
+ghost use Rattle.arrayvec.specs.ArrayVec.{array_vec_len};
 ghost use Rattle.speedate.specs.Ascii.{line_feed};
 ghost use Rattle.speedate_lines.specs.Answer.{err_answer, kind_and_text, kinds, line_answer};
 ghost use Rattle.speedate_lines.specs.Answer.{ok_answer, reply_to};
 
-use arrayvec::ArrayString;
 use speedate::{Date, DateTime, Duration, IsoOrder, Time, TimeConfig};
-
-/// How many bytes a line may have. A longer one is refused, whatever it holds.
-pub const LINE_MAX: usize = 4096;
+use speedate_stream::{LINE_MAX, LineMachine, PENDING_MAX, Pending, push_bytes};
 
 /// No printed value and no reason for a refusal has more bytes.
 const TEXT_MAX: usize = 32;
 
 /// No answer has more bytes: `ok ` or `err `, a text, and a line feed.
 pub const ANSWER_MAX: usize = 4 + TEXT_MAX + 1;
-
-/// How many bytes of answers are gathered before they are written.
-pub const PENDING_MAX: usize = 65536;
-
-/// Answers that wait to be written.
-pub type Pending = ArrayString<PENDING_MAX>;
 
 /// The kinds of lines.
 #[derive(Clone, Copy)]
@@ -35,13 +26,39 @@ enum Kind {
     StrictDuration,
 }
 
+/// The machine of the program: it answers each line, and keeps nothing.
+#[derive(Clone, Copy)]
+pub struct Answering;
+
+impl LineMachine for Answering {
+    ghost use Rattle.std.specs.Prelude.{◌≡◌, ◌+◌, ◌++◌, ◌≤◌, IfSome, length, is_some};
+    ghost use Rattle.arrayvec.specs.ArrayVec.{array_vec_len};
+    ghost use Rattle.speedate_lines.specs.Answer.{answering};
+
+    ghost machine = { answering };
+
+    fn is_done(&self) -> bool {
+        false
+    }
+
+    fn passes(&self, _head: &[u8]) -> bool {
+        false
+    }
+
+    #[inline(always)]
+    fn step(&mut self, head: &[u8], pending: &mut Pending) -> Option<usize> {
+        answer_line(head, pending);
+        None
+    }
+}
+
 /// Appends the answer to a line, which is given without its line feed, and a line feed: for
 /// `date 2020-02-29`, `ok 2020-02-29`.
 #[inline(always)]
 pub fn answer_line(line: &[u8], pending: &mut Pending)
-    requires { array_string_len pending.old + ANSWER_MAX ≤ PENDING_MAX }
-    ensures answered { pending.new.bytes
-        ≡ pending.old.bytes ++ (line_answer line.now ++ line_feed ∷ []) }
+    requires { array_vec_len pending.old + ANSWER_MAX ≤ PENDING_MAX }
+    ensures answered { pending.new.items
+        ≡ pending.old.items ++ (line_answer line.now ++ line_feed ∷ []) }
 {
     if line.len() > LINE_MAX {
         return refuse("line_too_long", pending);
@@ -100,9 +117,9 @@ macro_rules! answer {
 /// Appends the answer to a text of a kind.
 #[inline(always)]
 fn answer_text(kind: Kind, text: &[u8], pending: &mut Pending)
-    requires { array_string_len pending.old + ANSWER_MAX ≤ PENDING_MAX }
-    ensures answered { pending.new.bytes
-        ≡ pending.old.bytes ++ (reply_to kind text.now ++ line_feed ∷ []) }
+    requires { array_vec_len pending.old + ANSWER_MAX ≤ PENDING_MAX }
+    ensures answered { pending.new.items
+        ≡ pending.old.items ++ (reply_to kind text.now ++ line_feed ∷ []) }
 {
     match kind {
         Kind::Date => answer!(Date::parse_bytes(text), pending),
@@ -119,23 +136,23 @@ fn answer_text(kind: Kind, text: &[u8], pending: &mut Pending)
 /// Appends the answer to a text that was read: the canonical text of its value.
 fn accept(text: &str, pending: &mut Pending)
     requires short { length text.now ≤ TEXT_MAX }
-    requires room { array_string_len pending.old + ANSWER_MAX ≤ PENDING_MAX }
-    ensures answered { pending.new.bytes
-        ≡ pending.old.bytes ++ (ok_answer text.now ++ line_feed ∷ []) }
+    requires room { array_vec_len pending.old + ANSWER_MAX ≤ PENDING_MAX }
+    ensures answered { pending.new.items
+        ≡ pending.old.items ++ (ok_answer text.now ++ line_feed ∷ []) }
 {
-    pending.push_str("ok ");
-    pending.push_str(text);
-    pending.push('\n');
+    push_bytes(b"ok ", pending);
+    push_bytes(text.as_bytes(), pending);
+    pending.push(b'\n');
 }
 
 /// Appends the answer to a line that was refused: the name of the reason.
 fn refuse(name: &str, pending: &mut Pending)
     requires short { length name.now ≤ TEXT_MAX }
-    requires room { array_string_len pending.old + ANSWER_MAX ≤ PENDING_MAX }
-    ensures answered { pending.new.bytes
-        ≡ pending.old.bytes ++ (err_answer name.now ++ line_feed ∷ []) }
+    requires room { array_vec_len pending.old + ANSWER_MAX ≤ PENDING_MAX }
+    ensures answered { pending.new.items
+        ≡ pending.old.items ++ (err_answer name.now ++ line_feed ∷ []) }
 {
-    pending.push_str("err ");
-    pending.push_str(name);
-    pending.push('\n');
+    push_bytes(b"err ", pending);
+    push_bytes(name.as_bytes(), pending);
+    pending.push(b'\n');
 }

@@ -3,8 +3,8 @@
 
 ghost use Rattle.std.specs.Prelude.{◌≡◌, ◌↔◌, IsTrue, Ok};
 
-use crate::run::RunError;
-use crate::watched::Failed;
+use speedate_stream::Failed;
+use speedate_stream::run::RunError;
 use std::alloc::AllocError;
 
 /// Whether two reasons for which a run ended are equal: false for `Read` and `Write`.

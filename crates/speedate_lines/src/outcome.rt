@@ -3,7 +3,7 @@
 ghost use Rattle.std.specs.Prelude.{◌≡◌};
 ghost use Rattle.speedate_lines.specs.Run.{outcome_of};
 
-use crate::run::RunError;
+use speedate_stream::run::RunError;
 
 /// The exit status and the text for standard error that tell how a run ended: 0 and an empty text if it
 /// answered every line, 1 and `input failed`, or 2 and `output failed`.

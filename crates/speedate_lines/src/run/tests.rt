@@ -4,7 +4,7 @@ mod failures;
 
 use super::{RunError, run};
 use crate::ends::{Sink, Source, same};
-use crate::watched::Watched;
+use speedate_stream::Watched;
 use std::alloc::AllocError;
 use std::process::Abort;
 

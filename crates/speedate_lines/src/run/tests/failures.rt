@@ -2,7 +2,7 @@
 
 use super::{Ended, expect, parts, run_over};
 use crate::ends::{Calls, Sink, Source, same};
-use crate::run::RunError;
+use speedate_stream::run::RunError;
 use std::alloc::AllocError;
 use std::process::Abort;
 

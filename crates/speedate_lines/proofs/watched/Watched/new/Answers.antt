@@ -1,5 +1,0 @@
-use Rattle.std.proofs.Common.{rules}
-use Rattle.speedate_lines.proofs.watched.Watched.new.Goals as goal
-
-pub returns : goal.returns
-returns g c = search rules

@@ -1,0 +1,4 @@
+mod LineOutputLemmas
+mod MachineLemmas
+mod PositionLemmas
+pub mod SentLemmas

@@ -1,0 +1,10 @@
+//! Programs over lines: a [`LineMachine`] says what is printed for each line, and [`run::run`] reads
+//! the lines of an input, writes what is printed, and says what has been read and written where it ends.
+#![tactic(auto)]
+
+mod machine;
+pub mod run;
+mod watched;
+
+pub use machine::{HEAD_MAX, LINE_MAX, LineMachine, PENDING_MAX, Pending, STEP_MAX, push_bytes};
+pub use watched::{Failed, Watched};
