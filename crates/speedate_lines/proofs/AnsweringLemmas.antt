@@ -24,9 +24,9 @@ pub lines_output-answers : (state : Answering) (all : List (List ℕ))
     → lines_output answering state all ≡ answers all
 lines_output-answers state [] = refl
 lines_output-answers state (line ∷ others) =
-    ap (λ (answer : List ℕ). ((answer ++ line_feed ∷ []) ++ []) ++ lines_output answering state others)
-    (line_answer-kept line)
-    ∙ ap (λ (bytes : List ℕ). bytes ++ lines_output answering state others)
+    let rest = lines_output answering state others in
+    ap (λ (answer : List ℕ). ((answer ++ line_feed ∷ []) ++ []) ++ rest) (line_answer-kept line)
+    ∙ ap (λ (bytes : List ℕ). bytes ++ rest)
     (append-nil (line_answer line ++ line_feed ∷ []))
     ∙ ap (λ (bytes : List ℕ). (line_answer line ++ line_feed ∷ []) ++ bytes)
     (lines_output-answers state others)
@@ -37,7 +37,8 @@ progress-answers state text =
     let complete = complete_lines text in
     let line = unfinished_line text in
     let last = state_after answering state complete in
-    ap (λ (test : Bool). lines_output answering state complete ++ (in_line answering last line test).printed)
+    let before = lines_output answering state complete in
+    ap (λ (test : Bool). before ++ (in_line answering last line test).printed)
     (and-false (nat_lt longest_line (length line)))
     ∙ append-nil (lines_output answering state complete)
     ∙ lines_output-answers state complete

@@ -55,7 +55,8 @@ pub lines_output-append : {S : Type 0} (m : Machine S) (state : S) (some others 
 lines_output-append m state [] others = refl
 lines_output-append m state (line ∷ rest) others =
     let next = m.after state (head line) in
-    ap (λ (bytes : List ℕ). line_output m state line ++ bytes) (lines_output-append m next rest others)
+    ap (λ (bytes : List ℕ). line_output m state line ++ bytes)
+    (lines_output-append m next rest others)
     ∙ sym (append_assoc (line_output m state line) (lines_output m next rest)
     (lines_output m (state_after m next rest) others))
 

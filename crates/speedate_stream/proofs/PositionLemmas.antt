@@ -40,7 +40,8 @@ twice first second position =
 -- complete lines, and then pieces
 after_pieces-append : {S : Type 0} (m : Machine S) (state : S) (some others : List (List ℕ))
     (last : List ℕ) → after_pieces m state (some ++ others) last
-    ≡ printed_after (lines_output m state some) (after_pieces m (state_after m state some) others last)
+    ≡ printed_after (lines_output m state some)
+    (after_pieces m (state_after m state some) others last)
 after_pieces-append m state some others last =
     rw (lines_output-append m state some others, state_after-append m state some others)
     (sym (twice (lines_output m state some) (lines_output m (state_after m state some) others)
@@ -114,7 +115,8 @@ quiet-kept m state line more free long none =
 part-longer : (from : ℕ) (line more : List ℕ) → 4096 < length line
     → part_of (Some from) (line ++ more) ≡ part_of (Some from) line ++ more
 part-longer from line more long =
-    ap (λ (seen : List ℕ). drop (min from (length seen)) (line ++ more)) (head-longer line more long)
+    let whole = line ++ more in
+    ap (λ (seen : List ℕ). drop (min from (length seen)) whole) (head-longer line more long)
     ∙ drop-append-le (min from (length (head line))) line more
     (omega (arith, length-take-le 4097 line (omega arith)))
 
@@ -137,8 +139,8 @@ passed-onto_first m state from line [] last long some =
     ap (λ (test : Bool). printed_after [] (in_line m state whole test)) passes
     ∙ ap (λ (front : List ℕ). passing (m.after state front)
     (m.text state front ++ part_of (m.rest state front) whole)) is
-    ∙ ap (λ (rest : Option ℕ). passing (m.after state seen) (m.text state seen ++ part_of rest whole))
-    some
+    ∙ ap (λ (rest : Option ℕ).
+    passing (m.after state seen) (m.text state seen ++ part_of rest whole)) some
     ∙ ap (λ (bytes : List ℕ). passing (m.after state seen) bytes)
     (ap (λ (bytes : List ℕ). m.text state seen ++ bytes) (part-longer from line last long)
     ∙ sym (append_assoc (m.text state seen) (part_of (Some from) line) last))
@@ -149,7 +151,8 @@ passed-onto_first m state from line (first ∷ lines) last long some =
     let text = m.text state seen in
     let is = head-longer line first long in
     let others = λ (front : List ℕ). after_pieces m (m.after state front) lines last in
-    let printed = ap (λ (front : List ℕ). m.text state front ++ rest_of (m.rest state front) whole) is
+    let shown = λ (front : List ℕ). m.text state front ++ rest_of (m.rest state front) whole in
+    let printed = ap shown is
     ∙ ap (λ (rest : Option ℕ). text ++ rest_of rest whole) some
     ∙ ap (λ (bytes : List ℕ). text ++ (bytes ++ line_feed ∷ [])) (part-longer from line first long)
     ∙ ap (λ (bytes : List ℕ). text ++ bytes) (append_assoc part first (line_feed ∷ []))
@@ -186,8 +189,8 @@ in_longer m state line more (Some from) free long some =
     let goes = ap (λ (all : Pieces). after_pieces m state all.complete all.unfinished)
     (pieces-onto_first line more free)
     ∙ passed-onto_first m state from line lines last long some
-    ∙ ap (λ (rest : Option ℕ). printed_after (text ++ part_of rest line) (passed m after lines last))
-    (sym some) in
+    ∙ ap (λ (rest : Option ℕ).
+    printed_after (text ++ part_of rest line) (passed m after lines last)) (sym some) in
     subst (GoesOn m state line more) (sym passes) goes
 
 in_line-more : {S : Type 0} (m : Machine S) (state : S) (line more : List ℕ) → IsFree line

@@ -111,7 +111,8 @@ abbrev pub position_from : {S : Type 0} → Machine S → S → Bool → List �
 position_from m state true text = passed m state (complete_lines text) (unfinished_line text)
 position_from m state false text = position_after m state text
 
--- what is printed at the end of a text for its last line: of one that was printed as it came, its end
+-- what is printed at the end of a text for its last line: of one that was printed as it came, its
+-- end
 abbrev pub ending : {S : Type 0} → Machine S → S → Bool → List ℕ → List ℕ
 ending m state true kept = line_feed ∷ []
 ending m state false kept = lines_output m state (last_line kept)

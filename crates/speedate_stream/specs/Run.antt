@@ -3,7 +3,8 @@ use Rattle.std.specs.Prelude.{◌≡◌, ℕ, ◌≤◌, List, [], ◌++◌, len
 use Rattle.std.specs.Io.KnownBytes.{Consumes, IsAtEnd, Appends}
 use Rattle.speedate_stream.specs.declared.run.RunError.{RunError}
 use Rattle.speedate.specs.Lines.{lines}
-use Rattle.speedate_stream.specs.Machine.{Machine, lines_output, state_after, position_after, progress}
+use Rattle.speedate_stream.specs.Machine.{Machine, lines_output, position_after, progress}
+use Rattle.speedate_stream.specs.Machine.{state_after}
 use Rattle.speedate_stream.specs.Watch.{Watch}
 
 -- how many bytes one read gives at most: as many as fit into the block
@@ -85,7 +86,8 @@ abbrev pub IsDue : {S : Type 0} → Machine S → S → Option (List ℕ) → Li
 IsDue m before unread text due =
     (due ≡ progress m before text) ⊎ (IsAtEnd unread × (due ≡ lines_output m before (lines text)))
 
--- what was written is a beginning of what was due after the last read, and all that was due before it
+-- what was written is a beginning of what was due after the last read, and all that was due before
+-- it
 pub record PrintsBeginning {S : Type 0} (m : Machine S) (before : S)
     (unread_old unread_new old new : Option (List ℕ)) : Type 0 where
   pub earlier : List ℕ

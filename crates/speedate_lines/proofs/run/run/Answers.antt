@@ -32,6 +32,7 @@ returns-in-Err-clause-read_failed g c = λ failed.
 pub returns-in-Err-clause-write_failed : goal.returns-in-Err-clause-write_failed
 returns-in-Err-clause-write_failed g c = λ failed.
     let printed = c.in-Err.ensures.write_failed failed in
+    let text = printed.earlier ++ printed.latest in
     let from = g.W.Write.contents c.args.output.now.inner in
     let to = g.W.Write.contents c.run.new.output.inner in
     record {
@@ -41,8 +42,8 @@ returns-in-Err-clause-write_failed g c = λ failed.
       consumed = printed.consumed;
       one_read = printed.one_read;
       is_due = elim printed.is_due [
-        | inl due ↦ inl (due ∙ progress-answers _ (printed.earlier ++ printed.latest))
-        | inr due ↦ inr (due.0, due.1 ∙ lines_output-answers _ (lines (printed.earlier ++ printed.latest)))
+        | inl due ↦ inl (due ∙ progress-answers _ text)
+        | inr due ↦ inr (due.0, due.1 ∙ lines_output-answers _ (lines text))
       ];
       sent = subst (λ (first : List ℕ). AppendsFrom first from to printed.due)
           (progress-answers _ printed.earlier) printed.sent;

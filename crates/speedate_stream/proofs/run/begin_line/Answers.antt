@@ -11,9 +11,10 @@ returns-in_err-rest-clause-printed g c =
     let text = m.text state (head line) in
     let part = part_of (m.rest state (head line)) line in
     let is = sym c.is_passed.ensures.passed ∙ c.if-not-is_passed.false in
-    let all = ap (λ (passes : Bool). c.args.pending.now.items ++ (in_line m state line passes).printed) is in
+    let old : List ℕ = c.args.pending.now.items in
+    let all = ap (λ (passes : Bool). old ++ (in_line m state line passes).printed) is in
     OnlyWrites-front _ part _ (search rules) c.in_err-rest.ensures.printed
-    (all ∙ sym (append_assoc c.args.pending.now.items text part))
+    (all ∙ sym (append_assoc old text part))
 
 pub returns-in_err-pass_rest-clause-printed : goal.returns-in_err-pass_rest-clause-printed
 returns-in_err-pass_rest-clause-printed g c =
@@ -23,11 +24,14 @@ returns-in_err-pass_rest-clause-printed g c =
     let text = m.text state (head line) in
     let part = part_of c.in_ok-rest.rest line in
     let is = sym c.is_passed.ensures.passed ∙ c.if-not-is_passed.false in
-    let all = ap (λ (passes : Bool). c.args.pending.now.items ++ (in_line m state line passes).printed) is in
-    let same = ap (λ (rest : Option ℕ). c.args.pending.now.items ++ (text ++ part_of rest line)) (sym c.in_ok-rest.ensures.rest) in
-    let sent = OnlyWrites-next part _ c.in_ok-rest.ensures.printed c.in_err-pass_rest.ensures.sent refl in
+    let old : List ℕ = c.args.pending.now.items in
+    let all = ap (λ (passes : Bool). old ++ (in_line m state line passes).printed) is in
+    let same = ap (λ (rest : Option ℕ). old ++ (text ++ part_of rest line))
+    (sym c.in_ok-rest.ensures.rest) in
+    let sent = OnlyWrites-next part _ c.in_ok-rest.ensures.printed
+    c.in_err-pass_rest.ensures.sent refl in
     OnlyWrites-front _ [] _ (search rules) sent
-    (all ∙ same ∙ sym (append_assoc c.args.pending.now.items text part) ∙ sym (append-nil _))
+    (all ∙ same ∙ sym (append_assoc old text part) ∙ sym (append-nil _))
 
 pub returns-clause-printed : goal.returns-clause-printed
 returns-clause-printed g c =
@@ -37,8 +41,10 @@ returns-clause-printed g c =
     let text = m.text state (head line) in
     let part = part_of c.in_ok-rest.rest line in
     let is = sym c.is_passed.ensures.passed ∙ c.if-not-is_passed.false in
-    let all = ap (λ (passes : Bool). c.args.pending.now.items ++ (in_line m state line passes).printed) is in
-    let same = ap (λ (rest : Option ℕ). c.args.pending.now.items ++ (text ++ part_of rest line)) (sym c.in_ok-rest.ensures.rest) in
+    let old : List ℕ = c.args.pending.now.items in
+    let all = ap (λ (passes : Bool). old ++ (in_line m state line passes).printed) is in
+    let same = ap (λ (rest : Option ℕ). old ++ (text ++ part_of rest line))
+    (sym c.in_ok-rest.ensures.rest) in
     let printed = OnlyWrites-next part _ c.in_ok-rest.ensures.printed c.in_ok-pass_rest.ensures.sent
-    (all ∙ same ∙ sym (append_assoc c.args.pending.now.items text part)) in
+    (all ∙ same ∙ sym (append_assoc old text part)) in
     OnlyWrites-value true printed

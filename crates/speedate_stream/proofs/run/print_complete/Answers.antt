@@ -23,8 +23,9 @@ loop-end-preserved g c =
     let is_after = sym c.in_ok-print_line.ensures.state in
     let same = ap (λ (all : Pieces). waiting ++ lines_output m state all.complete) here
     ∙ sym (append_assoc waiting (line_output m state line) (lines_output m after others)) in
+    let rest = lines_output m after others in
     let sent = AppendsBut-trans (AppendsBut-same before.printed same)
-    (AppendsBut-more (lines_output m after others) c.in_ok-print_line.ensures.printed.writes.sent) in
+    (AppendsBut-more rest c.in_ok-print_line.ensures.printed.writes.sent) in
     let printed : List ℕ = c.print_line.new.pending.items in
     record {
       ordered = omega arith;
@@ -81,7 +82,8 @@ returns-in_err-print_line-clause-printed g c =
     let state = c.loop-end.machine in
     let end = c.in-Some.end in
     let line : List ℕ = take (end - c.loop-end.start) (drop c.loop-end.start text) in
-    let others = lines_output m (m.after state (head line)) (complete_lines (drop (end + 1) text)) in
+    let rest = complete_lines (drop (end + 1) text) in
+    let others = lines_output m (m.after state (head line)) rest in
     let waiting : List ℕ = c.loop-end.pending.items in
     let here = pieces-from text c.loop-end.start c.loop-end.searched end before.ordered
     before.one_line c.in-Some.ensures.found in

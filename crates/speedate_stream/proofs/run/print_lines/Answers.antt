@@ -32,7 +32,8 @@ returns-in_err-send-clause-printed g c =
     let is = position-pieces m c.args.machine.now last text rest c.in_ok-start.ensures.state
     (take_rest text c.in_ok-start.start ∙ c.in_ok-start.ensures.unfinished) in
     let printed = (in_line m last rest (is_passed m last rest)).printed in
-    let both = OnlyWrites-next printed _ c.in_ok-start.ensures.printed c.in_ok-passes.ensures.printed
+    let both = OnlyWrites-next printed _ c.in_ok-start.ensures.printed
+    c.in_ok-passes.ensures.printed
     (ap (λ (position : Position _). position.printed) is) in
     OnlyWrites-fails _ _ (search rules) (OnlyWrites-then _ both c.in_err-send.ensures.sent)
 
@@ -45,6 +46,7 @@ returns-then-passes-clause-printed g c =
     let is = position-pieces m c.args.machine.now last text rest c.in_ok-start.ensures.state
     (take_rest text c.in_ok-start.start ∙ c.in_ok-start.ensures.unfinished) in
     let printed = (in_line m last rest (is_passed m last rest)).printed in
-    let both = OnlyWrites-next printed _ c.in_ok-start.ensures.printed c.in_ok-passes.ensures.printed
+    let both = OnlyWrites-next printed _ c.in_ok-start.ensures.printed
+    c.in_ok-passes.ensures.printed
     (ap (λ (position : Position _). position.printed) is) in
     OnlyWrites-value _ (OnlyWrites-then _ both c.in_ok-send.ensures.sent)

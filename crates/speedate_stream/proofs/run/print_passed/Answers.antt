@@ -8,34 +8,42 @@ use Rattle.speedate_stream.proofs.run.print_passed.Goals as goal
 
 pub returns-in_err-write_all-clause-printed : goal.returns-in_err-write_all-clause-printed
 returns-in_err-write_all-clause-printed g c =
-    let is = passed-rest g.M.LineMachine.machine c.args.machine.now c.args.text.now c.in_default.ensures.found in
+    let m = g.M.LineMachine.machine in
+    let is = passed-rest m c.args.machine.now c.args.text.now c.in_default.ensures.found in
     OnlyWrites-bytes (ap (λ (position : Position _). position.printed) is)
     (OnlyWrites-fails _ _ (search rules) c.in_err-write_all.ensures.sent)
 
 pub returns-in_default-clause-printed : goal.returns-in_default-clause-printed
 returns-in_default-clause-printed g c =
-    let is = passed-rest g.M.LineMachine.machine c.args.machine.now c.args.text.now c.in_default.ensures.found in
+    let m = g.M.LineMachine.machine in
+    let is = passed-rest m c.args.machine.now c.args.text.now c.in_default.ensures.found in
     OnlyWrites-bytes (ap (λ (position : Position _). position.printed) is)
     (OnlyWrites-value _ c.in_ok-write_all.ensures.sent)
 
 pub returns-in_default-clause-state : goal.returns-in_default-clause-state
 returns-in_default-clause-state g c =
-    let is = passed-rest g.M.LineMachine.machine c.args.machine.now c.args.text.now c.in_default.ensures.found in
+    let m = g.M.LineMachine.machine in
+    let is = passed-rest m c.args.machine.now c.args.text.now c.in_default.ensures.found in
     sym (ap (λ (position : Position _). position.state) is)
 
 pub returns-in_default-clause-passes : goal.returns-in_default-clause-passes
 returns-in_default-clause-passes g c =
-    let is = passed-rest g.M.LineMachine.machine c.args.machine.now c.args.text.now c.in_default.ensures.found in
+    let m = g.M.LineMachine.machine in
+    let is = passed-rest m c.args.machine.now c.args.text.now c.in_default.ensures.found in
     sym (ap (λ (position : Position _). position.passes) is)
 
 pub returns-in_default-clause-kept : goal.returns-in_default-clause-kept
 returns-in_default-clause-kept g c =
-    let is = passed-rest g.M.LineMachine.machine c.args.machine.now c.args.text.now c.in_default.ensures.found in
-    ap head (drop_all _ c.args.text.now (omega arith)) ∙ sym (ap (λ (position : Position _). position.kept) is)
+    let m = g.M.LineMachine.machine in
+    let is = passed-rest m c.args.machine.now c.args.text.now c.in_default.ensures.found in
+    ap head (drop_all _ c.args.text.now (omega arith))
+    ∙ sym (ap (λ (position : Position _). position.kept) is)
 
 pub returns-in_err-write_all-2-clause-printed : goal.returns-in_err-write_all-2-clause-printed
 returns-in_err-write_all-2-clause-printed g c =
-    let is = passed-line g.M.LineMachine.machine c.args.machine.now c.args.text.now c.in-Some.end (drop (c.in-Some.end + 1) c.args.text.now) c.in-Some.ensures.found refl in
+    let text : List ℕ = c.args.text.now in
+    let is = passed-line g.M.LineMachine.machine c.args.machine.now text c.in-Some.end
+    (drop (c.in-Some.end + 1) text) c.in-Some.ensures.found refl in
     OnlyWrites-front _ _ _ (search rules) c.in_err-write_all-2.ensures.sent
     (ap (λ (position : Position _). position.printed) is)
 

@@ -73,8 +73,8 @@ returns-in-Ok-finish-clause-ended g c =
     let filled = c.in-Ok.ensures.filled in
     let ended = filled.nothing c.if-filled-kept.true in
     let last : List ℕ = take c.loop-block.kept c.fill.new.block in
-    let kept = still_kept c.loop-block.kept c.in-Ok.filled c.loop-block.block c.fill.new.block filled.more
-    _ before.5 filled.text c.if-filled-kept.true ended.0 in
+    let kept = still_kept c.loop-block.kept c.in-Ok.filled c.loop-block.block c.fill.new.block
+    filled.more _ before.5 filled.text c.if-filled-kept.true ended.0 in
     let whole = ap (λ (more : List ℕ). read ++ more) ended.0 ∙ append-nil read in
     let both = Consumes-trans _ _ _ read filled.more before.1 filled.consumed in
     let all = lines_output-ended m c.args.machine.now c.loop-block.machine c.loop-block.passes read
@@ -99,8 +99,8 @@ returns-in-Err-clause-write_failed g c = λ write.
     let filled = c.in-Ok.ensures.filled in
     let ended = filled.nothing c.if-filled-kept.true in
     let last : List ℕ = take c.loop-block.kept c.fill.new.block in
-    let kept = still_kept c.loop-block.kept c.in-Ok.filled c.loop-block.block c.fill.new.block filled.more
-    _ before.5 filled.text c.if-filled-kept.true ended.0 in
+    let kept = still_kept c.loop-block.kept c.in-Ok.filled c.loop-block.block c.fill.new.block
+    filled.more _ before.5 filled.text c.if-filled-kept.true ended.0 in
     let whole = ap (λ (more : List ℕ). read ++ more) ended.0 ∙ append-nil read in
     let all = lines_output-ended m c.args.machine.now c.loop-block.machine c.loop-block.passes read
     last before.3 before.4 kept in
@@ -153,11 +153,13 @@ returns-in-Err-flush-clause-write_failed g c = λ write.
       due = printed;
       consumed = subst (Consumes _ _) (sym (append-nil read)) before.1;
       one_read = search rules;
-      is_due = inl (ap (λ (text : List ℕ). progress m c.args.machine.now text) (sym (append-nil read)));
+      is_due = inl
+          (ap (λ (text : List ℕ). progress m c.args.machine.now text) (sym (append-nil read)));
       sent = record {
         further = [];
         left = [];
-        sent = subst (Appends _ _) nothing (Appends-kept _ _ _ _ before.2 c.in-Err-flush.ensures.bytes);
+        sent = subst (Appends _ _) nothing
+            (Appends-kept _ _ _ _ before.2 c.in-Err-flush.ensures.bytes);
         whole = nothing ∙ sym (append-nil (printed ++ []));
       };
     }

@@ -3,8 +3,8 @@ use Rattle.std.specs.Io.KnownBytes.{Appends, Consumes}
 use Rattle.speedate_stream.specs.Machine.{longest_line, position_after, progress}
 use Rattle.speedate_stream.proofs.run.run.Given as goal
 
--- the machine is where what has been read leads it, what it printed is written, and the front of the
--- block is what is kept of the unfinished line
+-- the machine is where what has been read leads it, what it printed is written, and the front of
+-- the block is what is kept of the unfinished line
 abbrev pub invariant-loop-block : goal.invariant-loop-block
 invariant-loop-block g l = record {
   empty : l.pending.items ≡ [];
