@@ -6,17 +6,10 @@
 
 # What the programs and the C functions stand on, lowest first.
 libraries='speedate_base speedate_civil speedate'
-
-# is_listed CRATE: whether it is among the crates.
-is_listed() {
-    grep -q "^$1:" "$root/crates.txt"
-}
-
 # What the programs stand on besides, and the programs.
-engine=
+engine=speedate_stream
 programs=speedate_lines
-! is_listed speedate_stream || engine=speedate_stream
-! is_listed speedate_cli || programs='speedate_lines speedate'
+! grep -q '^speedate_cli:' "$root/crates.txt" || programs='speedate_lines speedate'
 
 # crate_of PROGRAM: prints the crate of a program.
 crate_of() {
