@@ -1,0 +1,6 @@
+mod ReadingLemmas
+mod WordLemmas
+mod SeenLemmas
+mod EntryLemmas
+mod RunLemmas
+mod LineLemmas

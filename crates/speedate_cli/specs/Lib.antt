@@ -1,0 +1,9 @@
+pub mod Reading
+pub mod Scan
+pub mod Print
+pub mod Check
+pub mod Between
+pub mod Order
+pub mod Convert
+pub mod Entries
+pub mod Runs

@@ -1,0 +1,200 @@
+//! The command `convert`: each line with its value written anew.
+
+ghost use Rattle.std.specs.Prelude.{◌≡◌, ◌+◌, ◌++◌, ◌≤◌, IfSome, length, take, Err, OnOk, false, true};
+ghost use Rattle.arrayvec.specs.ArrayVec.{array_vec_len};
+ghost use Rattle.speedate.specs.DateTime.{date_and_time};
+ghost use Rattle.speedate.specs.Requirement.{result_map};
+ghost use Rattle.speedate_cli.specs.Convert.{convert_line, convert_rest, convert_text, target_place};
+ghost use Rattle.speedate_cli.specs.Convert.{targeted, written_text, written_value};
+ghost use Rattle.speedate_cli.specs.Reading.{IsWithin, seen};
+ghost use Rattle.speedate_cli.specs.Scan.{IsFoundWithin};
+ghost use Rattle.speedate_cli.specs.Convert.{convert_lines, convert_machine};
+ghost use Rattle.speedate_cli.specs.Runs.{EndsWith};
+ghost use Rattle.speedate_stream.specs.Run.{EndsBy, PrintsBeginning, PrintsProgress};
+
+use crate::print::Prefix;
+use crate::reading::{Bad, Form, Found, Why};
+use crate::scan::{Line, Scan};
+use speedate::DateTime;
+use speedate_stream::run::{RunError, run};
+use speedate_stream::{LineMachine, PENDING_MAX, Pending, STEP_MAX, Watched, push_bytes};
+use std::io::{Read, Write};
+
+/// At which offset values are written.
+#[derive(Clone, Copy, Debug)]
+pub enum Target {
+    /// Each at its own.
+    Own,
+    /// All at this one, in seconds.
+    Offset(i32),
+}
+
+/// Prints each line with its value written anew, and its other bytes as they are.
+#[derive(Clone, Copy)]
+pub struct Convert<'a> {
+    /// What is known of the lines so far.
+    pub scan: Scan<'a>,
+    /// What is printed before each line.
+    pub prefix: Prefix,
+    /// At which offset values are written.
+    pub target: Target,
+}
+
+/// The byte to report of a value that cannot be written: the end of one without an offset, or else its
+/// first byte.
+fn target_place(found: &Found) -> usize
+    ensures place { result ≡ target_place found.now }
+{
+    if found.offset.is_some() {
+        found.from
+    } else {
+        found.to
+    }
+}
+
+/// The bytes of a line before its value.
+fn before_value<'h>(head: &'h [u8], found: &Found) -> &'h [u8]
+    requires { IsWithin found.now head.now }
+    ensures text { result.now ≡ take found.now.from head.now }
+    ensures short { length result.now ≤ 4096 }
+{
+    &head[..found.from]
+}
+
+impl Target {
+    /// A value as it is written.
+    fn targeted(&self, found: &Found, value: DateTime) -> Result<DateTime, Bad>
+        ensures value { result_map date_and_time result
+            ≡ targeted self.now found.now (date_and_time value) }
+    {
+        let Target::Offset(offset) = self else {
+            return Ok(value);
+        };
+        match value.in_timezone(*offset) {
+            Ok(moved) => Ok(moved),
+            Err(fault) => Err(Bad {
+                place: target_place(found),
+                why: Why::Parse(fault),
+            }),
+        }
+    }
+}
+
+/// Appends a value: a date for dates, otherwise a date-time.
+#[tactic(auto, unfolding(crate::specs::Convert::written_text))]
+fn push_value(form: Form, value: &DateTime, pending: &mut Pending)
+    requires room { array_vec_len pending.old + 32 ≤ PENDING_MAX }
+    ensures pushed { pending.new.items
+        ≡ pending.old.items ++ written_text form (date_and_time value.now) }
+    ensures length { array_vec_len pending.new ≤ array_vec_len pending.old + 32 }
+{
+    match form {
+        Form::Date => push_bytes(value.date.to_text().as_str().as_bytes(), pending),
+        _ => push_bytes(value.to_text().as_str().as_bytes(), pending),
+    }
+}
+
+impl Convert<'_> {
+    /// The value of a line as it is written, or what is bad about it.
+    #[tactic(auto, unfolding(crate::specs::Convert::written_value))]
+    fn written(&self, head: &[u8], found: &Found) -> Result<DateTime, Bad>
+        requires within { found.now.from ≤ length (seen head.now) }
+        ensures value { result_map date_and_time result ≡ written_value self.now head.now found.now }
+    {
+        match self.scan.reader.value_at(head, found.from) {
+            Ok((value, _)) => self.target.targeted(found, value),
+            Err(bad) => Err(bad),
+        }
+    }
+
+    /// What a line is: one whose value cannot be written is bad.
+    fn line(&self, head: &[u8]) -> Line
+        ensures line { result ≡ convert_line self.now head.now }
+        ensures within { IsFoundWithin result head.now }
+    {
+        let line = self.scan.line(head);
+        if let Line::Value(found) = &line {
+            if let Err(bad) = self.written(head, found) {
+                return Line::Bad(bad);
+            }
+        }
+        line
+    }
+
+    /// Appends what stands before the rest of a line, and returns the byte from which on that follows.
+    fn push_line(&self, head: &[u8], line: &Line, pending: &mut Pending) -> Option<usize>
+        requires within { IsFoundWithin line.now head.now }
+        requires room { array_vec_len pending.old + STEP_MAX ≤ PENDING_MAX }
+        ensures pushed { pending.new.items
+            ≡ pending.old.items ++ convert_text self.now head.now line.now }
+        ensures length { array_vec_len pending.new ≤ array_vec_len pending.old + STEP_MAX }
+        ensures rest { result ≡ convert_rest self.now line.now }
+        ensures within { IfSome result (λ from. from ≤ length head.now) }
+    {
+        if !self.scan.keeps(line) {
+            return None;
+        }
+        self.prefix
+            .push_onto(self.scan.name, self.scan.next_number(), pending);
+        let Line::Value(found) = line else {
+            return Some(0);
+        };
+        push_bytes(before_value(head, found), pending);
+        if let Ok(value) = self.written(head, found) {
+            push_value(self.scan.reader.form, &value, pending);
+        }
+        Some(found.to)
+    }
+}
+
+impl LineMachine for Convert<'_> {
+    ghost use Rattle.speedate_cli.specs.Convert.{convert_machine};
+
+    ghost machine = { convert_machine };
+
+    fn is_done(&self) -> bool {
+        self.scan.is_stopped()
+    }
+
+    fn passes(&self, head: &[u8]) -> bool {
+        self.scan.keeps(&self.line(head))
+    }
+
+    fn step(&mut self, head: &[u8], pending: &mut Pending) -> Option<usize> {
+        let line = self.line(head);
+        let rest = self.push_line(head, &line, pending);
+        self.scan.pass(line);
+        rest
+    }
+}
+
+/// Prints each line of an input with its value written anew, and its other bytes as they are.
+///
+/// Fails with `RunError::Read` if a read fails, with `RunError::Write` if a write or the flush does.
+pub fn print_converted<R: Read, W: Write>(
+    command: &mut Convert<'_>,
+    input: &mut Watched<R>,
+    output: &mut Watched<W>,
+) -> Result<(), RunError>
+    // If neither end had failed before, one has failed if and only if the answer says so.
+    ensures failed { input.old.failed ≡ false → output.old.failed ≡ false →
+        EndsBy result input.new.failed output.new.failed }
+    ensures ended { OnOk result (EndsWith convert_machine (convert_lines command.old)
+        command.old command.new
+        (R.remaining input.old.inner) (R.remaining input.new.inner)
+        (W.contents output.old.inner) (W.contents output.new.inner)) }
+    ensures flushed { OnOk result (output.new.flushed ≡ true) }
+    // After a failed read what was written is what is printed for all that was read.
+    ensures read_failed { result ≡ Err RunError.Read → PrintsProgress convert_machine command.old
+        command.new (R.remaining input.old.inner) (R.remaining input.new.inner)
+        (W.contents output.old.inner) (W.contents output.new.inner) }
+    // After a failed write it is a beginning of what was due.
+    ensures write_failed { result ≡ Err RunError.Write → PrintsBeginning convert_machine command.old
+        (R.remaining input.old.inner) (R.remaining input.new.inner)
+        (W.contents output.old.inner) (W.contents output.new.inner) }
+{
+    match run(command, input, output) {
+        Ok(()) => Ok(()),
+        Err(error) => Err(error),
+    }
+}

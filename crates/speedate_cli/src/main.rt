@@ -1,0 +1,118 @@
+//! Selects, orders, converts and checks lines by their date-times.
+#![tactic(auto)]
+
+mod between;
+mod check;
+mod convert;
+mod options;
+mod order;
+mod print;
+mod reading;
+mod scan;
+mod session;
+
+use between::Between;
+use check::Check;
+use clap::ArgMatches;
+use convert::Convert;
+use options::{Options, Refusal};
+use order::Order;
+use reading::{Bad, Why};
+use scan::{Offsets, REPORTS_MAX, Report, Scan, Stop};
+use speedate::MicrosecondsPrecisionOverflowBehavior::{Error, Truncate};
+use std::process::ExitCode;
+
+/// The status of a command line that is refused.
+const USAGE: u8 = 2;
+
+fn main(rt: HostRuntime) -> anyhow::Result<ExitCode> {
+    let alloc = rt.alloc();
+    let words: Vec<String> = std::env::args(&rt)?.collect(alloc)?;
+    let program = options::program(alloc)?;
+    let matches = match program.try_get_matches_from(words.as_slice()) {
+        Ok(matches) => matches,
+        Err(error) => {
+            let status = if error.use_stderr() { USAGE } else { 0 };
+            error.print(&rt)?;
+            return Ok(ExitCode::from(status));
+        }
+    };
+    let Some((name, given)) = matches.subcommand() else {
+        return Ok(ExitCode::from(USAGE));
+    };
+    match run(&rt, name, given) {
+        Ok(status) => Ok(ExitCode::from(status)),
+        Err(refusal) => {
+            eprintln!(rt; "error: {refusal}")?;
+            Ok(ExitCode::from(USAGE))
+        }
+    }
+}
+
+/// Runs a command by its name and what it was given, and returns the exit status.
+fn run(rt: &HostRuntime, name: &str, given: &ArgMatches<'_>) -> Result<u8, Refusal> {
+    let files = given.get_strs("FILE").unwrap_or(&[]);
+    match name {
+        "between" => {
+            let options = options::common(given, Truncate)?;
+            let (bounds, offsets) = options::bounds(given, options.reader.offset)?;
+            let mut machine = Between {
+                scan: first_scan(&options, offsets),
+                bounds,
+                prefix: options.prefix,
+                is_kept: false,
+                has_value: false,
+                before: 0,
+            };
+            Ok(session::run_files(rt, &mut machine, files))
+        }
+        "check" => {
+            let options = options::common(given, Error)?;
+            let mut machine = Check {
+                scan: first_scan(&options, Offsets::Any),
+            };
+            Ok(session::run_files(rt, &mut machine, files))
+        }
+        "convert" => {
+            let options = options::common(given, Error)?;
+            let mut machine = Convert {
+                scan: first_scan(&options, Offsets::Any),
+                prefix: options.prefix,
+                target: options::target(given)?,
+            };
+            Ok(session::run_files(rt, &mut machine, files))
+        }
+        _ => {
+            let options = options::common(given, Truncate)?;
+            let mut machine = Order {
+                scan: first_scan(&options, Offsets::AsFirst),
+                latest: None,
+                late: 0,
+            };
+            Ok(session::run_files(rt, &mut machine, files))
+        }
+    }
+}
+
+/// What is known before the first line.
+fn first_scan<'a>(options: &Options<'a>, offsets: Offsets) -> Scan<'a> {
+    let nothing = Report {
+        number: 0,
+        bad: Bad {
+            place: 0,
+            why: Why::Within,
+        },
+    };
+    Scan {
+        reader: options.reader,
+        undated_lines: options.undated_lines,
+        bad_lines: options.bad_lines,
+        has_header: options.has_header,
+        name: b"-",
+        number: 0,
+        offsets,
+        stop: Stop::No,
+        bad: 0,
+        reports: [nothing; REPORTS_MAX],
+    }
+}

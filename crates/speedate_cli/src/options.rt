@@ -1,0 +1,322 @@
+//! The command line.
+
+ghost use Rattle.std.specs.Prelude.{◌≡◌, ◌≤◌};
+
+use crate::between::Bounds;
+use crate::convert::Target;
+use crate::print::Prefix;
+use crate::reading::{Form, Place, Reader};
+use crate::scan::{BadLines, Offsets, UndatedLines};
+use arrayvec::ArrayVec;
+use clap::{Arg, ArgAction, ArgMatches, Command};
+use speedate::{Date, DateTime, MicrosecondsPrecisionOverflowBehavior, Time};
+use std::alloc::{AllocError, Global};
+
+/// What the command line asks for that every command has.
+#[derive(Clone, Copy)]
+pub struct Options<'a> {
+    /// How values are read.
+    pub reader: Reader<'a>,
+    /// What is done with lines that have no value.
+    pub undated_lines: UndatedLines,
+    /// What is done with lines whose value is bad.
+    pub bad_lines: BadLines,
+    /// Whether the first line of a file is a header.
+    pub has_header: bool,
+    /// What is printed before each line.
+    pub prefix: Prefix,
+}
+
+/// Why the command line is refused, for people.
+pub type Refusal = &'static str;
+
+/// What a command of the program takes.
+#[derive(Clone, Copy, PartialEq, Eq)]
+enum Prints {
+    /// It prints no lines of its input.
+    Reports,
+    /// It prints lines of its input.
+    Lines,
+}
+
+/// The program's command line.
+pub fn program<'a>(alloc: Global) -> Result<Command<'a>, AllocError> {
+    let between = Command::new(alloc, "between")
+        .about("Prints the entries with FROM <= instant < TO; a bound of .. is open")
+        .arg(bound(alloc, "FROM"))?
+        .arg(bound(alloc, "TO"))?;
+    let check = Command::new(alloc, "check").about(
+        "Prints FILE:LINE:COLUMN: expected .. for each bad value",
+    );
+    let convert = Command::new(alloc, "convert")
+        .about("Prints each line with its value written anew, the other bytes as they are")
+        .arg(valued(alloc, "to", "WHAT").help(
+            "How a value is written: text, utc, or an offset +HH:MM [default: text]",
+        ))?;
+    let order = Command::new(alloc, "order").about(
+        "Prints each value that is earlier than the one before, and by how much",
+    );
+    Command::new(alloc, "speedate")
+        .version("1.0.0")
+        .bin_name("speedate")?
+        .about("Selects, orders, converts and checks lines by their date-times")
+        .subcommand_required(true)
+        .arg_required_else_help(true)
+        .subcommand(with_common(alloc, between, Prints::Lines)?)?
+        .subcommand(with_common(alloc, check, Prints::Reports)?)?
+        .subcommand(with_common(alloc, convert, Prints::Lines)?)?
+        .subcommand(with_common(alloc, order, Prints::Reports)?)
+}
+
+/// A command with what every command takes.
+fn with_common<'a>(
+    alloc: Global,
+    command: Command<'a>,
+    prints: Prints,
+) -> Result<Command<'a>, AllocError> {
+    let command = command
+        .arg(
+            valued(alloc, "after", "TEXT")
+                .allow_hyphen_values(true)
+                .help("The value stands after the first TEXT of a line [default: at its front]"),
+        )?
+        .arg(valued(alloc, "kind", "KIND").help("datetime or date [default: datetime]"))?
+        .arg(flag(alloc, "strict").help("RFC 3339 and nothing else"))?
+        .arg(valued(alloc, "digits", "WHAT").help("Digits past the sixth: refuse or truncate"))?
+        .arg(
+            valued(alloc, "offset", "OFFSET")
+                .allow_hyphen_values(true)
+                .help("utc or +HH:MM for values and bounds that have none"),
+        )?
+        .arg(valued(alloc, "undated", "WHAT").help(
+            "Lines without a value: join, drop or bad [default: join]",
+        ))?
+        .arg(valued(alloc, "bad", "WHAT").help(
+            "Lines with a bad value: keep, drop or stop [default: keep]",
+        ))?
+        .arg(flag(alloc, "header").help("The first line of each file is left as it is"))?;
+    let command = match prints {
+        Prints::Lines => with_prefix(alloc, command)?,
+        Prints::Reports => command,
+    };
+    command.arg(
+        Arg::new(alloc, "FILE")
+            .action(ArgAction::Append)
+            .num_args(0..)
+            .help("The files; none, or -, is standard input"),
+    )
+}
+
+/// A command with what it prints before each line.
+fn with_prefix<'a>(alloc: Global, command: Command<'a>) -> Result<Command<'a>, AllocError> {
+    command
+        .arg(
+            flag(alloc, "number")
+                .short('n')
+                .help("The line's number before each line"),
+        )?
+        .arg(
+            flag(alloc, "name")
+                .short('H')
+                .help("The file's name before each line"),
+        )
+}
+
+/// An option without a value.
+fn flag<'a>(alloc: Global, name: &'a str) -> Arg<'a> {
+    Arg::new(alloc, name).long(name).action(ArgAction::SetTrue)
+}
+
+/// An option with a value.
+fn valued<'a>(alloc: Global, name: &'a str, value: &'a str) -> Arg<'a> {
+    Arg::new(alloc, name)
+        .long(name)
+        .value_name(value)
+        .action(ArgAction::Set)
+}
+
+/// A bound of `between`.
+fn bound<'a>(alloc: Global, name: &'a str) -> Arg<'a> {
+    Arg::new(alloc, name)
+        .required(true)
+        .action(ArgAction::Set)
+        .help("A date-time, a date, which is its midnight, or ..")
+}
+
+/// What every command has, by a default for digits past the sixth.
+pub fn common<'a>(
+    matches: &ArgMatches<'a>,
+    digits: MicrosecondsPrecisionOverflowBehavior,
+) -> Result<Options<'a>, Refusal> {
+    Ok(Options {
+        reader: reader(matches, digits)?,
+        undated_lines: undated_lines(matches)?,
+        bad_lines: bad_lines(matches)?,
+        has_header: matches.get_flag("header"),
+        prefix: Prefix {
+            has_name: matches.get_flag("name"),
+            has_number: matches.get_flag("number"),
+        },
+    })
+}
+
+/// How values are read.
+fn reader<'a>(
+    matches: &ArgMatches<'a>,
+    digits: MicrosecondsPrecisionOverflowBehavior,
+) -> Result<Reader<'a>, Refusal> {
+    let place = match matches.get_str("after") {
+        None => Place::Front,
+        Some(text) if text.is_empty() => return Err("--after wants a text that is not empty"),
+        Some(text) => Place::After(text.as_bytes()),
+    };
+    Ok(Reader {
+        place,
+        form: form(matches)?,
+        behavior: behavior(matches, digits)?,
+        offset: offset(matches)?,
+    })
+}
+
+/// What a value is.
+fn form(matches: &ArgMatches<'_>) -> Result<Form, Refusal> {
+    match matches.get_str("kind") {
+        None | Some("datetime") if matches.get_flag("strict") => Ok(Form::Strict),
+        None | Some("datetime") => Ok(Form::DateTime),
+        Some("date") => Ok(Form::Date),
+        _ => Err("--kind is datetime or date"),
+    }
+}
+
+/// What is done with digits past the sixth.
+fn behavior(
+    matches: &ArgMatches<'_>,
+    digits: MicrosecondsPrecisionOverflowBehavior,
+) -> Result<MicrosecondsPrecisionOverflowBehavior, Refusal> {
+    match matches.get_str("digits") {
+        None => Ok(digits),
+        Some("refuse") => Ok(MicrosecondsPrecisionOverflowBehavior::Error),
+        Some("truncate") => Ok(MicrosecondsPrecisionOverflowBehavior::Truncate),
+        _ => Err("--digits is refuse or truncate"),
+    }
+}
+
+/// The offset of values and bounds that have none.
+fn offset(matches: &ArgMatches<'_>) -> Result<Option<i32>, Refusal> {
+    match matches.get_str("offset") {
+        None => Ok(None),
+        Some(text) => match offset_of(text.as_bytes()) {
+            Some(offset) => Ok(Some(offset)),
+            None => Err("--offset is utc or +HH:MM"),
+        },
+    }
+}
+
+/// What is done with lines that have no value.
+fn undated_lines(matches: &ArgMatches<'_>) -> Result<UndatedLines, Refusal> {
+    match matches.get_str("undated") {
+        None | Some("join") => Ok(UndatedLines::Join),
+        Some("drop") => Ok(UndatedLines::Drop),
+        Some("bad") => Ok(UndatedLines::Bad),
+        _ => Err("--undated is join, drop or bad"),
+    }
+}
+
+/// What is done with lines whose value is bad.
+fn bad_lines(matches: &ArgMatches<'_>) -> Result<BadLines, Refusal> {
+    match matches.get_str("bad") {
+        None | Some("keep") => Ok(BadLines::Keep),
+        Some("drop") => Ok(BadLines::Drop),
+        Some("stop") => Ok(BadLines::Stop),
+        _ => Err("--bad is keep, drop or stop"),
+    }
+}
+
+/// At which offset values are written.
+pub fn target(matches: &ArgMatches<'_>) -> Result<Target, Refusal> {
+    match matches.get_str("to") {
+        None | Some("text") => Ok(Target::Own),
+        Some(text) => match offset_of(text.as_bytes()) {
+            Some(offset) => Ok(Target::Offset(offset)),
+            None => Err("--to is text, utc or +HH:MM"),
+        },
+    }
+}
+
+/// The seconds of an offset: 0 of `utc`, 3,600 of `+01:00`.
+fn offset_of(text: &[u8]) -> Option<i32> {
+    if text == b"utc".as_slice() {
+        return Some(0);
+    }
+    if text.len() != 6 || !matches!(text[0], b'+' | b'-') {
+        return None;
+    }
+    let mut midnight = ArrayVec::<u8, 16>::new();
+    let _ = midnight.try_extend_from_slice(b"00:00");
+    let _ = midnight.try_extend_from_slice(text);
+    match Time::parse_bytes(midnight.as_slice()) {
+        Ok(time) => time.tz_offset,
+        Err(_) => None,
+    }
+}
+
+/// A bound: its microsecond, and whether it has an offset, or open.
+type Bound = Option<(i64, bool)>;
+
+/// The bounds of `between`, and which values fit them.
+pub fn bounds(matches: &ArgMatches<'_>, offset: Option<i32>) -> Result<(Bounds, Offsets), Refusal> {
+    let from = bound_of(matches.get_str("FROM"), offset)?;
+    let to = bound_of(matches.get_str("TO"), offset)?;
+    let offsets = match (from, to) {
+        (Some((_, first)), Some((_, second))) if first != second => {
+            return Err("FROM and TO both have an offset or neither; --offset gives them one");
+        }
+        (Some((first, _)), Some((second, _))) if first > second => {
+            return Err("FROM is after TO");
+        }
+        (Some((_, has_offset)), _) | (None, Some((_, has_offset))) => {
+            Offsets::AsBounds(has_offset)
+        }
+        (None, None) => Offsets::Any,
+    };
+    let bounds = Bounds {
+        from: instant_of(from),
+        to: instant_of(to),
+    };
+    Ok((bounds, offsets))
+}
+
+/// The microsecond of a bound, unless it is open.
+fn instant_of(bound: Bound) -> Option<i64> {
+    match bound {
+        Some((instant, _)) => Some(instant),
+        None => None,
+    }
+}
+
+/// A bound by its text.
+fn bound_of(text: Option<&str>, offset: Option<i32>) -> Result<Bound, Refusal> {
+    let Some(text) = text else {
+        return Ok(None);
+    };
+    if text == ".." {
+        return Ok(None);
+    }
+    let Some(value) = bound_value(text.as_bytes()) else {
+        return Err("a bound is a date-time, as 2026-11-22T06:10Z, a date, or ..");
+    };
+    let value = crate::reading::assume(offset, value);
+    let has_offset = value.time.tz_offset.is_some();
+    Ok(Some((value.timestamp_tz_us(), has_offset)))
+}
+
+/// The date-time of a bound, or the midnight of its date.
+fn bound_value(text: &[u8]) -> Option<DateTime> {
+    if let Ok(value) = DateTime::parse_bytes_rfc3339(text) {
+        return Some(value);
+    }
+    match Date::parse_bytes_rfc3339(text) {
+        Ok(date) => Some(crate::reading::midnight_of(date)),
+        Err(_) => None,
+    }
+}

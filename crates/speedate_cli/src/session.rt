@@ -1,0 +1,359 @@
+//! The inputs of a run, one after the other, and what is told of them on standard error.
+
+ghost use Rattle.std.specs.Prelude.{◌+◌, ◌≤◌};
+ghost use Rattle.arrayvec.specs.ArrayVec.{array_vec_len};
+
+use crate::between::{Between, print_entries};
+use crate::check::{Check, print_reports};
+use crate::convert::{Convert, print_converted};
+use crate::order::{Order, print_late};
+use crate::print::{push_line_place, push_report};
+use crate::scan::{Offsets, Report, Scan, Stop};
+use speedate_stream::run::RunError;
+use speedate_stream::{PENDING_MAX, Pending, Watched, push_bytes};
+use std::fs;
+use std::io::{self, ErrorKind, Read, Write};
+use std::os::unix::fs::MetadataExt;
+
+/// The status of a run in which a value was bad, or values were out of order.
+const BAD: u8 = 1;
+
+/// The status of a run whose first value did not fit the bounds.
+const UNFIT: u8 = 2;
+
+/// The status of a run of which a file could not be read.
+const READ: u8 = 3;
+
+/// The status of a run of which a write failed.
+const WRITE: u8 = 4;
+
+/// A command over the lines of several files.
+pub trait Session<'a> {
+    /// Prints what the command prints of an input.
+    fn print<R: Read, W: Write>(
+        &mut self,
+        input: &mut Watched<R>,
+        output: &mut Watched<W>,
+    ) -> Result<(), RunError>;
+
+    /// Begins a file with this name.
+    fn begin(&mut self, name: &'a [u8]);
+
+    /// What is known of the lines so far.
+    fn scan(&self) -> Scan<'a>;
+
+    /// Whether bad values are reported on standard error.
+    fn reports_bad(&self) -> bool;
+
+    /// How many lines before the first value were not printed.
+    fn left_out(&self) -> u64;
+
+    /// How many values were out of order.
+    fn out_of_order(&self) -> u64;
+
+    /// Appends what is printed after the last file.
+    fn push_end(&self, pending: &mut Pending)
+        requires room { array_vec_len pending.old + 4600 ≤ PENDING_MAX };
+}
+
+impl<'a> Session<'a> for Between<'a> {
+    fn print<R: Read, W: Write>(
+        &mut self,
+        input: &mut Watched<R>,
+        output: &mut Watched<W>,
+    ) -> Result<(), RunError> {
+        print_entries(self, input, output)
+    }
+
+    fn begin(&mut self, name: &'a [u8]) {
+        self.scan.begin(name);
+    }
+
+    fn scan(&self) -> Scan<'a> {
+        self.scan
+    }
+
+    fn reports_bad(&self) -> bool {
+        true
+    }
+
+    fn left_out(&self) -> u64 {
+        self.before
+    }
+
+    fn out_of_order(&self) -> u64 {
+        0
+    }
+
+    fn push_end(&self, _pending: &mut Pending) {}
+}
+
+impl<'a> Session<'a> for Check<'a> {
+    fn print<R: Read, W: Write>(
+        &mut self,
+        input: &mut Watched<R>,
+        output: &mut Watched<W>,
+    ) -> Result<(), RunError> {
+        print_reports(self, input, output)
+    }
+
+    fn begin(&mut self, name: &'a [u8]) {
+        self.scan.begin(name);
+    }
+
+    fn scan(&self) -> Scan<'a> {
+        self.scan
+    }
+
+    fn reports_bad(&self) -> bool {
+        false
+    }
+
+    fn left_out(&self) -> u64 {
+        0
+    }
+
+    fn out_of_order(&self) -> u64 {
+        0
+    }
+
+    fn push_end(&self, _pending: &mut Pending) {}
+}
+
+impl<'a> Session<'a> for Convert<'a> {
+    fn print<R: Read, W: Write>(
+        &mut self,
+        input: &mut Watched<R>,
+        output: &mut Watched<W>,
+    ) -> Result<(), RunError> {
+        print_converted(self, input, output)
+    }
+
+    fn begin(&mut self, name: &'a [u8]) {
+        self.scan.begin(name);
+    }
+
+    fn scan(&self) -> Scan<'a> {
+        self.scan
+    }
+
+    fn reports_bad(&self) -> bool {
+        true
+    }
+
+    fn left_out(&self) -> u64 {
+        0
+    }
+
+    fn out_of_order(&self) -> u64 {
+        0
+    }
+
+    fn push_end(&self, _pending: &mut Pending) {}
+}
+
+impl<'a> Session<'a> for Order<'a> {
+    fn print<R: Read, W: Write>(
+        &mut self,
+        input: &mut Watched<R>,
+        output: &mut Watched<W>,
+    ) -> Result<(), RunError> {
+        print_late(self, input, output)
+    }
+
+    fn begin(&mut self, name: &'a [u8]) {
+        self.scan.begin(name);
+    }
+
+    fn scan(&self) -> Scan<'a> {
+        self.scan
+    }
+
+    fn reports_bad(&self) -> bool {
+        true
+    }
+
+    fn left_out(&self) -> u64 {
+        0
+    }
+
+    fn out_of_order(&self) -> u64 {
+        self.late
+    }
+
+    fn push_end(&self, _pending: &mut Pending) {}
+}
+
+/// Standard output, which remembers whether its reader has gone.
+#[derive(Drop)]
+struct Output<W> {
+    inner: W,
+    is_closed: bool,
+}
+
+impl<W: Write> Write for Output<W> {
+    fn write(&mut self, bytes: &[u8]) -> io::Result<usize> {
+        let written = self.inner.write(bytes);
+        if let Err(error) = &written {
+            self.is_closed = error.kind() == ErrorKind::BrokenPipe;
+        }
+        written
+    }
+
+    fn flush(&mut self) -> io::Result<()> {
+        self.inner.flush()
+    }
+}
+
+/// Runs a command over files, and returns the exit status. Without files it reads standard input.
+pub fn run_files<'a, M: Session<'a>>(rt: &HostRuntime, machine: &mut M, files: &[&'a str]) -> u8 {
+    let mut output = Watched::new(Output {
+        inner: rt.stdout(),
+        is_closed: false,
+    });
+    let mut status = 0;
+    if files.is_empty() {
+        status = run_file(rt, machine, "-", &mut output);
+    }
+    for name in files {
+        if status == WRITE || machine.scan().is_stopped() {
+            break;
+        }
+        status = status.max(run_file(rt, machine, name, &mut output));
+    }
+    let mut output = output.into_inner();
+    if status != WRITE && write_end(machine, &mut output).is_err() {
+        status = WRITE;
+    }
+    if status == WRITE && !output.is_closed {
+        let _ = eprintln!(rt; "speedate: output failed");
+    }
+    status.max(tell_end(rt, machine))
+}
+
+/// Writes what is printed after the last file.
+fn write_end<'a, M: Session<'a>, W: Write>(machine: &M, output: &mut W) -> io::Result<()> {
+    let mut end = Pending::new();
+    machine.push_end(&mut end);
+    output.write_all(end.as_slice())?;
+    output.flush()
+}
+
+/// Runs a command over a file, and returns the exit status as far as it is about the file.
+fn run_file<'a, M: Session<'a>, W: Write>(
+    rt: &HostRuntime,
+    machine: &mut M,
+    name: &'a str,
+    output: &mut Watched<W>,
+) -> u8 {
+    machine.begin(name.as_bytes());
+    if is_output(rt, if name == "-" { "/dev/stdin" } else { name }) {
+        let _ = eprintln!(rt; "speedate: {name}: is the output too");
+        return READ;
+    }
+    let told = machine.scan().bad;
+    let ended = if name == "-" {
+        machine.print(&mut Watched::new(rt.stdin()), output)
+    } else {
+        match fs::open(rt, name) {
+            Ok(file) => machine.print(&mut Watched::new(file), output),
+            Err(_) => {
+                let _ = eprintln!(rt; "speedate: {name}: cannot be opened");
+                return READ;
+            }
+        }
+    };
+    if machine.reports_bad() {
+        tell_bad(rt, &machine.scan(), told);
+    }
+    match ended {
+        Ok(()) => 0,
+        Err(RunError::Read) => {
+            let _ = eprintln!(rt; "speedate: {name}: cannot be read");
+            READ
+        }
+        Err(RunError::Write) => WRITE,
+    }
+}
+
+/// Whether a file is the one that standard output goes to: reading it would never end.
+fn is_output(rt: &HostRuntime, path: &str) -> bool {
+    let Ok(output) = fs::metadata(rt, "/dev/stdout") else {
+        return false;
+    };
+    match fs::metadata(rt, path) {
+        Ok(file) => output.is_file() && file.dev() == output.dev() && file.ino() == output.ino(),
+        Err(_) => false,
+    }
+}
+
+/// Tells the bad values of a file that are among the first, on standard error.
+fn tell_bad(rt: &HostRuntime, scan: &Scan<'_>, told: u64) {
+    for (index, report) in scan.reports.iter().enumerate() {
+        if index as u64 >= told && (index as u64) < scan.bad {
+            tell_report(rt, scan, report);
+        }
+    }
+}
+
+/// Tells a bad value on standard error. If that fails too, only the status is left to tell.
+fn tell_report(rt: &HostRuntime, scan: &Scan<'_>, report: &Report) {
+    let mut text = Pending::new();
+    push_report(
+        scan.name,
+        report.number,
+        &report.bad,
+        scan.reader.form,
+        &mut text,
+    );
+    let _ = rt.stderr().write_all(text.as_slice());
+}
+
+/// Tells on standard error what is to be told at the end, and returns the exit status as far as it is
+/// about the lines.
+fn tell_end<'a, M: Session<'a>>(rt: &HostRuntime, machine: &M) -> u8 {
+    let scan = machine.scan();
+    if let (Stop::AtUnfit, Offsets::AsBounds(has_offset)) = (scan.stop, scan.offsets) {
+        tell_unfit(rt, &scan, has_offset);
+        return UNFIT;
+    }
+    if machine.reports_bad() {
+        tell_count(rt, scan.bad, "bad line", "bad lines");
+    }
+    tell_count(
+        rt,
+        machine.left_out(),
+        "line before the first entry",
+        "lines before the first entry",
+    );
+    if scan.bad > 0 || machine.out_of_order() > 0 {
+        BAD
+    } else {
+        0
+    }
+}
+
+/// Tells that the first value does not fit the bounds, which have an offset or have none.
+fn tell_unfit(rt: &HostRuntime, scan: &Scan<'_>, has_offset: bool) {
+    let advice = if has_offset {
+        "the value has no offset: give --offset, or bounds without one"
+    } else {
+        "the value has an offset: give bounds with one"
+    };
+    let mut text = Pending::new();
+    push_bytes(b"speedate: ", &mut text);
+    push_line_place(scan.name, scan.number, &mut text);
+    push_bytes(b": ", &mut text);
+    push_bytes(advice.as_bytes(), &mut text);
+    push_bytes(b"\n", &mut text);
+    let _ = rt.stderr().write_all(text.as_slice());
+}
+
+/// Tells how many lines of a kind there were, if there were any.
+fn tell_count(rt: &HostRuntime, count: u64, one: &str, many: &str) {
+    if count == 1 {
+        let _ = eprintln!(rt; "speedate: 1 {one}");
+    } else if count > 1 {
+        let _ = eprintln!(rt; "speedate: {count} {many}");
+    }
+}
