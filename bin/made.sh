@@ -8,8 +8,7 @@
 libraries='speedate_base speedate_civil speedate'
 # What the programs stand on besides, and the programs.
 engine=speedate_stream
-programs=speedate_lines
-! grep -q '^speedate_cli:' "$root/crates.txt" || programs='speedate_lines speedate'
+programs='speedate_lines speedate'
 
 # crate_of PROGRAM: prints the crate of a program.
 crate_of() {
