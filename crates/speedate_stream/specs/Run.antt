@@ -23,7 +23,8 @@ pub record ReadsAfter (before after : Option (List ℕ)) (kept filled : ℕ)
   pub text : take filled new ≡ take kept old ++ more
   pub nothing : filled ≡ kept → (more ≡ []) × IsAtEnd after
 
--- What has gone out of some bytes, and of the answers of a run that failed.
+-- What has gone out of some bytes, and of the answers of a run that failed. It is said by what is
+-- left, so a helper that fails midway and one that is done are steps of one chain.
 
 -- some bytes have been written, except the last ones, which are left
 pub record AppendsBut (left : List ℕ) (old new : Option (List ℕ)) (bytes : List ℕ) : Type 0 where

@@ -8,7 +8,7 @@ use arrayvec::ArrayVec;
 /// How many bytes a line may have of which a machine sees all.
 pub const LINE_MAX: usize = 4096;
 
-/// How many bytes a machine sees of a line: of a longer one enough to tell that it is.
+/// How many bytes a machine sees of a line: of a longer one enough to show that it is longer.
 pub const HEAD_MAX: usize = LINE_MAX + 1;
 
 /// How many bytes a machine may print for a line, besides the line itself.
@@ -51,7 +51,7 @@ pub trait LineMachine {
         ensures within { IfSome result (λ from. from ≤ length head.now) };
 }
 
-/// Appends bytes to those that wait: `ok ` and then a text, for an answer. There must be room for them.
+/// Appends bytes to those that wait, such as `ok ` and then a text for an answer. There must be room.
 #[inline(always)]
 pub fn push_bytes(bytes: &[u8], pending: &mut Pending)
     requires room { array_vec_len pending.old + length bytes.now ≤ PENDING_MAX }

@@ -232,7 +232,8 @@ fn print_lines<M: LineMachine, W: Write>(
     })
 }
 
-/// Prints the complete lines of a text, and returns where the unfinished line begins.
+/// Prints the complete lines of a text, and returns where the unfinished line begins. No clause shows
+/// that it does not search the first `seen` bytes again.
 fn print_complete<M: LineMachine, W: Write>(
     machine: &mut M,
     text: &[u8],

@@ -8,12 +8,12 @@ ghost use Rattle.speedate_stream.specs.Watch.{one_more};
 use std::io::{Read, Write};
 use std::marker::Model;
 
-/// The error of a call of a [`Watched`] that could not be carried out.
+/// The error of a [`Watched`]: its reader or writer failed, and no byte was read or written.
 #[derive(Clone, Copy, Debug, PartialEq, Eq)]
 pub struct Failed;
 
-/// A reader or a writer that remembers whether a call of it has failed and whether what was written
-/// has been flushed, and counts its reads and its flushes.
+/// A reader or a writer that remembers whether a call of it has failed, and whether the last write or
+/// flush was a flush that returned Ok. It counts its reads and its flushes, up to `u64::MAX`.
 #[derive(Drop)]
 pub struct Watched<T> {
     inner: T,
@@ -57,14 +57,14 @@ impl<T> Watched<T> {
         }
     }
 
-    /// Whether a call has answered [`Failed`].
+    /// Whether a call has returned [`Failed`].
     pub fn failed(&self) -> bool
         ensures failed { result ≡ self.now.failed }
     {
         self.failed
     }
 
-    /// What was watched.
+    /// Returns the reader or writer that was watched.
     pub fn into_inner(self) -> T
         ensures inner { result ≡ self.inner }
     {
@@ -74,10 +74,11 @@ impl<T> Watched<T> {
 }
 
 impl<R: Read> Watched<R> {
-    /// Reads into `buffer`, and returns how many bytes were read: 0 at the end of the input.
+    /// Reads into `buffer`, and returns how many bytes were read, which are at its front. If it has
+    /// room, 0 means the end of the input.
     ///
-    /// Fails with `Failed` if the reader returns an error, and after `u64::MAX` reads, when the reader
-    /// is not called.
+    /// Fails with `Failed` if the reader returns an error. After `u64::MAX` reads it fails without a
+    /// call of the reader, which is left as it was.
     pub fn read(&mut self, buffer: &mut [u8]) -> Result<usize, Failed>
         ensures bound { ReadsAtMost result buffer.new }
         ensures bytes { ReadConsumes (R.remaining self.old.inner) (R.remaining self.new.inner)
@@ -92,6 +93,7 @@ impl<R: Read> Watched<R> {
     {
         if self.reads < u64::MAX {
             self.reads += 1;
+            // A further read after one that failed, or that gave nothing, would meet the clauses.
             if let Ok(count) = self.inner.read(buffer) {
                 return Ok(count);
             }
@@ -102,10 +104,9 @@ impl<R: Read> Watched<R> {
 }
 
 impl<W: Write> Watched<W> {
-    /// Writes some of `bytes`, and returns how many.
+    /// Writes the first of `bytes`, and returns how many: at least one, unless `bytes` is empty.
     ///
-    /// Fails with `Failed` if the writer returns an error, or takes nothing of bytes that are not
-    /// empty.
+    /// Fails with `Failed` if the writer returns an error, or accepts none of some bytes.
     pub fn write(&mut self, bytes: &[u8]) -> Result<usize, Failed>
         ensures bound { WritesAtMost result bytes.now }
         ensures bytes { WriteAppends (W.contents self.old.inner) (W.contents self.new.inner)
@@ -117,6 +118,8 @@ impl<W: Write> Watched<W> {
         ensures reads { self.new.reads ≡ self.old.reads }
     {
         self.flushed = false;
+        // A flush after an error (or in `finish`), a second write after one, or an error without a call
+        // would meet the clauses: they say what an error leaves, not when it comes.
         match self.inner.write(bytes) {
             Ok(count) if count > 0 || bytes.is_empty() => Ok(count),
             _ => {
@@ -126,9 +129,9 @@ impl<W: Write> Watched<W> {
         }
     }
 
-    /// Flushes the writer. Fails with `Failed` if it returns an error.
+    /// Flushes the writer, which changes no bytes. Fails with `Failed` if it returns an error.
     ///
-    /// Each flush is counted, up to `u64::MAX` of them; a further one is a flush like the others.
+    /// A flush after `u64::MAX` others is not counted.
     pub fn flush(&mut self) -> Result<(), Failed>
         ensures bytes { Keeps (W.contents self.old.inner) (W.contents self.new.inner) }
         ensures failed { self.new.failed ≡ (self.old.failed || is_err result) }
@@ -137,6 +140,7 @@ impl<W: Write> Watched<W> {
         ensures reads { self.new.reads ≡ self.old.reads }
     {
         self.flushes = self.flushes.saturating_add(1);
+        // Two flushes, or none (`self.flushed = true; Ok(())`), would meet the clauses.
         self.flushed = self.inner.flush().is_ok();
         if self.flushed {
             return Ok(());
