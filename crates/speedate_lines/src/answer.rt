@@ -10,7 +10,7 @@ ghost use Rattle.speedate_lines.specs.Answer.{ok_answer, reply_to};
 use speedate::{Date, DateTime, Duration, IsoOrder, Time, TimeConfig};
 use speedate_stream::{LINE_MAX, LineMachine, PENDING_MAX, Pending, push_bytes};
 
-/// No printed value and no reason for a refusal has more bytes.
+/// No printed value or name of an error has more bytes.
 const TEXT_MAX: usize = 32;
 
 /// No answer has more bytes: `ok ` or `err `, a text, and a line feed.
@@ -91,7 +91,8 @@ fn kind_of(line: &[u8]) -> Option<(Kind, &[u8])>
     }
 }
 
-/// The text after what a line has to begin with. With a known length the test is a comparison or two.
+/// The text after `front`, if the line begins with it. The length is known, so that the test is one
+/// comparison or two.
 #[inline(always)]
 fn text_after<'a, const LENGTH: usize>(line: &'a [u8], front: &[u8; LENGTH]) -> Option<&'a [u8]>
     ensures cases { MatchOption result (bytes_eq (take LENGTH line.now) front.now ≡ false)
@@ -104,7 +105,7 @@ fn text_after<'a, const LENGTH: usize>(line: &'a [u8], front: &[u8; LENGTH]) -> 
     }
 }
 
-/// Appends the answer to a text by what its reader gives.
+/// Appends the answer to a text, from the result of its parser.
 macro_rules! answer {
     ($read:expr, $pending:ident) => {
         match $read {
@@ -133,7 +134,7 @@ fn answer_text(kind: Kind, text: &[u8], pending: &mut Pending)
     }
 }
 
-/// Appends the answer to a text that was read: the canonical text of its value.
+/// Appends the answer to an accepted text: its printed value.
 fn accept(text: &str, pending: &mut Pending)
     requires short { length text.now ≤ TEXT_MAX }
     requires room { array_vec_len pending.old + ANSWER_MAX ≤ PENDING_MAX }
@@ -145,7 +146,7 @@ fn accept(text: &str, pending: &mut Pending)
     pending.push(b'\n');
 }
 
-/// Appends the answer to a line that was refused: the name of the reason.
+/// Appends the answer to a refused line: the name of the error.
 fn refuse(name: &str, pending: &mut Pending)
     requires short { length name.now ≤ TEXT_MAX }
     requires room { array_vec_len pending.old + ANSWER_MAX ≤ PENDING_MAX }

@@ -1,11 +1,11 @@
-//! Readers and writers for tests, which take their time or fail, and the comparison of what is found.
+//! Readers and writers for tests, which are slow or fail, and the comparison of results.
 
 use std::alloc::Global;
 use std::fmt::Debug;
 use std::io::{self, ErrorKind, Read, Write};
 use std::process::Abort;
 
-/// Calls of an end, counted from 0.
+/// Some calls of a reader or a writer, counted from 0.
 #[derive(Clone, Copy, Debug)]
 pub enum Calls {
     None,
@@ -14,7 +14,7 @@ pub enum Calls {
 }
 
 impl Calls {
-    /// Whether this call is one of them: 3 is one of `From(2)`, and none of `One(2)`.
+    /// Whether this call is one of them: 3 is one of `From(2)`, but not of `One(2)`.
     pub fn has(self, call: u64) -> bool {
         match self {
             Calls::None => false,
@@ -24,24 +24,24 @@ impl Calls {
     }
 }
 
-/// A reader of bytes that gives some of them a call, and counts its calls.
+/// A reader that returns a few bytes a call, and counts its calls.
 #[derive(Drop)]
 pub struct Source<'a> {
     pub rest: &'a [u8],
     pub step: usize,
     /// Which calls fail.
     pub fails: Calls,
-    /// Which calls give nothing, as if the bytes were out.
+    /// Which calls return 0, as at the end of the bytes.
     pub pauses: Calls,
     /// Whether the end of the bytes is a failure.
     pub ends: bool,
     pub calls: u64,
-    /// How many bytes the last call gave.
+    /// How many bytes the last call returned.
     pub latest: usize,
 }
 
 impl<'a> Source<'a> {
-    /// Gives `step` bytes a call, and then the end.
+    /// Returns `step` bytes a call, and then the end.
     pub fn new(bytes: &'a [u8], step: usize) -> Self {
         Source {
             rest: bytes,
@@ -73,14 +73,14 @@ impl Read for Source<'_> {
     }
 }
 
-/// A writer that takes some bytes a call, and counts its calls.
+/// A writer that accepts a few bytes a call, and counts its calls.
 #[derive(Drop)]
 pub struct Sink {
     pub taken: Vec<u8>,
     pub step: usize,
     /// Which writes fail.
     pub fails: Calls,
-    /// Which writes take nothing.
+    /// Which writes accept nothing.
     pub refuses: Calls,
     pub flush_fails: bool,
     pub calls: u64,
@@ -88,7 +88,7 @@ pub struct Sink {
 }
 
 impl Sink {
-    /// Takes `step` bytes a call.
+    /// Accepts `step` bytes a call.
     pub fn new(alloc: Global, step: usize) -> Self {
         Sink {
             taken: Vec::new(alloc),
@@ -126,7 +126,7 @@ impl Write for Sink {
     }
 }
 
-/// What was found is to be what the row wants.
+/// Stops the test unless what was found is what the row wants.
 pub fn same<T: PartialEq + Debug + Copy, Row: Debug, R: Abort>(
     rt: &R,
     found: T,

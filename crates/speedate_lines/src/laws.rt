@@ -14,7 +14,7 @@ pub fn same_run_error(first: &RunError, second: &RunError) -> bool
     first == second
 }
 
-/// A second reason that is the same: `Read` for `Read`.
+/// A copy of the reason: `Read` for `Read`.
 pub fn clone_run_error(reason: &RunError) -> Result<RunError, AllocError>
     ensures clone { result ≡ Ok reason.now }
 {
@@ -28,7 +28,7 @@ pub fn same_failed(first: &Failed, second: &Failed) -> bool
     first == second
 }
 
-/// A second [`Failed`].
+/// A copy of a [`Failed`].
 pub fn clone_failed(failed: &Failed) -> Result<Failed, AllocError>
     ensures clone { result ≡ Ok failed.now }
 {

@@ -5,8 +5,8 @@ ghost use Rattle.speedate_lines.specs.Run.{outcome_of};
 
 use speedate_stream::run::RunError;
 
-/// The exit status and the text for standard error that tell how a run ended: 0 and an empty text if it
-/// answered every line, 1 and `input failed`, or 2 and `output failed`.
+/// The exit status after a run, and the text for standard error: 0 and an empty text if it answered
+/// every line; 1 and `input failed` after a failed read; 2 and `output failed` after a failed write.
 pub fn outcome(ended: Result<(), RunError>) -> (u8, &'static str)
     ensures tells { (result.0, result.1.now) ≡ outcome_of ended }
 {

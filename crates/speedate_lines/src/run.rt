@@ -15,14 +15,14 @@ use std::io::{Read, Write};
 
 /// Answers each line of the input, up to its end.
 ///
-/// A line is ended by a line feed or by the end of the input, and its answer by a line feed. For the
-/// input `date 2020-02-29` the output is `ok 2020-02-29` and a line feed.
+/// A line ends with a line feed or with the input, its answer with a line feed. For the input
+/// `date 2020-02-29` the output is `ok 2020-02-29` and a line feed.
 ///
-/// - `date TEXT`, `time TEXT`, `datetime TEXT` and `duration TEXT` are answered by `ok` and the
-///   canonical text of the value, or by `err` and the name of the error.
-/// - `duration-strict TEXT` is answered in the same way; the components have to come in order.
-/// - A line of more than 4,096 bytes is answered by `err line_too_long`.
-/// - Any other line is answered by `err unknown_kind`.
+/// - `date TEXT`, `time TEXT`, `datetime TEXT` and `duration TEXT`: `ok` and the printed value, or
+///   `err` and the name of the error.
+/// - `duration-strict TEXT`: the same, but the components must come in order.
+/// - A line of more than 4,096 bytes: `err line_too_long`.
+/// - Any other line: `err unknown_kind`.
 ///
 /// Every complete line that was read is answered before the next read. Fails with `RunError::Read` if a
 /// read fails, with `RunError::Write` if a write fails, or the one flush at the end.

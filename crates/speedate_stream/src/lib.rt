@@ -1,5 +1,5 @@
-//! Programs over lines: a [`LineMachine`] says what is printed for each line; [`run::run`] reads the
-//! lines of an input, writes what is printed, and says why it ended.
+//! Programs over lines: a [`LineMachine`] says what is printed for each line; [`run::run`] reads
+//! the lines of an input, writes what is printed, and says why it ended.
 #![tactic(auto)]
 
 mod machine;

@@ -51,7 +51,7 @@ pub trait LineMachine {
         ensures within { IfSome result (λ from. from ≤ length head.now) };
 }
 
-/// Appends bytes to those that wait, such as `ok ` and then a text for an answer. There must be room.
+/// Appends bytes to those that wait: `ok ` and then a text, for an answer. There must be room.
 #[inline(always)]
 pub fn push_bytes(bytes: &[u8], pending: &mut Pending)
     requires room { array_vec_len pending.old + length bytes.now ≤ PENDING_MAX }

@@ -68,7 +68,8 @@ pub fn run<M: LineMachine, R: Read, W: Write>(
     ensures flushed_once { OnOk result (output.new.flushes ≡ one_more output.old.flushes) }
     // After a failed read what was written is what is printed for all that was read, and no flush
     // came.
-    ensures read_failed { result ≡ Err RunError.Read → PrintsProgress M.machine machine.old machine.new
+    ensures read_failed { result ≡ Err RunError.Read →
+        PrintsProgress M.machine machine.old machine.new
         (R.remaining input.old.inner) (R.remaining input.new.inner)
         (W.contents output.old.inner) (W.contents output.new.inner) }
     ensures unflushed { result ≡ Err RunError.Read → output.new.flushes ≡ output.old.flushes }
@@ -232,8 +233,8 @@ fn print_lines<M: LineMachine, W: Write>(
     })
 }
 
-/// Prints the complete lines of a text, and returns where the unfinished line begins. No clause shows
-/// that it does not search the first `seen` bytes again.
+/// Prints the complete lines of a text, and returns where the unfinished line begins. No clause
+/// shows that it does not search the first `seen` bytes again.
 fn print_complete<M: LineMachine, W: Write>(
     machine: &mut M,
     text: &[u8],
@@ -293,7 +294,8 @@ fn begin_line<M: LineMachine, W: Write>(
         ++ (in_line M.machine machine.old line.now
         (is_passed M.machine machine.old line.now)).printed) }
     ensures state { OnOk result (machine.new
-        ≡ (in_line M.machine machine.old line.now (is_passed M.machine machine.old line.now)).state) }
+        ≡ (in_line M.machine machine.old line.now
+        (is_passed M.machine machine.old line.now)).state) }
     ensures passes { IfOk result (λ passes. passes ≡ is_passed M.machine machine.old line.now) }
 {
     if !is_passed(machine, line) {

@@ -12,8 +12,8 @@ use std::marker::Model;
 #[derive(Clone, Copy, Debug, PartialEq, Eq)]
 pub struct Failed;
 
-/// A reader or a writer that remembers whether a call of it has failed, and whether the last write or
-/// flush was a flush that returned Ok. It counts its reads and its flushes, up to `u64::MAX`.
+/// A reader or a writer that remembers whether a call of it has failed, and whether the last write
+/// or flush was a flush that returned Ok. It counts its reads and flushes, up to `u64::MAX`.
 #[derive(Drop)]
 pub struct Watched<T> {
     inner: T,
@@ -77,8 +77,8 @@ impl<R: Read> Watched<R> {
     /// Reads into `buffer`, and returns how many bytes were read, which are at its front. If it has
     /// room, 0 means the end of the input.
     ///
-    /// Fails with `Failed` if the reader returns an error. After `u64::MAX` reads it fails without a
-    /// call of the reader, which is left as it was.
+    /// Fails with `Failed` if the reader returns an error. After `u64::MAX` reads it fails without
+    /// a call of the reader, which is left as it was.
     pub fn read(&mut self, buffer: &mut [u8]) -> Result<usize, Failed>
         ensures bound { ReadsAtMost result buffer.new }
         ensures bytes { ReadConsumes (R.remaining self.old.inner) (R.remaining self.new.inner)
@@ -118,8 +118,8 @@ impl<W: Write> Watched<W> {
         ensures reads { self.new.reads ≡ self.old.reads }
     {
         self.flushed = false;
-        // A flush after an error (or in `finish`), a second write after one, or an error without a call
-        // would meet the clauses: they say what an error leaves, not when it comes.
+        // A flush after an error (or in `finish`), a second write after one, or an error without a
+        // call would meet the clauses: they say what an error leaves, not when it comes.
         match self.inner.write(bytes) {
             Ok(count) if count > 0 || bytes.is_empty() => Ok(count),
             _ => {
