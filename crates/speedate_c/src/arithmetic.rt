@@ -159,10 +159,11 @@ pub extern "C" fn speedate_duration_from_signed_microseconds(
     write_duration(answer, out)
 }
 
-/// The microseconds of a duration with the sign, as [`duration_microseconds`] gives them: -1,500,000 for
-/// -PT1.5S.
+/// The microseconds of a duration with the sign, as [`duration_microseconds`] returns them: -1,500,000
+/// for -PT1.5S.
 ///
-/// `VALUE_OUT_OF_RANGE` is that of the duration; `NUMBER_TOO_LARGE` if they are 2^63 or more without the sign.
+/// `VALUE_OUT_OF_RANGE` if a number of the duration is out of range; `NUMBER_TOO_LARGE` if they are
+/// 2^63 or more without the sign.
 #[unsafe(no_mangle)]
 pub extern "C" fn speedate_duration_signed_total_microseconds(
     duration: SpeedateDuration,

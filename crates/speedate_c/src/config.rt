@@ -76,8 +76,8 @@ impl SpeedateConfig {
         }
     }
 
-    /// Whether each number has a value. One test tells it if those of timestamps are 0, as they mostly
-    /// are.
+    /// Whether each number has a value. One test is enough if the numbers of timestamps are 0, as they
+    /// mostly are.
     #[inline(always)]
     fn has_values(self) -> bool
         ensures value { result ≡ is_some (choices_of self) }

@@ -114,7 +114,7 @@ pub extern "C" fn speedate_date_parse_text(text: &[u8], out: &mut SpeedateDate) 
     write_date(Date::parse_bytes_rfc3339(text), out)
 }
 
-/// Parses the date at the front of a text, and writes how many bytes it takes, as
+/// Parses the date at the front of a text, and writes how many bytes it has, as
 /// [`Date::parse_front`] does: 2020-02-29, and 10, from `2020-02-29 opening balance`.
 #[unsafe(no_mangle)]
 pub extern "C" fn speedate_date_parse_front(

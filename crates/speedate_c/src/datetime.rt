@@ -131,7 +131,7 @@ pub extern "C" fn speedate_datetime_parse_strict(
     write_date_time(DateTime::parse_bytes_strict(text, behavior), out)
 }
 
-/// Parses the date-time at the front of a text, and writes how many bytes it takes, as
+/// Parses the date-time at the front of a text, and writes how many bytes it has, as
 /// [`DateTime::parse_front`] does: 12:13:14Z on 22 November 2026, and 20, from
 /// `2026-11-22T12:13:14Z GET /`. `CONFIG_OUT_OF_RANGE` comes first.
 #[unsafe(no_mangle)]

@@ -123,7 +123,7 @@ pub extern "C" fn speedate_time_parse_strict(
     write_time(Time::parse_bytes_strict(text, behavior), out)
 }
 
-/// Parses the time at the front of a text, and writes how many bytes it takes, as
+/// Parses the time at the front of a text, and writes how many bytes it has, as
 /// [`Time::parse_front`] does: 12:13:14Z, and 9, from `12:13:14Z GET /`. `CONFIG_OUT_OF_RANGE`
 /// comes first.
 #[unsafe(no_mangle)]

@@ -23,7 +23,8 @@ impl Check<'_> {
     /// Appends what is reported of a line.
     fn push_line(&self, line: &Line, pending: &mut Pending)
         requires room { array_vec_len pending.old + REPORT_MAX ≤ PENDING_MAX }
-        ensures pushed { pending.new.items ≡ pending.old.items ++ check_text self.now.scan line.now }
+        ensures pushed { pending.new.items
+            ≡ pending.old.items ++ check_text self.now.scan line.now }
         ensures length { array_vec_len pending.new ≤ array_vec_len pending.old + REPORT_MAX }
     {
         if let Line::Bad(bad) = line {

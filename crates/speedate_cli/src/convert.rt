@@ -99,7 +99,8 @@ impl Convert<'_> {
     #[tactic(auto, unfolding(crate::specs::Convert::written_value))]
     fn written(&self, head: &[u8], found: &Found) -> Result<DateTime, Bad>
         requires within { found.now.from ≤ length (seen head.now) }
-        ensures value { result_map date_and_time result ≡ written_value self.now head.now found.now }
+        ensures value { result_map date_and_time result
+            ≡ written_value self.now head.now found.now }
     {
         match self.scan.reader.value_at(head, found.from) {
             Ok((value, _)) => self.target.targeted(found, value),

@@ -30,7 +30,7 @@ pub struct Options<'a> {
 /// Why the command line is refused, for people.
 pub type Refusal = &'static str;
 
-/// What a command of the program takes.
+/// Whether a command prints lines of its input.
 #[derive(Clone, Copy, PartialEq, Eq)]
 enum Prints {
     /// It prints no lines of its input.
@@ -78,10 +78,10 @@ fn with_common<'a>(
         .arg(
             valued(alloc, "after", "TEXT")
                 .allow_hyphen_values(true)
-                .help("The value stands after the first TEXT of a line [default: at its front]"),
+                .help("The value comes after the first TEXT of a line [default: at its front]"),
         )?
         .arg(valued(alloc, "kind", "KIND").help("datetime or date [default: datetime]"))?
-        .arg(flag(alloc, "strict").help("RFC 3339 and nothing else"))?
+        .arg(flag(alloc, "strict").help("Accept only RFC 3339"))?
         .arg(valued(alloc, "digits", "WHAT").help("Digits past the sixth: refuse or truncate"))?
         .arg(
             valued(alloc, "offset", "OFFSET")
@@ -94,7 +94,7 @@ fn with_common<'a>(
         .arg(valued(alloc, "bad", "WHAT").help(
             "Lines with a bad value: keep, drop or stop [default: keep]",
         ))?
-        .arg(flag(alloc, "header").help("The first line of each file is left as it is"))?;
+        .arg(flag(alloc, "header").help("The first line of each file has no value"))?;
     let command = match prints {
         Prints::Lines => with_prefix(alloc, command)?,
         Prints::Reports => command,

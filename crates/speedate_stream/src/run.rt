@@ -431,7 +431,7 @@ fn write_all<W: Write>(bytes: &[u8], output: &mut Watched<W>) -> Result<(), Fail
     Ok(())
 }
 
-/// Moves the unfinished line, which stands from `start` up to `filled`, to the front of the block,
+/// Moves the unfinished line, which is from `start` up to `filled`, to the front of the block,
 /// and returns how much of it is kept.
 fn keep_line(block: &mut [u8; BLOCK], start: usize, filled: usize) -> usize
     requires ordered { start ≤ filled }

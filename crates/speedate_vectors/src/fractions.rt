@@ -8,8 +8,8 @@ use std::process::Abort;
 /// A unit of timestamps, and of how many digits of a fraction its whole microseconds are.
 const UNITS: [(&str, usize); 3] = [("s truncate", 6), ("ms truncate", 3), ("us truncate", 0)];
 
-/// Digits on both sides of sixteen, and the microseconds of a timestamp with this fraction of a second, and of
-/// its negative: of two that are equally near, the later one.
+/// Digits on both sides of sixteen, and the microseconds of a timestamp with this fraction of a second,
+/// and of its negative: if two are equally near, the later one.
 const SECONDS: &str = "\
 '<0*16>'             0        0
 '<0*17>'             0        0

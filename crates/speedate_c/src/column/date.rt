@@ -55,8 +55,8 @@ pub extern "C" fn speedate_date_column(
 /// Prints days since 1970-01-01 as dates, a line for each, as [`print_column`] does by a
 /// [`DatePrinter`]: `1970-01-02` for 1.
 ///
-/// A number without a line is no failure of the call: it ends the text, and the progress has the code of its
-/// error.
+/// A number without a line does not make the call fail: it ends the text, and the progress has the
+/// code of its error.
 #[unsafe(no_mangle)]
 pub extern "C" fn speedate_date_print_column(
     days: &[i32],

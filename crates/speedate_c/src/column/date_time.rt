@@ -152,8 +152,8 @@ pub extern "C" fn speedate_datetime_print_column(
     write_lines(microseconds, &DateTimePrinter, buffer, progress)
 }
 
-/// Prints microseconds since 1970-01-01T00:00:00 on a clock as date-times without an offset, a line for each, as
-/// [`print_column`] does by a [`DateTimeClockPrinter`]: `1970-01-01T00:00:01` for
+/// Prints microseconds since 1970-01-01T00:00:00 on a clock as date-times without an offset, a line
+/// for each, as [`print_column`] does with a [`DateTimeClockPrinter`]: `1970-01-01T00:00:01` for
 /// 1,000,000.
 ///
 /// A number without a line ends the text, as with [`speedate_date_print_column`].

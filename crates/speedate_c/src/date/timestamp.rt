@@ -16,8 +16,8 @@ use speedate::Date;
 /// The date of a timestamp in the unit of the configuration, as [`Date::from_timestamp`] gives it:
 /// 1970-01-02 for 86,400 seconds. Where `require_exact` is 1 the timestamp has to be a midnight.
 ///
-/// `CONFIG_OUT_OF_RANGE` comes before `VALUE_OUT_OF_RANGE`, which is that of `require_exact`, and
-/// before the errors of that call.
+/// `CONFIG_OUT_OF_RANGE` comes before `VALUE_OUT_OF_RANGE`, for a `require_exact` that is neither 0
+/// nor 1, and before the errors of that call.
 #[unsafe(no_mangle)]
 pub extern "C" fn speedate_date_from_timestamp(
     timestamp: i64,
