@@ -250,10 +250,15 @@ template <class T, class C, class Call> Result<T> written(Call call) {
 /* The same for a value of which C++ has no type of its own. */
 template <class T, class Call> Result<T> number(Call call) { return written<T, T>(call); }
 
-/* The value of a call that cannot refuse. */
-template <class T, class Call> T sure(Call call) noexcept {
+/* The value of a call that cannot refuse, of one argument or two. */
+template <class C, class T> T sure(int (*call)(C, T *), C value) noexcept {
     T out;
-    must(call(&out));
+    must(call(value, &out));
+    return out;
+}
+template <class C, class T> T sure(int (*call)(C, C, T *), C first, C second) noexcept {
+    T out;
+    must(call(first, second, &out));
     return out;
 }
 
@@ -380,30 +385,21 @@ class Date : public detail::Ordered<Date> {
     }
 
     std::string to_text() const { return detail::text<SPEEDATE_DATE_TEXT_SIZE>(speedate_date_to_text, c_); }
-    std::int64_t timestamp() const noexcept {
-        return detail::sure<std::int64_t>([&](auto *out) { return speedate_date_timestamp(c_, out); });
-    }
-    std::int64_t timestamp_ms() const noexcept {
-        return detail::sure<std::int64_t>([&](auto *out) { return speedate_date_timestamp_ms(c_, out); });
-    }
-    std::uint32_t day_number() const noexcept {
-        return detail::sure<std::uint32_t>([&](auto *out) { return speedate_date_day_number(c_, out); });
-    }
-    std::uint16_t ordinal_day() const noexcept {
-        return detail::sure<std::uint16_t>([&](auto *out) { return speedate_date_ordinal_day(c_, out); });
-    }
+    std::int64_t timestamp() const noexcept { return detail::sure(speedate_date_timestamp, c_); }
+    std::int64_t timestamp_ms() const noexcept { return detail::sure(speedate_date_timestamp_ms, c_); }
+    std::uint32_t day_number() const noexcept { return detail::sure(speedate_date_day_number, c_); }
+    std::uint16_t ordinal_day() const noexcept { return detail::sure(speedate_date_ordinal_day, c_); }
     Result<Date> add_days(std::int32_t days) const {
         return from_c([&](auto *out) { return speedate_date_add_days(c_, days, out); });
     }
     /* The days from one date to another, negative if `later` is the earlier one. */
     static std::int32_t days_between(const Date &earlier, const Date &later) noexcept {
-        return detail::sure<std::int32_t>(
-            [&](auto *out) { return speedate_date_days_between(earlier.c_, later.c_, out); });
+        return detail::sure(speedate_date_days_between, earlier.c_, later.c_);
     }
 
     /* Negative if the first is the earlier one, 0 if they are equal, otherwise positive. */
     friend int compare(const Date &first, const Date &second) noexcept {
-        return detail::sure<std::int32_t>([&](auto *out) { return speedate_date_compare(first.c_, second.c_, out); });
+        return detail::sure(speedate_date_compare, first.c_, second.c_);
     }
     friend std::ostream &operator<<(std::ostream &to, const Date &date) { return to << date.to_text(); }
 
@@ -424,8 +420,8 @@ class Date : public detail::Ordered<Date> {
         return from_c([&](auto *out) { return speedate_date_add_days(SpeedateDate{1970, 1, 1}, days, out); });
     }
     std::chrono::sys_days sys_days() const noexcept {
-        return std::chrono::sys_days(std::chrono::days(detail::sure<std::int32_t>(
-            [&](auto *out) { return speedate_date_days_between(SpeedateDate{1970, 1, 1}, c_, out); })));
+        const SpeedateDate epoch = {1970, 1, 1};
+        return std::chrono::sys_days(std::chrono::days(detail::sure(speedate_date_days_between, epoch, c_)));
     }
 #endif
 
@@ -506,19 +502,15 @@ class Time : public detail::Equal<Time> {
     }
 
     std::string to_text() const { return detail::text<SPEEDATE_TIME_TEXT_SIZE>(speedate_time_to_text, c_); }
-    std::uint32_t total_seconds() const noexcept {
-        return detail::sure<std::uint32_t>([&](auto *out) { return speedate_time_total_seconds(c_, out); });
-    }
-    std::uint32_t total_ms() const noexcept {
-        return detail::sure<std::uint32_t>([&](auto *out) { return speedate_time_total_ms(c_, out); });
-    }
+    std::uint32_t total_seconds() const noexcept { return detail::sure(speedate_time_total_seconds, c_); }
+    std::uint32_t total_ms() const noexcept { return detail::sure(speedate_time_total_ms, c_); }
     Result<Time> in_timezone(std::int32_t offset) const {
         return from_c([&](auto *out) { return speedate_time_in_timezone(c_, offset, out); });
     }
 
     /* As speedate_time_compare says: 0 if both are the same instant. */
     friend int compare_instants(const Time &first, const Time &second) noexcept {
-        return detail::sure<std::int32_t>([&](auto *out) { return speedate_time_compare(first.c_, second.c_, out); });
+        return detail::sure(speedate_time_compare, first.c_, second.c_);
     }
     friend std::ostream &operator<<(std::ostream &to, const Time &time) { return to << time.to_text(); }
 
@@ -605,22 +597,12 @@ class DateTime : public detail::Equal<DateTime> {
 
     std::string to_text() const { return detail::text<SPEEDATE_DATETIME_TEXT_SIZE>(speedate_datetime_to_text, c_); }
     /* Unix time. */
-    std::int64_t unix_seconds() const noexcept {
-        return detail::sure<std::int64_t>([&](auto *out) { return speedate_datetime_unix_seconds(c_, out); });
-    }
-    std::int64_t unix_milliseconds() const noexcept {
-        return detail::sure<std::int64_t>([&](auto *out) { return speedate_datetime_unix_milliseconds(c_, out); });
-    }
-    std::int64_t unix_microseconds() const noexcept {
-        return detail::sure<std::int64_t>([&](auto *out) { return speedate_datetime_unix_microseconds(c_, out); });
-    }
+    std::int64_t unix_seconds() const noexcept { return detail::sure(speedate_datetime_unix_seconds, c_); }
+    std::int64_t unix_milliseconds() const noexcept { return detail::sure(speedate_datetime_unix_milliseconds, c_); }
+    std::int64_t unix_microseconds() const noexcept { return detail::sure(speedate_datetime_unix_microseconds, c_); }
     /* What the clock shows, whatever the offset. */
-    std::int64_t clock_seconds() const noexcept {
-        return detail::sure<std::int64_t>([&](auto *out) { return speedate_datetime_clock_seconds(c_, out); });
-    }
-    std::int64_t clock_milliseconds() const noexcept {
-        return detail::sure<std::int64_t>([&](auto *out) { return speedate_datetime_clock_milliseconds(c_, out); });
-    }
+    std::int64_t clock_seconds() const noexcept { return detail::sure(speedate_datetime_clock_seconds, c_); }
+    std::int64_t clock_milliseconds() const noexcept { return detail::sure(speedate_datetime_clock_milliseconds, c_); }
     Result<DateTime> in_timezone(std::int32_t offset) const {
         return from_c([&](auto *out) { return speedate_datetime_in_timezone(c_, offset, out); });
     }
@@ -649,8 +631,7 @@ class DateTime : public detail::Equal<DateTime> {
 
     /* As speedate_datetime_compare says: 0 if both are the same instant. */
     friend int compare_instants(const DateTime &first, const DateTime &second) noexcept {
-        return detail::sure<std::int32_t>(
-            [&](auto *out) { return speedate_datetime_compare(first.c_, second.c_, out); });
+        return detail::sure(speedate_datetime_compare, first.c_, second.c_);
     }
     friend std::ostream &operator<<(std::ostream &to, const DateTime &value) { return to << value.to_text(); }
 
@@ -700,8 +681,7 @@ class Duration : public detail::Ordered<Duration> {
     }
     /* The duration of a number of microseconds with a sign. */
     static Duration of(std::chrono::microseconds length) noexcept {
-        return Duration(detail::sure<SpeedateDuration>(
-            [&](auto *out) { return speedate_duration_from_signed_microseconds(length.count(), out); }));
+        return Duration(detail::sure(speedate_duration_from_signed_microseconds, std::int64_t{length.count()}));
     }
 
     bool negative() const noexcept { return c_.negative; }
@@ -722,16 +702,13 @@ class Duration : public detail::Ordered<Duration> {
     std::string to_text() const { return detail::text<SPEEDATE_DURATION_TEXT_SIZE>(speedate_duration_to_text, c_); }
     /* The whole seconds, and the whole milliseconds, cut toward zero, and the microseconds beyond the whole seconds. */
     std::chrono::seconds signed_total_seconds() const noexcept {
-        return std::chrono::seconds(
-            detail::sure<std::int64_t>([&](auto *out) { return speedate_duration_signed_total_seconds(c_, out); }));
+        return std::chrono::seconds(detail::sure(speedate_duration_signed_total_seconds, c_));
     }
     std::chrono::milliseconds signed_total_ms() const noexcept {
-        return std::chrono::milliseconds(
-            detail::sure<std::int64_t>([&](auto *out) { return speedate_duration_signed_total_ms(c_, out); }));
+        return std::chrono::milliseconds(detail::sure(speedate_duration_signed_total_ms, c_));
     }
     std::chrono::microseconds signed_microseconds() const noexcept {
-        return std::chrono::microseconds(
-            detail::sure<std::int32_t>([&](auto *out) { return speedate_duration_signed_microseconds(c_, out); }));
+        return std::chrono::microseconds(detail::sure(speedate_duration_signed_microseconds, c_));
     }
     /* All microseconds, or SPEEDATE_NUMBER_TOO_LARGE, over 106,751,991 days. */
     Result<std::chrono::microseconds> signed_total_microseconds() const {
@@ -747,18 +724,14 @@ class Duration : public detail::Ordered<Duration> {
             return speedate_duration_sum(reinterpret_cast<const SpeedateDuration *>(first), std::size(durations), out);
         });
     }
-    Duration operator-() const noexcept {
-        return Duration(detail::sure<SpeedateDuration>([&](auto *out) { return speedate_duration_negate(c_, out); }));
-    }
+    Duration operator-() const noexcept { return Duration(detail::sure(speedate_duration_negate, c_)); }
 
     /* The duration from one value to another, which is negative if `later` is the earlier one. */
     static Duration between(const DateTime &earlier, const DateTime &later) noexcept {
-        return Duration(detail::sure<SpeedateDuration>(
-            [&](auto *out) { return speedate_duration_between(earlier.c(), later.c(), out); }));
+        return Duration(detail::sure(speedate_duration_between, earlier.c(), later.c()));
     }
     static Duration between(const Date &earlier, const Date &later) noexcept {
-        return Duration(detail::sure<SpeedateDuration>(
-            [&](auto *out) { return speedate_duration_between_dates(earlier.c(), later.c(), out); }));
+        return Duration(detail::sure(speedate_duration_between_dates, earlier.c(), later.c()));
     }
 
     /* What is this duration after a value, or before it. */
@@ -777,8 +750,7 @@ class Duration : public detail::Ordered<Duration> {
 
     /* Negative if the first is the smaller one, 0 if they are equal, otherwise positive. */
     friend int compare(const Duration &first, const Duration &second) noexcept {
-        return detail::sure<std::int32_t>(
-            [&](auto *out) { return speedate_duration_compare(first.c_, second.c_, out); });
+        return detail::sure(speedate_duration_compare, first.c_, second.c_);
     }
     friend std::ostream &operator<<(std::ostream &to, const Duration &duration) { return to << duration.to_text(); }
 
@@ -847,9 +819,9 @@ template <class Number> class PrintColumn {
 
     template <class Numbers = std::initializer_list<Number>, class Buffer>
     Progress operator()(const Numbers &numbers, Buffer &&buffer) const {
-        return Progress(sure<SpeedateProgress>([&](auto *progress) {
-            return call_(std::data(numbers), std::size(numbers), std::data(buffer), std::size(buffer), progress);
-        }));
+        SpeedateProgress progress;
+        must(call_(std::data(numbers), std::size(numbers), std::data(buffer), std::size(buffer), &progress));
+        return Progress(progress);
     }
 
   private:
