@@ -662,21 +662,21 @@ class Interpreter(unittest.TestCase):
             self.assertGreater(count, 20, type(it))
 
     def test_turns(self):
-        """How long another thread waits at most while a column holds the lock."""
+        """How long another thread waits at most while a column holds the lock, in time of the processors: other programs take none."""
         if os.environ.get("LD_PRELOAD"):
             self.skipTest("the address sanitizer takes its own time")
         def run(call, took, done):
-            before = time.perf_counter()
+            before = time.process_time()
             call()
-            took.append(time.perf_counter() - before)
+            took.append(time.process_time() - before)
             done.append(True)
 
         def longest_wait(call):
             took, done, longest = [], [], 0
-            thread, last = threading.Thread(target=run, args=[call, took, done]), time.perf_counter()
+            thread, last = threading.Thread(target=run, args=[call, took, done]), time.process_time()
             thread.start()
             while not done:
-                now = time.perf_counter()
+                now = time.process_time()
                 longest, last = max(longest, now - last), now
             thread.join()
             return longest, took[0]
