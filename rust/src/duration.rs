@@ -103,7 +103,8 @@ impl Duration {
         ffi::speedate_duration_from_signed_microseconds(microseconds).expect("a number of 64 bits is a duration")
     }
 
-    /// The sum of durations, each with its sign. It is exact, and zero is positive.
+    /// The sum of durations, each with its sign. It is exact, and zero is positive. It calls C for each duration, since
+    /// C has the sign in another form, and the package allocates nothing.
     ///
     /// ```
     /// use speedate::Duration;
