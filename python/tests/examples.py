@@ -25,6 +25,9 @@ CASES = {
     "numpy.frombuffer(column, \"datetime64[us]\")\nframe": (
         "import numpy, pandas", "frame['moment'].tolist()",
         "[pandas.Timestamp('2026-11-01T08:00Z'), pandas.NaT, pandas.Timestamp('2026-11-02T08:30Z')]"),
+    "2**63 // 1000": (
+        "import numpy; moments = numpy.array(['9999-12-31', 'NaT', '1677-09-21T00:12:44', '1500-01-01'], 'datetime64[us]'); import pandas",
+        "pandas.Series(moments).isna().tolist()", "[True, True, False, True]"),
     "lines = speedate.text_column": (
         "frame = pandas.DataFrame({'moment': pandas.to_datetime(['2020-02-29T12:13:14.5Z', None])})", "lines", "b'2020-02-29T12:13:14.500000Z\\n\\n'"),
     "chunksize": (
