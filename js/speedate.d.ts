@@ -38,7 +38,7 @@ export class SpeedateError extends RangeError {
   /** The text that is refused: of bytes a copy, for a front of those that were looked at. A line of a column and a value have none. */ readonly text?: Text;
   /** Where in the text the fault lies, as a Refusal has it; of a line of a column in bytes. */ readonly place?: number;
   /** Where the part ends that begins there, as a Refusal has it. */ readonly end?: number;
-  /** Of a line of a column its index, from 0. */ readonly index?: number;
+  /** The index, from 0, of a line of a column, or of a number in print. */ readonly index?: number;
   /** The fields but the text, as a plain object. `structuredClone`, `postMessage` and loggers keep them, and of an error only the message. */
   toJSON(): Reason & Partial<Part> & { readonly name: string; readonly index?: number };
 }
@@ -198,6 +198,14 @@ export function durationColumnReader(options?: DurationColumnOptions & { unit?: 
 export function durationColumnReader(options: DurationColumnOptions & { unit: "us" }): ColumnReader<BigInt64Array>;
 export function durationColumnReader(options: DurationColumnOptions & { unit?: "ms" | "us" }): ColumnReader<Float64Array | BigInt64Array>;
 
+/** Prints a column as lines, each with a line feed: `1970-01-02\n` of the days `Int32Array.of(1)`. The kind is the name of the call
+ * that reads the lines back as these numbers. A `Float64Array` has milliseconds, which are printed to the nearest microsecond, and a
+ * `BigInt64Array` microseconds. The number of a refused line is an empty line. The first number without a line throws a
+ * SpeedateError, with its `index`: `time_too_large` outside a day, `date_too_small` or `date_too_large` outside the years 0
+ * to 9999, `number_too_large` if 64 bits do not hold its microseconds. */
+export function textColumn(numbers: Int32Array, kind: "date"): string;
+export function textColumn(numbers: Float64Array | BigInt64Array, kind: "time" | "dateTime" | "dateTimeClock" | "duration"): string;
+
 /** The date of a timestamp: 1970-01-02 of 86400 seconds. `date_not_exact` if it is not a midnight, unless `exact` is false;
  * `date_too_small` or `date_too_large` outside the years 0 to 9999. */
 export function dateFromTimestamp(timestamp: number | bigint, unit: TimestampUnit, options?: { exact?: boolean }): SpeedateDate;
@@ -243,6 +251,11 @@ export function between(earlier: SpeedateDateTime, later: SpeedateDateTime): Spe
 export function negate(duration: SpeedateDuration): SpeedateDuration;
 /** The duration of a number of microseconds, with its sign: `-PT1.5S` of -1500000. The number has to fit 64 bits. */
 export function durationFromMicroseconds(microseconds: number | bigint): SpeedateDuration;
+/** The sum of durations, each with its sign: `PT1H30M` of `PT2H` and `-PT30M`, and `PT0S` of none. `duration_days_too_large` if it has
+ * over 999999999 days. */
+export function sum(durations: readonly SpeedateDuration[]): SpeedateDuration;
+/** All microseconds of a duration, with its sign: `-1500000n` of `-PT1.5S`. `number_too_large` from 2 ** 63 on. */
+export function totalMicroseconds(duration: SpeedateDuration): bigint;
 /** The whole seconds of a duration, with its sign: -90 of `-PT1M30.5S`. */
 export function totalSeconds(duration: SpeedateDuration): number;
 /** The value at the same instant, as a clock at another offset shows it. `out_of_range_tz` from 24 hours on; `tz_required` without

@@ -1,37 +1,38 @@
 // SPDX-License-Identifier: MIT
-// Exact dates, times of day, date-times and durations. speedate.d.ts says what each call takes and answers.
+// Exact dates, times of day, date-times and durations. speedate.d.ts says what each call accepts and returns.
 
-/** The functions of speedate.h, a WebAssembly module, which other entries of the package take from elsewhere. */
+/** The functions of speedate.h as a WebAssembly module. The other entries of the package get it from elsewhere. */
 const ownModule = () => compiledOf(decoded("@MODULE@"));
 const NEEDED = "speedate needs WebAssembly with BigInt and bulk memory (Node 20, Chrome 115, Firefox 90, Safari 15) that a policy allows: a content security policy has to have 'wasm-unsafe-eval'";
 
-/** Where what goes in and comes out stands in the memory, from the end of the module's own part. */
+/** The addresses of arguments and results, counted from the end of the module's own memory. */
 const PLACE = { out: 0, taken: 16, config: 24, defaultConfig: 32, first: 40, second: 56, buffer: 72, part: 136, text: 160 };
 const BUFFER_SIZE = BigInt(PLACE.part - PLACE.buffer);
 const PAGE_SIZE = 2 ** 16;
-/** A text of more bytes gets a library of its own, whose memory goes with it. */
+/** A larger text gets its own library, so that its memory is freed. */
 const MOST_KEPT = 2 ** 24;
-/** Of a part the place, the end and the kind of the call that refused the text. */
 const PART = { place: PLACE.part, end: PLACE.part + 8, kind: PLACE.part + 16 };
-/** The lines, and the bytes, of a column that a call gets at once. It gets a longer line whole. */
+/** A call gets so many lines, and so many bytes, of a column at once. It gets a longer line whole. */
 const LINES_AT_ONCE = 2 ** 12;
 const BLOCK_SIZE = 2 ** 16;
 const LINE_FEED = 10;
 const CARRIAGE_RETURN = 13;
-/** Where a column stands in the memory while it is read, in the place of another text. */
+/** The addresses of a column, which is read in the place of a text. */
 const COLUMN = { config: PLACE.text, progress: PLACE.text + 8, numbers: PLACE.text + 32 };
 COLUMN.errors = COLUMN.numbers + 8 * LINES_AT_ONCE;
 COLUMN.text = COLUMN.errors + LINES_AT_ONCE;
-/** The sizes of the strings that are copied unit by unit. */
+/** The sizes of the strings that are copied unit by unit, as C takes them. */
 const SHORT_SIZES = Array.from({ length: 65 }, (_, size) => BigInt(size));
 const SECONDS_IN_DAY = 86400;
-const CODE = { tooShort: 1, invalidCharTzSign: 14, tzRequired: 19, dateTooSmall: 38 };
+/** The bytes of a duration in C. */
+const DURATION_SIZE = 16;
+const CODE = { tooShort: 1, invalidCharTzSign: 14, tzRequired: 19, dateTooSmall: 38, numberTooLarge: 97 };
 const MISSING = { error: 0, utc: 1 };
-/** The kinds of calls in C, on which it depends what is expected, by what a text of one may be. */
+/** C's numbers for the kinds of calls, by what a text may be. The phrase for what is expected depends on the kind. */
 const NONE = 0;
 const KINDS = {
   date: { lax: 1, timestamps: 2 }, time: { lax: 3, strict: 4 }, dateTime: { lax: 5, timestamps: 6, strict: 7 }, duration: { lax: 8 },
-  // Kinds of this package: an offset is required. The strict kinds of C require one too.
+  // These two require an offset, and only this package has them. The strict kinds of C require one too.
   offset: { lax: 9, strict: 4 }, instant: { lax: 10, timestamps: 10, strict: 7 },
 };
 const WITH_OFFSET = { 9: KINDS.time, 10: KINDS.dateTime };
@@ -62,10 +63,10 @@ export class SpeedateError extends RangeError {
 
 // ---- The module ----
 
-/** The module, the addresses of the places, and the library that is kept with its functions. */
+/** The module, the addresses of PLACE, and the library that all calls share, with its functions. */
 let compiled, address, kept, calls;
 
-/** An instance of the module, with views of its memory from the first place on. */
+/** An instance of the module, with views of its memory from `start` on. */
 class Library {
   constructor(size) {
     const { memory, __heap_base: end, ...functions } = new WebAssembly.Instance(compiled).exports;
@@ -75,7 +76,7 @@ class Library {
     this.reserve(size);
   }
 
-  /** Makes room for a text. Where the memory grows, its old views are gone. */
+  /** Makes room for a text. If the memory grows, the old views are detached. */
   reserve(size) {
     const missing = this.start + PLACE.text + size - this.memory.buffer.byteLength;
     if (missing > 0) this.memory.grow(Math.ceil(missing / PAGE_SIZE));
@@ -86,7 +87,7 @@ class Library {
 }
 
 function decoded(text) {
-  // As bin/build_js writes it: in hexadecimal all bytes, and then the place of each among them, in one digit or two.
+  // bin/build_js writes all 256 bytes in hexadecimal, and then the place of each byte among them, in one digit or two.
   const digits = new Uint8Array(127);
   let count = 0;
   for (let unit = 33; unit < 127; unit++) if (!'"&<\\|'.includes(String.fromCharCode(unit))) digits[unit] = count++;
@@ -127,7 +128,7 @@ function start() {
   if (kept === undefined) init(ownModule());
 }
 
-/** The names and texts of the faults, by the kind of the call and the code. */
+/** The names and texts of faults, by the kind of the call and the code. */
 const faults = [];
 function told(call, ...numbers) {
   accept(call(...numbers, address.buffer, BUFFER_SIZE, address.taken));
@@ -135,7 +136,7 @@ function told(call, ...numbers) {
 }
 
 const faultOf = (code, kind) => faults[kind]?.[code] ?? newFault(code, kind);
-/** If an offset is required, the phrase of the call in C may name a text without one: then another phrase of C is taken. */
+/** If an offset is required, the phrase for the call in C may name a text without one. Then another phrase of C is used. */
 function newFault(code, kind) {
   const { strict, lax } = WITH_OFFSET[kind] ?? { strict: kind, lax: kind };
   kept.view.setInt32(PART.kind, code === CODE.tooShort ? strict : lax, true);
@@ -148,15 +149,15 @@ function newFault(code, kind) {
   return it;
 }
 
-/** Throws if this is the code of a call that refused. */
+/** Throws if the code is a refusal. */
 function accept(code) {
   if (code !== 0) throw new SpeedateError(faultOf(code, NONE));
 }
 
-/** The size that a call has written: of its 64 bits a memory needs 32. */
+/** The size that a call has written. It has 64 bits, but fits 32. */
 const takenSize = () => kept.view.getUint32(PLACE.taken, true);
 
-/** The text that a call has printed: ASCII alone. */
+/** The text that a call has printed, which is ASCII. */
 function printed() {
   const { bytes } = kept;
   const end = PLACE.buffer + takenSize();
@@ -193,10 +194,10 @@ function bytesOf(text) {
   return bytes;
 }
 
-/** How many bytes the text had that was read last. */
+/** The number of bytes of the last text. */
 let lastSize;
 
-/** Puts a short string of ASCII alone into the kept memory, and gives its size; nothing for another text, or before the start. */
+/** Puts a short ASCII string into the shared memory, and returns its size. Returns undefined for another text, or before `init`. */
 function putShort(text) {
   if (typeof text !== "string" || text.length >= SHORT_SIZES.length || kept === undefined) return undefined;
   const { bytes } = kept;
@@ -209,7 +210,7 @@ function putShort(text) {
   return SHORT_SIZES[lastSize];
 }
 
-/** What a reader of a front can look at: 20 bytes, the digits after them, and an offset, with what tells that it ends. */
+/** How much of a text a reader of fronts can look at: 20 bytes, the digits after them, an offset, and what ends it. */
 function frontSize(text, size, unitAt) {
   let end = 20;
   while (end < size && unitAt(text, end) >= 48 && unitAt(text, end) <= 57) end++;
@@ -219,7 +220,7 @@ const stringUnit = (text, at) => text.charCodeAt(at);
 const byteAt = (text, at) => text[at];
 const frontOf = (text) => (typeof text === "string" && text.length > 32 ? text.slice(0, frontSize(text, text.length, stringUnit)) : text);
 
-/** Has a text read by a call, and gives its code. What the call has written stands in the kept memory. */
+/** Puts a text into the memory, calls C, and returns its code. The results are in the shared memory. */
 function read(text, isFront, numbers, call) {
   start();
   const short = putShort(text);
@@ -256,12 +257,12 @@ function integer64(value, name) {
 
 const UNITS = ["infer", "s", "ms", "us"];
 const FLAG = [false, true];
-/** What an option may be. The place of a choice is its number in C. */
+/** The values of options. The index of a value is its number in C. */
 const CHOICES = {
   timestamps: UNITS, overflow: ["error", "truncate"], isoOrder: ["lax", "strict"], strict: FLAG, exact: FLAG,
   missingOffset: Object.keys(MISSING), unit: ["ms", "us"],
 };
-/** No options as numbers. All names are its own: a prototype may have them too. */
+/** The options of a call without any. Each name is here, since a prototype might have it. */
 const noNumbers = () => ({
   timestamps: undefined, timestampOffset: undefined, overflow: undefined, isoOrder: undefined, strict: undefined, exact: undefined,
   missingOffset: undefined, unit: undefined, refusals: undefined, maxRefusals: undefined, maxLineBytes: undefined,
@@ -284,9 +285,9 @@ function sizeOption(value, name) {
   throw new TypeError(`${name} has to be an integer, and not negative`);
 }
 
-function listOption(value) {
+function arrayOf(value, name) {
   if (Array.isArray(value)) return value;
-  throw new TypeError("refusals has to be an array");
+  throw new TypeError(`${name} has to be an array`);
 }
 
 function isPlain(it) {
@@ -296,12 +297,12 @@ function isPlain(it) {
 
 function optionOf(value, name) {
   if (name === "timestampOffset") return offsetOption(value);
-  if (name === "refusals") return listOption(value);
+  if (name === "refusals") return arrayOf(value, name);
   if (name === "maxLineBytes" || name === "maxRefusals") return sizeOption(value, name);
   return choiceOf(value, CHOICES[name], name);
 }
 
-/** The options of a call as numbers, and a list as itself. The call has those of these names. */
+/** Checks the options of a call that has these names, and returns each as a number of C, and a list as it is. */
 function numbersOf(options, names) {
   if (options === undefined) return NO_OPTIONS;
   if (!isPlain(options)) throw new TypeError("options has to be a plain object");
@@ -321,7 +322,7 @@ function numbersOf(options, names) {
   return numbers;
 }
 
-/** Writes a configuration into the memory of a library, and gives its address. */
+/** Writes a configuration into the memory of a library, and returns its address. */
 function putConfig({ view }, numbers) {
   if (numbers === NO_OPTIONS) return address.defaultConfig;
   const { timestampOffset, timestamps = 0, overflow = 0, isoOrder = 0 } = numbers;
@@ -335,29 +336,28 @@ function putConfig({ view }, numbers) {
 
 // ---- Values ----
 
-/** Microseconds in whole milliseconds, and the offset of a time at this place. */
 const milliOf = (micro) => (micro / 1000) | 0;
 const offsetOf = (view, at) => (view.getUint8(at + 3) === 1 ? view.getInt32(at + 8, true) : null);
-/** The number that a call has written. One of 64 bits is no larger than 53 hold. */
+/** The number that a call has written. Those of 64 bits fit 53. */
 const int32Out = () => kept.view.getInt32(PLACE.out, true);
 const int64Out = () => Number(kept.view.getBigInt64(PLACE.out, true));
-/** Microseconds, or a number out of range where one of the two is not 0 to 999. */
+/** Microseconds, or a number out of range if one of the two is not 0 to 999. */
 const joined = (milli, micro) => (milli >= 0 && milli < 1000 && micro >= 0 && micro < 1000 ? milli * 1000 + micro : -1);
 
-/** A number that a field of C can hold. Any other becomes the largest one, which is out of range as well. */
+/** The number, if a field of C can hold it, or the largest one, which is out of range too. */
 const fitting = (number, largest) => (number >= 0 && number <= largest ? number : largest);
 const integerOrNull = (value, name) => (value === null ? null : integer(value, name));
 
-/** A number of a duration with the sign, which no zero gets, and one as it was given without it. */
+/** A field of a duration with the sign, but without -0, and such a field without it. */
 const signed = (size, sign) => size * sign || 0;
 function unsigned(value, sign, name) {
   if (sign * integer(value, name) < 0) throw new RangeError(`${name} has another sign than sign`);
   return Math.abs(value);
 }
 
-// Kinds of values: the name in C, the calls by their names there, and the calls themselves from `init` on, the fields, what reads a
-// value out of the memory, what looks at one that was given, at each field once, and what puts that into the memory. The fields
-// are written out, and not gone through by name.
+// The kinds of values: the name in C; the names of the calls there, and from `init` on the calls; the fields; what reads a value out
+// of the memory; what looks at each field of a given value once; and what puts that into the memory. Fields are written out,
+// since loops over their names are slower.
 const DATE = {
   name: "date",
   calls: undefined,
@@ -467,7 +467,7 @@ const WITH_DATE = [DATE, DATE_TIME];
 const HAS_OFFSET = [TIME, DATE_TIME];
 const JUST = { date: [DATE], dateTime: [DATE_TIME], duration: [DURATION] };
 
-/** A value of one of these kinds as it was given: its kind, and its fields, whose names mostly come in their order. */
+/** The fields of a given value, with its kind, which is one of these. The names mostly are in order. */
 function given(value, name, kinds) {
   start();
   const names = Object(value) === value ? Object.keys(value) : [];
@@ -475,7 +475,7 @@ function given(value, name, kinds) {
   throw new TypeError(`${name} has to be a ${kinds.map((it) => it.name).join(" or ")} with just its fields${wrongFields(names, kinds)}`);
 }
 
-/** What is too many, or missing, in the fields of the kind that they fit best. */
+/** Names the fields that are missing or too many, for the kind that fits best. */
 function wrongFields(names, kinds) {
   const missingIn = ({ fields }) => fields.filter((it) => !names.includes(it));
   const extraIn = ({ fields }) => names.filter((it) => !fields.includes(it));
@@ -492,7 +492,7 @@ function areFields(names, fields) {
   return true;
 }
 
-/** Puts a value that was given into the memory as the first or the second one, and gives its address. */
+/** Puts a given value into the memory, and returns its address. */
 function putFirst(it) {
   it.kind.put(kept.view, PLACE.first, it);
   return address.first;
@@ -502,7 +502,7 @@ function putSecond(it) {
   return address.second;
 }
 
-/** Throws if this is the code of a call of these values that refused: for the first of them that is out of range, or by itself. */
+/** Throws if the code is a refusal: for the first of the values that is out of range, or else for the code. */
 function acceptOf(code, first, second) {
   if (code === 0) return;
   check(first, address.first);
@@ -516,8 +516,8 @@ function check(it, place) {
 
 // ---- Reading ----
 
-// Each reader has a function of its own, which takes the short way for a short string without options: an engine compiles a
-// function for what it has seen there, and here it sees one reader.
+// Each reader has its own function, with a short way for a short string without options. An engine compiles a function for the
+// calls that it has seen there, and here it sees only one.
 
 const OF_DATE_TIME = ["strict", "timestamps", "timestampOffset", "overflow"];
 const OPTIONS_OF = {
@@ -525,7 +525,7 @@ const OPTIONS_OF = {
   dateFront: [], front: ["overflow"], column: ["refusals", "maxRefusals", "maxLineBytes"],
 };
 
-// Each writes the value, or the part for which the text is refused. A line of a column is a text too, at another address.
+// Each writes the value, or the part for which the text is refused. A column's line is a text at another address.
 function callDate(library, size, it, text = address.text) {
   const { speedate_date_parse_or_part: all, speedate_date_parse_or_part_text: lax } = library.calls;
   if (it.timestamps === undefined) return lax(text, size, address.out, address.part);
@@ -544,7 +544,7 @@ function callDateTime(library, size, it, text = address.text) {
   if (it.missingOffset === MISSING.error) library.view.setInt32(PART.kind, kindOf(KINDS.instant, it), true);
   return code === 0 ? withOffset(library, size, it) : code;
 }
-/** The code of a date-time that was read. Without an offset it gets that of UTC, or is refused, at its end. */
+/** The code of an accepted date-time. If it lacks an offset, it gets the offset of UTC, or is refused at its end. */
 function withOffset({ view }, size, { missingOffset }) {
   const at = PLACE.out + 4;
   if (offsetOf(view, at) !== null) return 0;
@@ -566,7 +566,7 @@ const callTimeFront = (library, size, it) =>
 const callDateTimeFront = (library, size, it) =>
   library.calls.speedate_datetime_parse_or_part_front(address.text, size, putConfig(library, it), address.out, address.taken, address.part);
 
-// Options come first, since their getters may call this too.
+// Options come first, since a getter among them may call this too.
 function codeOfDate(text, options) {
   const size = options === undefined ? putShort(text) : undefined;
   if (size !== undefined) return calls.speedate_date_parse_or_part_text(address.text, size, address.out, address.part);
@@ -591,27 +591,25 @@ const codeOfDateFront = (text, options) => read(frontOf(text), true, numbersOf(o
 const codeOfTimeFront = (text, options) => read(frontOf(text), true, numbersOf(options, OPTIONS_OF.front), callTimeFront);
 const codeOfDateTimeFront = (text, options) => read(frontOf(text), true, numbersOf(options, OPTIONS_OF.front), callDateTimeFront);
 
-/** What a reader of a front looks at in bytes. */
+/** The bytes that a reader of fronts looks at. */
 const seenOf = (text) =>
   typeof text === "string" ? text : new Uint8Array(bufferOf.call(text), byteOffset.call(text), frontSize(text, byteCount.call(text), byteAt));
 
-// Bytes may have been written to by the time that an error is looked at.
+// The caller may change the bytes before it looks at the error.
 const keptText = (text) => (typeof text === "string" ? text : new Uint8Array(text));
-/** The fault of the text that was refused last. */
 const lastFault = (code) => faultOf(code, kept.view.getInt32(PART.kind, true));
 
-/** The answer to a text that a call has refused with this code. Of a text that is read at its front it has seen so much. */
+/** The answer for a refused text, of which the call has seen this much. */
 function refusal(code, seen) {
   const { fault, message, expected } = lastFault(code);
   const { place, end } = partOf(seen);
   return { ok: false, fault, code, message, expected, place, end };
 }
-/** The error. */
 function errorOf(code, text, seen = text) {
   return new SpeedateError(lastFault(code), keptText(text), partOf(seen));
 }
 
-/** The part for which the text was refused that was read last: in units of a string, otherwise in bytes. */
+/** The part for which the last text was refused, in units of a string, otherwise in bytes. */
 function partOf(text) {
   const { view } = kept;
   const place = view.getUint32(PART.place, true);
@@ -620,7 +618,7 @@ function partOf(text) {
   return { place: unitsBefore(text, place), end: end === lastSize ? text.length : unitsBefore(text, end) };
 }
 
-/** The units of a string before this many of its bytes: whole characters alone, since a place may lie within one. */
+/** The number of units in the whole characters before a byte of a string. A place may be within a character. */
 function unitsBefore(text, size) {
   let units = 0;
   for (let bytes = 0; bytes < size; ) {
@@ -668,13 +666,12 @@ export function safeParseDuration(text, options) {
   return code === 0 ? { ok: true, value: DURATION.read(kept) } : refusal(code, text);
 }
 
-/** A value that was read at the front of a text, with its size. */
 function frontAnswer(value, text) {
   const size = takenSize();
   return typeof text === "string" ? { value, size, length: unitsOf(text, size) } : { value, size };
 }
 
-/** The units of a value at the front of a string. U+2212 alone has another number of bytes than units. */
+/** The number of units of a value at the front of a string. Only U+2212 has more bytes than units. */
 function unitsOf(text, size) {
   let units = 0;
   for (let bytes = 0; bytes < size; units++) bytes += text.charCodeAt(units) > 127 ? 3 : 1;
@@ -711,7 +708,6 @@ export function safeParseDateTimeFront(text, options) {
 
 // ---- Schemas ----
 
-/** The calls of schemas, by their kinds, which are those of the options. */
 const SCHEMAS = { date: safeParseDate, time: safeParseTime, dateTime: safeParseDateTime, duration: safeParseDuration };
 
 function issueOf({ message, fault, code, place, end, expected }) {
@@ -721,7 +717,7 @@ function issueOf({ message, fault, code, place, end, expected }) {
 export function schema(kind, options) {
   choiceOf(kind, Object.keys(SCHEMAS), "kind");
   const parse = SCHEMAS[kind];
-  // Options that are wrong are so here, and not with the first text.
+  // Wrong options throw here, not at the first text.
   numbersOf(options, OPTIONS_OF[kind]);
   const own = options === undefined ? undefined : { ...options };
   const validate = (text) => {
@@ -734,9 +730,9 @@ export function schema(kind, options) {
 
 // ---- Columns ----
 
-/** The number of a line that is refused. */
+/** The number of a refused line. */
 const SMALLEST = -(2n ** 63n);
-/** The milliseconds of the microseconds at this place: the nearest double, or NaN of a line that is refused. */
+/** The microseconds at an address as milliseconds: the nearest double, or NaN for a refused line. */
 function millisecondsAt(view, at) {
   const microseconds = view.getInt32(at + 4, true) * 2 ** 32 + view.getUint32(at, true);
   if (Number.isSafeInteger(microseconds)) return microseconds / 1000;
@@ -746,17 +742,17 @@ function millisecondsAt(view, at) {
   return exact === SMALLEST ? NaN : Number(`${exact}e-3`);
 }
 
-/** How the numbers of a column are handed out. One takes as many bytes as in C. */
+/** How the numbers of a column are returned. A number has as many bytes as in C. */
 const INTEGERS = { Numbers: Int32Array, numberAt: (view, at) => view.getInt32(at, true) };
 const MILLISECONDS = { Numbers: Float64Array, numberAt: millisecondsAt };
 const MICROSECONDS = { Numbers: BigInt64Array, numberAt: (view, at) => view.getBigInt64(at, true) };
 
-/** A column of which pieces come: how it is read, and a line of it alone, of which kind, how many lines it had, and how many were
- * refused, what it has of an unfinished one, as so many bytes of an array, and half a pair that ended a string. */
+/** A column that comes in pieces. The first `size` bytes of `unfinished` are a line that has not ended, and `half` is half a pair that
+ * ended a string. */
 const columnOf = (name, callLine, kinds, handedOut, numbers) =>
   ({ name, callLine, kind: kindOf(kinds, numbers), ...handedOut, numbers, lines: 0, refused: 0, unfinished: new Uint8Array(0), size: 0, half: "", hasEnded: false });
 
-/** Adds bytes to what is unfinished. The array doubles, so that many small pieces take no more room than a large one. */
+/** Adds bytes to the unfinished line. The array doubles, so that many small pieces need no more room than a large one. */
 function addUnfinished(column, bytes) {
   const size = column.size + bytes.length;
   if (size > column.unfinished.length) {
@@ -782,7 +778,7 @@ function bytesOfPiece(column, text, isEnd) {
   return encoded(whole.slice(0, size));
 }
 
-/** Writes how a column is read into the memory of a library, and gives its address: returns are dropped, and a refused line ends it. */
+/** Writes the configuration of a column, and returns its address. Returns are dropped, and a refused line ends the column. */
 function putColumnConfig({ start, view }, { timestamps, strict, missingOffset = MISSING.error }, isEnd) {
   view.setUint8(COLUMN.config, isEnd ? 1 : 0);
   view.setUint8(COLUMN.config + 1, 1);
@@ -792,7 +788,7 @@ function putColumnConfig({ start, view }, { timestamps, strict, missingOffset = 
   return BigInt(start + COLUMN.config);
 }
 
-/** Puts what is unfinished into the memory of a library, and gives that library, and the place where the text ends. */
+/** Puts the unfinished bytes into the memory of a library. Returns the library, and where the bytes end. */
 function putUnfinished({ unfinished, size }) {
   const needed = COLUMN.text - PLACE.text + size;
   const library = size > MOST_KEPT ? new Library(needed) : kept;
@@ -801,8 +797,8 @@ function putUnfinished({ unfinished, size }) {
   return { library, end: COLUMN.text + size };
 }
 
-/** Has the library read what is unfinished, and keeps of it what follows its lines. Adds to the parts arrays of numbers, and to
- * the refusals those of lines. */
+/** Reads the lines of the unfinished bytes, and keeps what follows them. Appends arrays of numbers to `parts`, and refused lines to
+ * `refusals`. */
 function readLines(column, isEnd, parts, refusals) {
   const { name, numbers } = column;
   const { library, end } = putUnfinished(column);
@@ -830,7 +826,7 @@ function readLines(column, isEnd, parts, refusals) {
     column.lines += lines;
     at = next;
   } while (lines === LINES_AT_ONCE);
-  // The room of a very long line goes with it.
+  // The room of a very long line is freed.
   if (column.unfinished.length > MOST_KEPT) column.unfinished = new Uint8Array(end - at);
   column.unfinished.set(bytes.subarray(at, end));
   column.size = end - at;
@@ -842,7 +838,7 @@ function numbersIn(view, lines, { Numbers, numberAt }) {
   return numbers;
 }
 
-/** Adds the refusals among the next lines of a column, as long as it may have more. */
+/** Appends the refusals among the next lines of a column, up to `maxRefusals`. */
 function addRefusals(refusals, errors, column) {
   const { kind, lines, numbers: { maxRefusals = Infinity } } = column;
   for (let i = 0; i < errors.length; i++) {
@@ -851,8 +847,8 @@ function addRefusals(refusals, errors, column) {
   }
 }
 
-/** The part for which the line is refused that ends a column, in bytes. What a column alone refuses lacks an offset, at its end, or
- * is too long a duration. */
+/** The part, in bytes, for which a line ends a column. If only the column refuses the line, it lacks an offset, at its end, or is too
+ * long a duration. */
 function partOfLine(library, at, textEnd, { callLine, numbers }, error) {
   const { bytes, view } = library;
   const feed = bytes.subarray(at, textEnd).indexOf(LINE_FEED);
@@ -862,7 +858,7 @@ function partOfLine(library, at, textEnd, { callLine, numbers }, error) {
   return { place: view.getUint32(PART.place, true), end: view.getUint32(PART.end, true) };
 }
 
-/** The numbers of the lines that a piece ends. A column whose piece was refused has ended. */
+/** The numbers of the lines that end in a piece. If this throws, the column has ended. */
 function readPiece(column, text, isEnd) {
   if (typeof text !== "string") bytesOf(text);
   if (column.hasEnded) throw new TypeError("the column has ended");
@@ -872,7 +868,7 @@ function readPiece(column, text, isEnd) {
   for (let from = 0; from < bytes.length; from += BLOCK_SIZE) {
     const before = column.size;
     addUnfinished(column, bytes.subarray(from, from + BLOCK_SIZE));
-    // What cannot end a line is not read, again and again, with all that came before.
+    // Without a line feed no line ends, and what came before is not read once more.
     if (column.unfinished.subarray(before, column.size).includes(LINE_FEED)) readLines(column, false, parts, refusals);
     checkUnfinished(column);
   }
@@ -882,7 +878,7 @@ function readPiece(column, text, isEnd) {
   return concatenated(parts, column.Numbers);
 }
 
-/** Throws if more is kept of an unfinished line than may be. */
+/** Throws if the unfinished line is longer than `maxLineBytes`. */
 function checkUnfinished({ size, lines, numbers: { maxLineBytes = Infinity } }) {
   if (size <= maxLineBytes) return;
   throw Object.assign(new RangeError(`line ${lines} has more than ${maxLineBytes} bytes`), { name: "LineTooLong", index: lines });
@@ -898,8 +894,7 @@ function concatenated(parts, Numbers) {
   return all;
 }
 
-/** What begins a column by its options: its call in C, that of one line, the kinds of its lines, the options that it has, and how
- * its numbers are handed out. */
+/** Makes the function that begins a column with its options. `callLine` reads one line of it, and `names` are its options. */
 const beginner = (name, callLine, kindsBy, names, handedOutBy) => (options) => {
   const numbers = numbersOf(options, [...names, ...OPTIONS_OF.column]);
   start();
@@ -967,9 +962,70 @@ export function durationColumnReader(options) {
   return readerOf(newDurationColumn(options));
 }
 
+// ---- Columns in print ----
+
+const PRINTERS = {
+  date: "date_print_column", time: "time_print_column", dateTime: "datetime_print_column", dateTimeClock: "datetime_clock_print_column",
+  duration: "duration_print_column",
+};
+/** The most bytes of a printed line, with its end. */
+const LINE_SIZE = 33;
+
+function putDays(view, at, days) {
+  view.setInt32(at, days, true);
+  return true;
+}
+function putMicroseconds(view, at, microseconds) {
+  view.setBigInt64(at, microseconds, true);
+  return BigInt.asIntN(64, microseconds) === microseconds;
+}
+/** Puts milliseconds as the nearest microsecond into the memory, and NaN as a refused line. Returns whether 64 bits hold it. */
+function putMilliseconds(view, at, milliseconds) {
+  const whole = Math.trunc(milliseconds);
+  const rest = Math.round((milliseconds - whole) * 1000);
+  const microseconds = whole * 1000 + rest;
+  if (Number.isSafeInteger(microseconds)) return putMicroseconds(view, at, BigInt(microseconds));
+  if (Number.isNaN(milliseconds)) return putMicroseconds(view, at, SMALLEST);
+  return Number.isFinite(whole) && putMicroseconds(view, at, BigInt(whole) * 1000n + BigInt(rest));
+}
+const PUT = { Int32Array: putDays, Float64Array: putMilliseconds, BigInt64Array: putMicroseconds };
+
+/** Prints numbers of an array from an index on, at most LINES_AT_ONCE. */
+function printLines(numbers, from, { put, call, inC: { BYTES_PER_ELEMENT } }) {
+  const { start, bytes, view } = kept;
+  const most = Math.min(byteCount.call(numbers) - from, LINES_AT_ONCE);
+  let count = 0;
+  while (count < most && put(view, COLUMN.numbers + count * BYTES_PER_ELEMENT, numbers[from + count])) count++;
+  const [given, room, progress] = [COLUMN.numbers, COLUMN.text, COLUMN.progress].map((place) => BigInt(start + place));
+  accept(call(given, BigInt(count), room, BigInt(LINES_AT_ONCE * LINE_SIZE), progress));
+  const error = view.getInt32(COLUMN.progress + 16, true) || (count < most ? CODE.numberTooLarge : 0);
+  if (error !== 0) throw Object.assign(new SpeedateError(faultOf(error, NONE)), { index: from + view.getUint32(COLUMN.progress, true) });
+  return asciiOf(bytes.subarray(COLUMN.text, COLUMN.text + view.getUint32(COLUMN.progress + 8, true)));
+}
+
+/** The text of ASCII bytes. The number of arguments of a function is limited. */
+function asciiOf(bytes) {
+  let text = "";
+  for (let at = 0; at < bytes.length; at += 2 ** 12) text += String.fromCharCode.apply(null, bytes.subarray(at, at + 2 ** 12));
+  return text;
+}
+
+export function textColumn(numbers, kind) {
+  choiceOf(kind, Object.keys(PRINTERS), "kind");
+  const type = typeName.call(numbers);
+  const types = kind === "date" ? ["Int32Array"] : ["Float64Array", "BigInt64Array"];
+  if (!types.includes(type)) throw new TypeError(`numbers has to be a ${types.join(" or a ")}`);
+  start();
+  kept.reserve(COLUMN.text - PLACE.text + LINES_AT_ONCE * LINE_SIZE);
+  const printer = { put: PUT[type], call: calls[`speedate_${PRINTERS[kind]}`], inC: kind === "date" ? Int32Array : BigInt64Array };
+  let text = "";
+  for (let from = 0; from < byteCount.call(numbers); from += LINES_AT_ONCE) text += printLines(numbers, from, printer);
+  return text;
+}
+
 // ---- Timestamps ----
 
-/** The configuration of a unit, and of the offset that options have as numbers. */
+/** Writes the configuration of a unit and of the offset in the options, and returns its address. */
 function putUnit(unit, { timestampOffset }) {
   const timestamps = choiceOf(unit, UNITS, "unit");
   start();
@@ -1086,6 +1142,25 @@ export function durationFromMicroseconds(microseconds) {
   start();
   accept(calls.speedate_duration_from_signed_microseconds(number, address.out));
   return DURATION.read(kept);
+}
+
+export function sum(durations) {
+  const all = Array.from(arrayOf(durations, "durations"), (it, i) => given(it, `durations[${i}]`, JUST.duration));
+  start();
+  const size = all.length * DURATION_SIZE;
+  const library = size > MOST_KEPT ? new Library(size) : kept;
+  library.reserve(size);
+  for (const [i, it] of all.entries()) DURATION.put(library.view, PLACE.text + i * DURATION_SIZE, it);
+  const code = library.calls.speedate_duration_sum(address.text, BigInt(all.length), address.out);
+  if (code !== 0) for (const it of all) check(it, putFirst(it));
+  accept(code);
+  return DURATION.read(library);
+}
+
+export function totalMicroseconds(duration) {
+  const it = given(duration, "duration", JUST.duration);
+  acceptOf(calls.speedate_duration_signed_total_microseconds(putFirst(it), address.out), it);
+  return kept.view.getBigInt64(PLACE.out, true);
 }
 
 export function totalSeconds(duration) {

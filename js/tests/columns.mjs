@@ -1,15 +1,15 @@
-// Columns beside calls of one line each: drawn lines with all options, pieces cut at every byte, lines and columns of many sizes,
-// what is refused, and what a reader keeps: node columns.mjs.
+// Columns beside calls of one line each: drawn lines with all options, columns in print, pieces cut at every byte, lines and columns
+// of many sizes, what is refused, and what a reader keeps: node columns.mjs.
 import assert from "node:assert/strict";
 import { readFileSync } from "node:fs";
 import { setTimeout as sleep } from "node:timers/promises";
 import { setFlagsFromString } from "node:v8";
 import { runInNewContext } from "node:vm";
 import {
-  dateColumn, dateColumnReader, dateTimeClockColumn, dateTimeClockColumnReader, dateTimeColumn, dateTimeColumnReader, dateTimeFromTimestamp, dateTimeOffsetColumn,
-  dateTimeOffsetColumnReader, daysBetween, durationColumn, durationColumnReader, epochMilliseconds, inTimezone, parseDate, parseDateTime, safeParseDate, safeParseDateTime,
-  safeParseDuration, safeParseTime, SpeedateError, timeColumn,
-  timeColumnReader, timeOffsetColumn, timeOffsetColumnReader, toDate,
+  addDays, dateColumn, dateColumnReader, dateTimeClockColumn, dateTimeClockColumnReader, dateTimeColumn, dateTimeColumnReader, dateTimeFromTimestamp, dateTimeOffsetColumn,
+  dateTimeOffsetColumnReader, daysBetween, durationColumn, durationColumnReader, durationFromMicroseconds, epochMilliseconds, format, inTimezone, parseDate, parseDateTime, safeParseDate, safeParseDateTime,
+  safeParseDuration, safeParseTime, SpeedateError, textColumn, timeColumn,
+  timeColumnReader, timeFromTimestamp, timeOffsetColumn, timeOffsetColumnReader, toDate,
 } from "speedate";
 
 let drawn = 1;
@@ -204,6 +204,67 @@ const lines = ENDS.flatMap((end) => FRACTIONS.flatMap((fraction) => ["Z", "+23:5
 for (const [i, it] of dateTimeColumn(lines.join("\n"), { unit: "us" }).entries()) {
   const of = (call) => thrown(call)?.fault ?? call().getTime();
   assert.equal(of(() => dateOf(toDate, dateTimeFromTimestamp, it)), of(() => toDate(inTimezone(parseDateTime(lines[i]), 0))), lines[i]);
+}
+
+// ---- Columns in print: beside the text of each value, and read again ----
+
+const DAY = 86400000000n;
+/** By kind what reads it, the first and the last number, the faults of those before and after, and the value of a number. */
+const PRINTED = {
+  date: [dateColumn, -719528, 2932896, "date_too_small", "date_too_large", (it) => addDays(EPOCH, it)],
+  time: [timeColumn, 0, DAY - 1n, "time_too_large", "time_too_large", (it) => timeFromTimestamp(it, "us")],
+  dateTime: [dateTimeColumn, -719528n * DAY, 2932897n * DAY - 1n, "date_too_small", "date_too_large", (it) => dateTimeFromTimestamp(it, "us", { timestampOffset: 0 })],
+  dateTimeClock: [dateTimeClockColumn, -719528n * DAY, 2932897n * DAY - 1n, "date_too_small", "date_too_large", (it) => dateTimeFromTimestamp(it, "us")],
+  duration: [durationColumn, 1n - 2n ** 63n, 2n ** 63n - 1n, "number_too_large", "number_too_large", (it) => durationFromMicroseconds(it)],
+};
+const isRefused = (it) => it === SMALLEST || it === TOO_FEW_MICROSECONDS || Number.isNaN(it);
+for (const [kind, [read, ...bounds]] of Object.entries(PRINTED)) {
+  const [least, most] = bounds.slice(0, 2).map(BigInt);
+  const [tooSmall, tooLarge, valueOf] = bounds.slice(2);
+  const [Exact, options, empty] = kind === "date" ? [Int32Array, {}, SMALLEST] : [BigInt64Array, { unit: "us" }, TOO_FEW_MICROSECONDS];
+  const inArray = (it) => (kind === "date" ? Number(it) : BigInt(it));
+  const between = () => least + ((most - least) * BigInt(below(2 ** 31 - 1))) / 2147483646n;
+  const near = () => [0n, least, most][below(3)] + BigInt(below(2001) - 1000);
+  const drawnOnes = Array.from({ length: 10000 }, () => [between, near, near][below(3)]()).map((it) => (it < least ? least : it > most ? most : it));
+  const numbers = Exact.from([least, most, 0n, ...drawnOnes].map(inArray));
+  numbers[1] = numbers[4100] = empty;
+  for (const count of [0, 1, 3, 4095, 4096, 4097, numbers.length]) {
+    const column = numbers.subarray(0, count);
+    const text = textColumn(column, kind);
+    assert.deepEqual(linesOf(text), Array.from(column, (it) => (isRefused(it) ? "" : format(valueOf(it)))));
+    assert.deepEqual(read(text, { ...options, refusals: [] }), column);
+    if (kind === "date") continue;
+    // The last numbers are rounded up, to one that has no line.
+    const milliseconds = read(text, { refusals: [] }).map((it) => (Math.abs(it) < Number(most) / 1000 ? it : NaN));
+    assert.deepEqual(read(textColumn(milliseconds, kind), { refusals: [] }), milliseconds, "the number of milliseconds is printed as a line of this number");
+    if (kind !== "duration") assert.equal(textColumn(milliseconds.map((it) => (Math.abs(it) < 2 ** 43 ? it : NaN)), kind), textColumn(column.map((it, i) => (Math.abs(milliseconds[i]) < 2 ** 43 ? it : empty)), kind));
+  }
+  const others = kind === "duration" ? [] : [Exact.of(inArray(least - 1n)), Exact.of(inArray(most + 1n))];
+  if (kind !== "date") others.push(Float64Array.of(-9.3e15), Float64Array.of(9.3e15), Float64Array.of(-Infinity), Float64Array.of(Infinity));
+  for (const [i, it] of others.entries()) {
+    const isWide = it.constructor === Float64Array;
+    const fault = isWide ? "number_too_large" : [tooSmall, tooLarge][i];
+    const many = new it.constructor(9000);
+    for (const at of [0, 1, 4096, 8999]) {
+      const error = thrown(() => textColumn(many.with(at, it[0]), kind));
+      assert.deepEqual([error.constructor, error.fault, error.index, "place" in error], [SpeedateError, fault, at, false], kind);
+    }
+    assert.equal(thrown(() => textColumn(many.with(3, it[0]).with(2, it[0]), kind)).index, 2);
+  }
+}
+// Of two numbers without a line the first one is thrown, also before one that 64 bits do not hold.
+for (const numbers of [[-1, Infinity], [Infinity, -1]]) assert.equal(thrown(() => textColumn(Float64Array.of(0, ...numbers), "time")).fault, numbers[0] < 0 ? "time_too_large" : "number_too_large");
+assert.equal(textColumn(Float64Array.of(1000.0006, 1000.0004, -0.5, -0, NaN, -1000.25), "duration"), "PT1.000001S\nPT1S\n-PT0.0005S\nPT0S\n\n-PT1.00025S\n");
+assert.equal(textColumn(runInNewContext("Int32Array.of(1)"), "date"), "1970-01-02\n");
+{
+  const bytes = new Int32Array(6);
+  bytes[3] = 1;
+  assert.equal(textColumn(bytes.subarray(2, 5), "date"), "1970-01-01\n1970-01-02\n1970-01-01\n");
+  const COUNT = 1000000;
+  const start = performance.now();
+  const text = textColumn(Float64Array.from({ length: COUNT }, (_, i) => 1577836800000.5 + i * 60000), "dateTime");
+  assert.ok(performance.now() - start < 20000);
+  assert.deepEqual([text.length, text.slice(-28)], [COUNT * 28, "2021-11-25T10:39:00.000500Z\n"]);
 }
 
 // ---- Pieces ----

@@ -42,7 +42,10 @@ const CALLS = {
   epochMilliseconds: [ofDateTime], toDate: [ofDateTime], fromDate: [[new Date(0), [undefined, ...noObject, {}, date]]],
   format: [[time, noValue]], compare: [ofDate, ofDate], between: [ofDate, ofDate], daysBetween: [ofDate, ofDate],
   addDays: [ofDate, [1, noNumber]], dayOfYear: [ofDate], negate: [ofDuration], totalSeconds: [ofDuration],
-  durationFromMicroseconds: [[0, noNumber.filter((it) => it !== 5n)]],
+  durationFromMicroseconds: [[0, noNumber.filter((it) => it !== 5n)]], totalMicroseconds: [ofDuration],
+  sum: [[[duration], [undefined, ...noObject, {}, new Set(), ...ofDuration[1].filter((it) => typeof it !== "symbol").map((it) => [duration, it])]]],
+  textColumn: [[new Int32Array(1), [undefined, ...noObject, {}, [], [1], ...[Int16Array, Uint32Array, Float64Array, BigInt64Array, Uint8Array].map((it) => new it(1))]],
+    ["date", [undefined, ...noObject, "time", "dateTime", "datetime", "offset", "toString", ["date"]]]],
   after: ofMove, before: ofMove, inTimezone: [[time, [...noValue, date, duration]], [0, noNumber]],
   ...Object.fromEntries(columns.flatMap((it) => [[it, ofColumn], [`${it}Reader`, ofColumn.slice(1)]])),
   schema: [["date", [undefined, ...noObject, "datetime", "toString", ["date"]]], [undefined, noOptions]],
@@ -293,6 +296,17 @@ assert.deepEqual(safeParseDate("x"), { ok: false, fault: "too_short", code: 1, m
 assert.deepEqual(fromDate(toDate(dateTime)), dateTime);
 assert.equal(format(speedate.durationFromMicroseconds(-1500000)), "-PT1.5S");
 for (const it of [2n ** 63n, -(2n ** 63n) - 1n, 0.5, 2 ** 63]) assert.throws(() => speedate.durationFromMicroseconds(it), RangeError);
+for (const it of [0n, -1n, 2n ** 63n - 1n, 1n - 2n ** 63n]) assert.equal(speedate.totalMicroseconds(speedate.durationFromMicroseconds(it)), it);
+assert.throws(() => speedate.totalMicroseconds(parseDuration("P106751992D")), refused("number_too_large"));
+assert.throws(() => speedate.totalMicroseconds({ ...duration, days: -(2 ** 32) }), refused("duration_days_too_large"));
+const sumOf = (...texts) => format(speedate.sum(texts.map((it) => parseDuration(it))));
+assert.deepEqual([sumOf(), sumOf("-PT0S"), sumOf("PT2H", "-PT30M"), sumOf("-P1D", "PT23H"), sumOf("-PT0.000001S")], ["PT0S", "PT0S", "PT1H30M", "-PT1H", "-PT0.000001S"]);
+assert.equal(sumOf("P999999999D", "P999999999D", "-P999999999D", "PT23H59M59.999999S"), sumOf("P999999999DT23H59M59.999999S"), "only the whole sum has to fit");
+assert.throws(() => sumOf("P999999999D", "PT23H59M59.999999S", "PT0.000001S"), refused("duration_days_too_large"));
+assert.throws(() => speedate.sum([duration, { ...duration, seconds: -86400 }, { ...duration, sign: 2 ** 32 }]), outside("days"));
+assert.throws(() => speedate.sum([duration, { ...duration, seconds: -86400 }, { ...duration, days: -(2 ** 32) }]), refused("duration_value_too_large"));
+assert.equal(format(speedate.sum([{ ...duration, get days() { return sumOf("PT9S") && -1; } }, duration])), "-P2DT0.002004S", "what a getter calls changes nothing");
+for (const count of [2, 2 ** 20, 2 ** 20 + 1]) assert.equal(format(speedate.sum(Array(count).fill(parseDuration("PT1S")))), format(parseDuration(`PT${count}S`)));
 const seen = [];
 format(new Proxy(dateTime, { get: (it, name) => (seen.push(name), it[name]) }));
 assert.deepEqual(seen, Object.keys(dateTime), "each field is looked at once");

@@ -50,6 +50,7 @@ const CALLS = {
   ordinal_day: (of, it) => speedate.dayOfYear(of(it)),
   from_signed_microseconds: (of, it) => speedate.durationFromMicroseconds(BigInt(it)),
   negate: (of, it) => speedate.negate(of(it)), signed_total_seconds: (of, it) => speedate.totalSeconds(of(it)),
+  signed_total_microseconds: (of, it) => speedate.totalMicroseconds(of(it)), sum: (of, ...all) => speedate.sum(all.map(of)),
   days_between: (of, one, other) => speedate.daysBetween(of(one), of(other)),
   in_timezone: (of, it, offset) => inTimezone(of(it), Number(offset)),
   unix_seconds: (of, it) => Math.floor(epochMilliseconds(of(it)) / 1000), unix_milliseconds: (of, it) => epochMilliseconds(of(it)),
@@ -81,7 +82,7 @@ function unitsAt(text, byte) {
 function outcome(call, ...args) {
   try {
     const it = call(...args);
-    return { ok: true, value: typeof it === "number" ? String(it) : it };
+    return { ok: true, value: /^(number|bigint)$/.test(typeof it) ? String(it) : it };
   } catch (error) {
     if (!(error instanceof SpeedateError)) throw error;
     const { fault, code, message, expected, place, end } = error;

@@ -98,6 +98,13 @@ const uses: Record<keyof typeof speedate, unknown> = {
     ((it: BigInt64Array): bigint => it[0])(speedate.durationColumnReader({ unit: "us" }).end("PT1S")),
     same<number, speedate.ColumnReader<Int32Array>["refused"]>(true, speedate.durationColumnReader().refused),
   ],
+  textColumn: [
+    same<string, ReturnType<typeof speedate.textColumn>>(true, speedate.textColumn(speedate.dateColumn("1970-01-02"), "date")),
+    speedate.textColumn(new Float64Array(1), "time"), speedate.textColumn(new BigInt64Array(1), "dateTimeClock"),
+    speedate.textColumn(speedate.dateTimeColumn("1970-01-02T00:00Z"), "dateTime"), speedate.textColumn(speedate.durationColumn("PT1S", { unit: "us" }), "duration"),
+  ],
+  sum: same<SpeedateDuration, ReturnType<typeof speedate.sum>>(true, speedate.sum([second, second])),
+  totalMicroseconds: same<bigint, ReturnType<typeof speedate.totalMicroseconds>>(true, speedate.totalMicroseconds(second)),
   dateFromTimestamp: same<SpeedateDate, ReturnType<typeof speedate.dateFromTimestamp>>(true, speedate.dateFromTimestamp(1n, "s", { exact: false })),
   timeFromTimestamp: same<SpeedateTime, ReturnType<typeof speedate.timeFromTimestamp>>(true, speedate.timeFromTimestamp(1, "us", { timestampOffset: 0 })),
   dateTimeFromTimestamp: same<SpeedateDateTime, ReturnType<typeof speedate.dateTimeFromTimestamp>>(true, speedate.dateTimeFromTimestamp(1n, "infer", { timestampOffset: 0 })),
@@ -160,6 +167,16 @@ const refused = [
   () => speedate.durationColumn("", { strict: true }),
   // @ts-expect-error
   () => speedate.dateTimeColumn(["2020-02-29T12:13Z"]),
+  // @ts-expect-error
+  () => speedate.textColumn(new Int32Array(1), "dateTime"),
+  // @ts-expect-error
+  () => speedate.textColumn(new BigInt64Array(1), "date"),
+  // @ts-expect-error
+  () => speedate.textColumn([1, 2], "duration"),
+  // @ts-expect-error
+  () => speedate.sum(second),
+  // @ts-expect-error
+  () => speedate.sum([date]),
   // @ts-expect-error
   () => speedate.dateTimeColumnReader({ refusals: true }),
   // @ts-expect-error
