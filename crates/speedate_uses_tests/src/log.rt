@@ -54,7 +54,7 @@ const ORDERS: [&str; 6] = [
 
 /// Lists on both sides of twenty date-times, which are sorted without memory, and a longer one, at two
 /// offsets. Each is sorted in heaps of all sizes, so that each request is the first to fail in some of
-/// them. A sort that calculates each key at each comparison makes one request, or none if the list rises
+/// them: an allocator that refuses a named request would be `unsafe`. A sort that calculates each key at each comparison makes one request, or none if the list rises
 /// or falls: both are to succeed in the same heaps, and to leave the same list.
 #[test]
 fn many_date_times_by_instant(rt: HostRuntime) {
