@@ -663,8 +663,9 @@ class Interpreter(unittest.TestCase):
 
     def test_turns(self):
         """How long another thread waits at most while a column holds the lock, in time of the processors: other programs take none."""
-        if os.environ.get("LD_PRELOAD"):
-            self.skipTest("the address sanitizer takes its own time")
+        if sys.flags.dev_mode:
+            self.skipTest("memory that is checked takes its own time")
+
         def run(call, took, done):
             before = time.process_time()
             call()
