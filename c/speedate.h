@@ -452,6 +452,11 @@ SPEEDATE_NODISCARD int speedate_time_check(SpeedateTime time);
  * minutes; the seconds of any other offset are not printed. */
 SPEEDATE_NODISCARD int speedate_time_to_text(SpeedateTime time, char *buffer, size_t size, size_t *length);
 
+/* Prints a time with 0, 3 or 6 digits after the second, rounded down: "12:13:14.500+01:30" with 3, "12:13:14" with 0.
+ * Any other number of digits is refused with SPEEDATE_VALUE_OUT_OF_RANGE. */
+SPEEDATE_NODISCARD int speedate_time_to_text_with_digits(SpeedateTime time, int digits, char *buffer, size_t size,
+                                                         size_t *length);
+
 /* Writes -1 if the first time is the earlier one, 0 if they are the same instant, otherwise 1: in UTC if both have an
  * offset, otherwise as clocks show them. Times at different offsets can be the same instant. Sort only values that all
  * have an offset, or that all have none: in a mixture the order is not transitive. */
@@ -512,6 +517,10 @@ SPEEDATE_NODISCARD int speedate_datetime_check(SpeedateDateTime value);
 /* Prints a date-time: "2020-02-29T12:13:14.500000+01:30". The text parses as the date-time
  * under the condition of speedate_time_to_text. */
 SPEEDATE_NODISCARD int speedate_datetime_to_text(SpeedateDateTime value, char *buffer, size_t size, size_t *length);
+
+/* Prints a date-time with 0, 3 or 6 digits after the second, as speedate_time_to_text_with_digits prints a time. */
+SPEEDATE_NODISCARD int speedate_datetime_to_text_with_digits(SpeedateDateTime value, int digits, char *buffer,
+                                                             size_t size, size_t *length);
 
 /* Compares date-times as speedate_time_compare does times. What is said there of sorting holds here too. An offset that
  * is missing is not taken as UTC, as it is by speedate_duration_between and speedate_datetime_unix_seconds: 12:00

@@ -191,6 +191,9 @@ enum class Parser : std::uint8_t {
     Strict = SPEEDATE_PARSER_STRICT
 };
 
+/* How many digits of a second to_text prints, rounded down: without one, six, or none if they are 0. */
+enum class FractionDigits { Zero = 0, Three = 3, Six = 6 };
+
 /* How texts and timestamps are parsed, as SpeedateConfig says. Config() is the default. */
 struct Config {
     std::optional<std::int32_t> timestamp_offset = std::nullopt;
@@ -295,10 +298,10 @@ inline std::int32_t narrowed_offset(std::int64_t offset) noexcept {
 /* Only bool is a flag of a call: neither {} nor a number is one. */
 template <class Flag> using IfBool = std::enable_if_t<std::is_same_v<Flag, bool>, int>;
 
-template <std::size_t Size, class C> std::string text(int (*call)(C, char *, std::size_t, std::size_t *), C value) {
+template <std::size_t Size, class Call, class... Of> std::string text(Call call, Of... of) {
     char text[Size];
     std::size_t length;
-    must(call(value, text, sizeof text, &length));
+    must(call(of..., text, sizeof text, &length));
     return std::string(text, length);
 }
 
@@ -502,6 +505,9 @@ class Time : public detail::Equal<Time> {
     }
 
     std::string to_text() const { return detail::text<SPEEDATE_TIME_TEXT_SIZE>(speedate_time_to_text, c_); }
+    std::string to_text(FractionDigits digits) const {
+        return detail::text<SPEEDATE_TIME_TEXT_SIZE>(speedate_time_to_text_with_digits, c_, static_cast<int>(digits));
+    }
     std::uint32_t total_seconds() const noexcept { return detail::sure(speedate_time_total_seconds, c_); }
     std::uint32_t total_ms() const noexcept { return detail::sure(speedate_time_total_ms, c_); }
     Result<Time> in_timezone(std::int32_t offset) const {
@@ -596,6 +602,10 @@ class DateTime : public detail::Equal<DateTime> {
     }
 
     std::string to_text() const { return detail::text<SPEEDATE_DATETIME_TEXT_SIZE>(speedate_datetime_to_text, c_); }
+    std::string to_text(FractionDigits digits) const {
+        return detail::text<SPEEDATE_DATETIME_TEXT_SIZE>(speedate_datetime_to_text_with_digits, c_,
+                                                         static_cast<int>(digits));
+    }
     /* Unix time. */
     std::int64_t unix_seconds() const noexcept { return detail::sure(speedate_datetime_unix_seconds, c_); }
     std::int64_t unix_milliseconds() const noexcept { return detail::sure(speedate_datetime_unix_milliseconds, c_); }

@@ -429,6 +429,13 @@ static int is_call(const char *name) {
         PRINTS(speedate_##NAME(it, buffer, size, length))                                                              \
     }
 
+#define PRINT_DIGITS(NAME, TYPE, READ)                                                                                 \
+    if (is_call(#NAME)) {                                                                                              \
+        TYPE it = READ();                                                                                              \
+        int digits = (int)number();                                                                                    \
+        PRINTS(speedate_##NAME(it, digits, buffer, size, length))                                                      \
+    }
+
 /* Calls of a text: the text is the row's last argument. */
 static int run_text(const char *text, size_t size) {
     field = 1;
@@ -513,6 +520,7 @@ static int run_value(void) {
     TWO_VALUES(int32_t, say_number, date_days_between, SpeedateDate, date, SpeedateDate, date)
     CHECK(time_check, SpeedateTime, time_value)
     PRINT(time_to_text, SpeedateTime, time_value)
+    PRINT_DIGITS(time_to_text_with_digits, SpeedateTime, time_value)
     TWO_VALUES(int32_t, say_number, time_compare, SpeedateTime, time_value, SpeedateTime, time_value)
     if (is_call("time_from_timestamp")) {
         uint32_t second = (uint32_t)number(), microsecond = (uint32_t)number();
@@ -524,6 +532,7 @@ static int run_value(void) {
     TWO_VALUES(SpeedateTime, say_time, time_in_timezone, SpeedateTime, time_value, int32_t, (int32_t)number)
     CHECK(datetime_check, SpeedateDateTime, datetime)
     PRINT(datetime_to_text, SpeedateDateTime, datetime)
+    PRINT_DIGITS(datetime_to_text_with_digits, SpeedateDateTime, datetime)
     TWO_VALUES(int32_t, say_number, datetime_compare, SpeedateDateTime, datetime, SpeedateDateTime, datetime)
     if (is_call("datetime_from_timestamp")) {
         int64_t timestamp = number();

@@ -159,6 +159,10 @@ static void date_times() {
     const DateTime value = moment("2020-02-29T12:13:14.5+01:30");
     CHECK(value == DateTime(date("2020-02-29"), time_of("12:13:14.5+01:30")) && value.date() == date("2020-02-29"));
     CHECK(value.time() == time_of("12:13:14.5+01:30") && value != moment("2020-02-29T12:13:14.5"));
+    CHECK(value.to_text(FractionDigits::Three) == "2020-02-29T12:13:14.500+01:30" &&
+          value.to_text(FractionDigits::Zero) == "2020-02-29T12:13:14+01:30" &&
+          value.time().to_text(FractionDigits::Six) == "12:13:14.500000+01:30" &&
+          time_of("12:13").to_text(FractionDigits::Three) == "12:13:00.000");
     CHECK(DateTime::of(value.c()).value() == value && said(DateTime::of(SpeedateDateTime{})) == "out_of_range_month");
     CHECK(DateTime::of(SpeedateDateTime{{2020, 2, 29}, {12, 13, 0, 0, 0, 7}}).value() == moment("2020-02-29T12:13"));
     CHECK(said(DateTime::parse("20000000001", unix_time)) == "2603-10-11T11:33:21Z");

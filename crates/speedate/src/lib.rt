@@ -23,6 +23,7 @@
 //! - [`read_column`] and [`read_column_with_errors`]: the lines of a text as numbers, by a
 //!   [`DateReader`], a [`DateTimeReader`], a [`DateTimeClockReader`], a [`DateTimeOffsetReader`], a
 //!   [`TimeReader`], a [`TimeOffsetReader`] or a [`DurationReader`]; [`line_end`] finds the end of a line.
+//! - [`FractionDigits`]: how many digits of a second's fraction are printed.
 //! - [`DateConfig`], [`TimeConfig`], [`DateTimeConfig`] and their builders: how texts are parsed.
 //! - [`ParseError`], [`ConfigError`]: the errors. A text that is refused has exactly one, and each has
 //!   a name, such as `out_of_range_day`, and by the [`CallKind`] a phrase on what was expected. A
@@ -78,4 +79,4 @@ pub use speedate_base::numbers::{
 pub use speedate_base::refusal::Refused;
 pub use speedate_civil::date::{Date, is_leap_year, month_length};
 pub use speedate_civil::datetime::{DateTime, Moment};
-pub use speedate_civil::time::Time;
+pub use speedate_civil::time::{FractionDigits, Time};

@@ -1,7 +1,8 @@
 -- What a time from outside says, and how a time is written.
-use Rattle.std.specs.Prelude.{ℕ, ℤ, pos, Option, Some, None, Result}
+use Rattle.std.specs.Prelude.{ℕ, ℤ, pos, Option, Some, None, Result, if◌then◌else◌}
+use Rattle.std.specs.Ordering.{int_eq}
 use Rattle.speedate.specs.Base.{ParseError}
-use Rattle.speedate.specs.Time.{new_time_answer, TimeOfDay}
+use Rattle.speedate.specs.Time.{FractionDigits, new_time_answer, TimeOfDay}
 use Rattle.speedate.specs.Requirement.{result_and_then, result_map}
 use Rattle.speedate_c.specs.Config.{offset_answer}
 use Rattle.speedate_c.specs.declared.time.SpeedateTime.{SpeedateTime}
@@ -29,3 +30,12 @@ shown_time time = record {
   microsecond = time.microsecond;
   offset = (shown_offset time.offset).1;
 }
+
+-- the digits of a fraction that a number asks for
+abbrev pub fraction_digits_of : ℤ → Option FractionDigits
+fraction_digits_of number =
+    if int_eq number (pos 0)
+    then Some FractionDigits.Zero
+    else (if int_eq number (pos 3)
+    then Some FractionDigits.Three
+    else (if int_eq number (pos 6) then Some FractionDigits.Six else None))

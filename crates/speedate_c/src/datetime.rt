@@ -11,16 +11,18 @@ ghost use Rattle.speedate_c.specs.Written.{written_value, with_option, with_valu
 ghost use Rattle.speedate_c.specs.Code.{answer_code, buffer_too_small, config_out_of_range};
 ghost use Rattle.speedate_c.specs.Code.{order_number, success, value_out_of_range};
 ghost use Rattle.speedate_c.specs.Config.{choices_of};
+ghost use Rattle.speedate.specs.DateTime.{date_time_text_with};
 ghost use Rattle.speedate_c.specs.DateTime.{date_time_of, shown_date_time};
+ghost use Rattle.speedate_c.specs.Time.{fraction_digits_of};
 
 mod part;
 mod timestamp;
 
-use crate::code::{SUCCESS, order_number};
+use crate::code::{SUCCESS, VALUE_OUT_OF_RANGE, order_number};
 use crate::config::SpeedateConfig;
 use crate::date::SpeedateDate;
 use crate::text::write_text;
-use crate::time::SpeedateTime;
+use crate::time::{SpeedateTime, fraction_digits};
 use arrayvec::ArrayString;
 use speedate::{DateTime, ParseError};
 
@@ -190,6 +192,35 @@ fn print_date_time(value: &DateTime, buffer: &mut [u8], text_length: &mut usize)
     let mut text = ArrayString::<TEXT_MAX>::new();
     value.push_onto(&mut text);
     write_text(text.as_str(), buffer, text_length)
+}
+
+/// Prints a date-time with 0, 3 or 6 digits after the second, rounded down, as
+/// [`DateTime::to_text_with_digits`] does: `2020-02-29T12:13:14.500+01:30` with 3.
+///
+/// `VALUE_OUT_OF_RANGE` also for another number of digits. It comes before `BUFFER_TOO_SMALL`.
+#[unsafe(no_mangle)]
+pub extern "C" fn speedate_datetime_to_text_with_digits(
+    value: SpeedateDateTime,
+    digits: i32,
+    buffer: &mut [u8],
+    text_length: &mut usize,
+) -> i32
+    ensures answer { (result, buffer.new, text_length.new)
+        ≡ with_option (fraction_digits_of digits) (value_out_of_range, buffer.old, text_length.old)
+        (λ digits. with_value (date_time_of value)
+        (value_out_of_range, buffer.old, text_length.old)
+        (λ value. written_text (date_time_text_with digits value) buffer.old text_length.old)) }
+    ensures room { 33 ≤ length buffer.old → result ≢ buffer_too_small }
+{
+    let Some(digits) = fraction_digits(digits) else {
+        return VALUE_OUT_OF_RANGE;
+    };
+    let value = value_or_return!(value);
+    write_text(
+        value.to_text_with_digits(digits).as_str(),
+        buffer,
+        text_length,
+    )
 }
 
 /// Compares two date-times by their instants, as [`DateTime::cmp_instant`] does: -1 if the first

@@ -13,16 +13,17 @@ ghost use Rattle.speedate_c.specs.Written.{written_value, with_option, with_valu
 ghost use Rattle.speedate_c.specs.Code.{answer_code, buffer_too_small, config_out_of_range};
 ghost use Rattle.speedate_c.specs.Code.{order_number, success, value_out_of_range};
 ghost use Rattle.speedate_c.specs.Config.{choices_of};
-ghost use Rattle.speedate_c.specs.Time.{shown_time, time_of};
+ghost use Rattle.speedate.specs.Time.{time_text_with};
+ghost use Rattle.speedate_c.specs.Time.{fraction_digits_of, shown_time, time_of};
 
 mod part;
 mod timestamp;
 
-use crate::code::{SUCCESS, order_number};
+use crate::code::{SUCCESS, VALUE_OUT_OF_RANGE, order_number};
 use crate::config::{SpeedateConfig, offset};
 use crate::text::write_text;
 use arrayvec::ArrayString;
-use speedate::{ParseError, Time};
+use speedate::{FractionDigits, ParseError, Time};
 
 /// How many bytes the longest text of a time has.
 const TEXT_MAX: usize = 21;
@@ -169,6 +170,46 @@ pub extern "C" fn speedate_time_to_text(
 {
     let time = value_or_return!(time);
     print_by_parts!(time, parts => print_time(&parts, buffer, text_length))
+}
+
+/// Prints a time with 0, 3 or 6 digits after the second, rounded down, as [`Time::to_text_with_digits`]
+/// does: `12:13:14.500+01:30` with 3.
+///
+/// `VALUE_OUT_OF_RANGE` also for another number of digits. It comes before `BUFFER_TOO_SMALL`.
+#[unsafe(no_mangle)]
+pub extern "C" fn speedate_time_to_text_with_digits(
+    time: SpeedateTime,
+    digits: i32,
+    buffer: &mut [u8],
+    text_length: &mut usize,
+) -> i32
+    ensures answer { (result, buffer.new, text_length.new)
+        ≡ with_option (fraction_digits_of digits) (value_out_of_range, buffer.old, text_length.old)
+        (λ digits. with_value (time_of time) (value_out_of_range, buffer.old, text_length.old)
+        (λ time. written_text (time_text_with digits time) buffer.old text_length.old)) }
+    ensures room { 22 ≤ length buffer.old → result ≢ buffer_too_small }
+{
+    let Some(digits) = fraction_digits(digits) else {
+        return VALUE_OUT_OF_RANGE;
+    };
+    let time = value_or_return!(time);
+    write_text(
+        time.to_text_with_digits(digits).as_str(),
+        buffer,
+        text_length,
+    )
+}
+
+/// The digits of a fraction that a number asks for.
+pub(crate) fn fraction_digits(number: i32) -> Option<FractionDigits>
+    ensures digits { result ≡ fraction_digits_of number }
+{
+    match number {
+        0 => Some(FractionDigits::Zero),
+        3 => Some(FractionDigits::Three),
+        6 => Some(FractionDigits::Six),
+        _ => None,
+    }
 }
 
 /// A time with another microsecond and another offset.

@@ -21,6 +21,7 @@ use Rattle.speedate_civil.specs.Calendar.{Ymd, IsDate, midnight_second, date_of_
 use Rattle.speedate_civil.specs.Date.{ymd, date_front_or, date_text, day_at, second_at}
 use Rattle.speedate_civil.specs.Time.{microsecond_range, TimeOfDay, IsTime, second_of_day}
 use Rattle.speedate_civil.specs.Time.{time_of_day, end_fault, time_front_or, time_text, time_at}
+use Rattle.speedate_civil.specs.Time.{FractionDigits, time_text_with, cut_time}
 
 -- a date-time by its date and its time of day
 pub record DateAndTime : Type 0 where
@@ -129,6 +130,15 @@ pub record IsUtcFront (assumes_utc : Bool) (text : List ℕ) (front : ℤ × ℕ
 -- the one text by which a date-time is printed
 abbrev pub date_time_text : DateAndTime → List ℕ
 date_time_text value = date_text value.date ++ capital_t ∷ time_text value.time
+
+-- the text by which a date-time is printed with a number of digits
+abbrev pub date_time_text_with : FractionDigits → DateAndTime → List ℕ
+date_time_text_with digits value =
+    date_text value.date ++ capital_t ∷ time_text_with digits value.time
+
+-- the date-time that this text says: its microsecond is rounded down to these digits
+abbrev pub cut_date_time : FractionDigits → DateAndTime → DateAndTime
+cut_date_time digits value = record value { time = cut_time digits value.time }
 
 -- Date-times from timestamps (Unix time), and from texts that are a timestamp instead.
 

@@ -9,7 +9,7 @@ use Rattle.speedate_base.specs.Ascii.{colon, full_stop, plus_sign, hyphen, capit
 use Rattle.speedate_base.specs.Config.{refuses_digits}
 use Rattle.speedate_base.specs.Digits.{run_length, run_digits, fraction_value, two_digits_at}
 use Rattle.speedate_base.specs.Digits.{two_digit_value, two_digit_text, six_digit_text}
-use Rattle.speedate_base.specs.Digits.{is_decimal_mark}
+use Rattle.speedate_base.specs.Digits.{digit, is_decimal_mark}
 use Rattle.speedate_base.specs.Numbers.{with_sign}
 use Rattle.speedate_base.specs.Offset.{IsOffset, offset_table}
 use Rattle.speedate_base.specs.Timestamp.{Instant, seconds_per_day}
@@ -18,6 +18,7 @@ use Rattle.speedate_base.specs.Requirement.{fault_alone, first_fault_or, first_r
 use Rattle.speedate_base.specs.Requirement.{◌implies◌, result_map, shifted, with_no_more_or}
 use Rattle.speedate_base.specs.Requirement.{with_size, ◌>>=◌}
 pub use Rattle.speedate_civil.specs.declared.time.Time.{Time}
+pub use Rattle.speedate_civil.specs.declared.time.digits.FractionDigits.{FractionDigits}
 use Rattle.speedate_civil.specs.declared.time.pure.PureTime.{PureTime}
 use Rattle.speedate_civil.specs.Instant.{by_instant, move_table}
 
@@ -234,6 +235,24 @@ minute_text minute second = two_digit_text minute ++ colon ∷ two_digit_text se
 abbrev pub fraction_text : ℕ → List ℕ
 fraction_text microsecond = if microsecond == 0 then [] else full_stop ∷ six_digit_text microsecond
 
+-- a number below 1,000 in three digits
+abbrev pub three_digit_text : ℕ → List ℕ
+three_digit_text n = two_digit_text (n / 10) ++ digit (n % 10) ∷ []
+
+-- a microsecond in print with a number of digits, rounded down: nothing for none, otherwise a point
+-- and these digits
+abbrev pub fraction_text_with : FractionDigits → ℕ → List ℕ
+fraction_text_with FractionDigits.Zero microsecond = []
+fraction_text_with FractionDigits.Three microsecond =
+    full_stop ∷ three_digit_text (microsecond / 1000)
+fraction_text_with FractionDigits.Six microsecond = full_stop ∷ six_digit_text microsecond
+
+-- a microsecond rounded down to a number of digits
+abbrev pub cut_microsecond : FractionDigits → ℕ → ℕ
+cut_microsecond FractionDigits.Zero microsecond = 0
+cut_microsecond FractionDigits.Three microsecond = microsecond / 1000 * 1000
+cut_microsecond FractionDigits.Six microsecond = microsecond
+
 -- the numbers of a clock that was read
 abbrev pub clock_parts : PureTime → Clock
 clock_parts time = record {
@@ -392,6 +411,15 @@ clock_text time = two_digit_text time.hour ++ colon ∷ minute_text time.minute 
 -- the one text by which a time is printed
 abbrev pub time_text : TimeOfDay → List ℕ
 time_text time = clock_text time ++ fraction_text time.microsecond ++ offset_text time.offset
+
+-- the text by which a time is printed with a number of digits
+abbrev pub time_text_with : FractionDigits → TimeOfDay → List ℕ
+time_text_with digits time =
+    clock_text time ++ fraction_text_with digits time.microsecond ++ offset_text time.offset
+
+-- the time that this text says: its microsecond is rounded down to these digits
+abbrev pub cut_time : FractionDigits → TimeOfDay → TimeOfDay
+cut_time digits time = record time { microsecond = cut_microsecond digits time.microsecond }
 
 -- a text goes on with a fraction after a microsecond in print: with a decimal mark after none, with
 -- a digit after six

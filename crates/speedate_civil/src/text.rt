@@ -3,6 +3,7 @@
 ghost use Rattle.std.specs.Prelude.{◌≡◌, ◌<◌, ◌≤◌, ◌+◌, ◌++◌};
 ghost use Rattle.arrayvec.specs.ArrayString.{array_string_len};
 ghost use Rattle.speedate_base.specs.Digits.{two_digit_text, six_digit_text};
+ghost use Rattle.speedate_civil.specs.Time.{three_digit_text};
 
 use arrayvec::ArrayString;
 
@@ -18,6 +19,17 @@ pub fn two_digit_text(number: u8) -> &'static str
 {
     let place = 2 * usize::from(number);
     &TWO_DIGITS[place..place + 2]
+}
+
+/// Appends the three digits of a number below 1,000: `012` for 12. There must be room for them.
+#[inline(always)]
+pub(crate) fn push_three_digits<const LENGTH: usize>(number: u32, text: &mut ArrayString<LENGTH>)
+    requires small { number ≤ 999 }
+    requires room { array_string_len text.old + 3 ≤ LENGTH }
+    ensures digits { text.new.bytes ≡ text.old.bytes ++ three_digit_text number }
+{
+    text.push_str(two_digit_text((number / 10) as u8));
+    text.push(char::from(b'0' + (number % 10) as u8));
 }
 
 /// Appends the six digits of a number below 1,000,000: `000120` for 120. There must be room for

@@ -4,6 +4,7 @@ ghost use Rattle.std.specs.Prelude.{◌≡◌, ◌≤◌};
 ghost use Rattle.std.specs.Option.{ForSome};
 ghost use Rattle.speedate_base.specs.Offset.{IsOffset};
 
+mod digits;
 mod error_place;
 mod offset;
 mod order;
@@ -13,6 +14,7 @@ mod text;
 mod timestamp;
 mod timezone;
 
+pub use digits::FractionDigits;
 pub(crate) use offset::{end_fault, offset_or_utc};
 pub use pure::PureTime;
 use speedate_base::faults::ParseError;

@@ -2,7 +2,7 @@
 
 use crate::rows::{parsed, same, words};
 use arrayvec::ArrayString;
-use speedate::{Date, DateTime, Duration, ParseError, Time};
+use speedate::{Date, DateTime, Duration, FractionDigits, ParseError, Time};
 use std::fmt::{Display, Write};
 use std::process::Abort;
 
@@ -18,6 +18,15 @@ duration   PT0S
 duration   -PT0S
 duration   P364DT1H0.1205S
 duration   -P2739725Y1DT0.000001S";
+
+/// Times, and their texts with zero digits, three and six.
+const DIGITS: &str = "\
+12:13:14.678901+01:30  12:13:14+01:30  12:13:14.678+01:30  12:13:14.678901+01:30
+12:13:14               12:13:14        12:13:14.000        12:13:14.000000
+12:13:14.5Z            12:13:14Z       12:13:14.500Z       12:13:14.500000Z
+23:59:59.999999-23:59  23:59:59-23:59  23:59:59.999-23:59  23:59:59.999999-23:59
+00:00:00.012003        00:00:00        00:00:00.012        00:00:00.012003
+00:00:00.000999        00:00:00        00:00:00.000        00:00:00.000999";
 
 /// What `{}` writes is to be the text, and an error where there is no room.
 pub fn expect_written<T: Display, R: AllocGlobal + Abort>(rt: &R, value: &T, want: &str) {
@@ -45,6 +54,26 @@ fn texts(rt: HostRuntime) {
             "time" => expect_shown(&rt, &parsed::<Time, _>(&rt, text), text),
             "date-time" => expect_shown(&rt, &parsed::<DateTime, _>(&rt, text), text),
             _ => expect_shown(&rt, &parsed::<Duration, _>(&rt, text), text),
+        }
+    }
+}
+
+#[test]
+fn digits(rt: HostRuntime) {
+    for row in DIGITS.lines() {
+        let [time, zero, three, six, ..] = words(row);
+        let time: Time = parsed(&rt, time);
+        let date = parsed::<Date, _>(&rt, "2020-02-29");
+        let value = DateTime { date, time };
+        for (digits, want) in [
+            (FractionDigits::Zero, zero),
+            (FractionDigits::Three, three),
+            (FractionDigits::Six, six),
+        ] {
+            same(&rt, time.to_text_with_digits(digits).as_str(), want, row);
+            let text = value.to_text_with_digits(digits);
+            let (first, clock) = text.as_str().split_at(11);
+            same(&rt, (first, clock), ("2020-02-29T", want), row);
         }
     }
 }

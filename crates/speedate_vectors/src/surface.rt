@@ -4,10 +4,10 @@ use speedate::{
     CallKind, ConfigError, Date, DateConfig, DateConfigBuilder, DatePrinter, DateReader, DateTime,
     DateTimeClockPrinter, DateTimeClockReader, DateTimeConfig, DateTimeConfigBuilder,
     DateTimeOffsetReader, DateTimeParser, DateTimePrinter, DateTimeReader, Decimal, Duration,
-    DurationPrinter, DurationReader, DurationSum, IntFloat, IsoOrder, LineConfig, LineError,
-    LinePrinter, LineReader, MicrosecondsPrecisionOverflowBehavior, Moment, ParseError, Progress,
-    Refused, Time, TimeConfig, TimeConfigBuilder, TimeOffsetReader, TimeParser, TimePrinter,
-    TimeReader, TimestampUnit,
+    DurationPrinter, DurationReader, DurationSum, FractionDigits, IntFloat, IsoOrder, LineConfig,
+    LineError, LinePrinter, LineReader, MicrosecondsPrecisionOverflowBehavior, Moment, ParseError,
+    Progress, Refused, Time, TimeConfig, TimeConfigBuilder, TimeOffsetReader, TimeParser,
+    TimePrinter, TimeReader, TimestampUnit,
 };
 use std::error::Error;
 use std::fmt::{Debug, Display};
@@ -47,7 +47,7 @@ fn each_type_has_its_traits() {
     is_printer::<DateTimeClockPrinter>();
     is_printer::<TimePrinter>();
     is_printer::<DurationPrinter>();
-    is_value::<(LineError, Refused, DurationSum)>();
+    is_value::<(LineError, Refused, DurationSum, FractionDigits)>();
     is_value::<(Date, Time, DateTime, Duration, Moment)>();
     is_choice::<TimestampUnit>();
     is_choice::<MicrosecondsPrecisionOverflowBehavior>();

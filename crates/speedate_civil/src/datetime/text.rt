@@ -1,16 +1,20 @@
 //! The text of a date-time.
 
-ghost use Rattle.std.specs.Prelude.{Some, ℕ, ◌≡◌, ◌≤◌, ◌+◌, ◌++◌, ◌↔◌, IsTrue, List, Ok, length};
+ghost use Rattle.std.specs.Prelude.{Some, ℕ, ◌≡◌, ◌≤◌, ◌+◌, ◌++◌, ◌∷◌, ◌↔◌, IsTrue, List, [], Ok, length};
 ghost use Rattle.arrayvec.specs.ArrayString.{array_string_len};
+ghost use Rattle.speedate_base.specs.Ascii.{capital_t};
 ghost use Rattle.speedate_base.specs.Config.{time_choices};
 ghost use Rattle.speedate_civil.specs.Base.{TimeConfig, DateTimeConfig};
 ghost use Rattle.speedate_base.specs.Offset.{IsWholeMinutes};
 ghost use Rattle.speedate_base.specs.Requirement.{result_map};
+ghost use Rattle.speedate_civil.specs.Date.{ymd, date_text};
 ghost use Rattle.speedate_civil.specs.DateTime.{date_and_time, date_time_answer, date_time_front};
 ghost use Rattle.speedate_civil.specs.DateTime.{date_time_text, date_time_by_config, DateTime};
+ghost use Rattle.speedate_civil.specs.DateTime.{date_time_text_with, cut_date_time};
 ghost use Rattle.speedate_civil.specs.Time.{is_after_time};
 
 use super::DateTime;
+use crate::time::FractionDigits;
 use arrayvec::ArrayString;
 use std::fmt;
 
@@ -59,9 +63,57 @@ impl DateTime {
         requires room { array_string_len text.old + TEXT_MAX ≤ LENGTH }
         ensures text { text.new.bytes ≡ text.old.bytes ++ date_time_text (date_and_time self.now) }
     {
+        self.push_date(text);
+        self.time.push_onto(text);
+    }
+
+    /// The text with a fixed number of digits after the second, rounded down:
+    /// `2020-02-29T12:13:14.500+01:30` with `FractionDigits::Three`, also where the fraction is 0, as
+    /// `.000`. `FractionDigits::Zero` prints no point. The rest is as in [`DateTime::to_text`].
+    ///
+    /// If the offset is absent or whole minutes, the text reads back as the date-time, with its
+    /// microsecond rounded down to these digits.
+    pub fn to_text_with_digits(&self, digits: FractionDigits) -> ArrayString<TEXT_MAX>
+        ensures text { result.bytes ≡ date_time_text_with digits (date_and_time self.now) }
+        ensures reads_back { IsWholeMinutes self.now.time.tz_offset → (config : TimeConfig)
+            → date_time_answer (time_choices config).behavior result.bytes
+            ≡ Ok (cut_date_time digits (date_and_time self.now)) }
+        ensures reads_back_with_config { IsWholeMinutes self.now.time.tz_offset
+            → (config : DateTimeConfig) → date_time_by_config config result.bytes
+            ≡ Ok (cut_date_time digits (date_and_time self.now)) }
+    {
+        let mut text = ArrayString::new();
+        self.push_onto_with_digits(digits, &mut text);
+        text
+    }
+
+    /// Appends the text of [`DateTime::to_text_with_digits`]: `ok ` becomes
+    /// `ok 2020-02-29T12:13:14.000`. There must be room for 32 bytes, the longest text, which is a
+    /// condition on the caller.
+    #[inline(always)]
+    pub fn push_onto_with_digits<const LENGTH: usize>(
+        &self,
+        digits: FractionDigits,
+        text: &mut ArrayString<LENGTH>,
+    )
+        requires room { array_string_len text.old + TEXT_MAX ≤ LENGTH }
+        ensures text { text.new.bytes
+            ≡ text.old.bytes ++ date_time_text_with digits (date_and_time self.now) }
+    {
+        self.push_date(text);
+        self.time.push_onto_with_digits(digits, text);
+    }
+
+    /// Appends the date and the letter after it.
+    #[inline(always)]
+    fn push_date<const LENGTH: usize>(&self, text: &mut ArrayString<LENGTH>)
+        requires room { array_string_len text.old + 11 ≤ LENGTH }
+        ensures text { text.new.bytes
+            ≡ text.old.bytes ++ date_text (ymd self.now.date) ++ capital_t ∷ [] }
+        ensures length { array_string_len text.new ≡ array_string_len text.old + 11 }
+    {
         self.date.push_onto(text);
         text.push('T');
-        self.time.push_onto(text);
     }
 }
 
