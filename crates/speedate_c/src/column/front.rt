@@ -9,10 +9,10 @@ ghost use Rattle.speedate_c.specs.Column.{IsColumn, chosen_for_fronts, front_num
 
 use super::{ColumnChoices, LineParser, SpeedateColumnConfig, SpeedateProgress, write_column};
 use crate::config::SpeedateConfig;
-use speedate::{DateTimeConfig, DateTimeFront, DateTimeFrontReader};
+use speedate::{DateTimeConfig, DateTimeFront as SpeedateDateTimeFront, DateTimeFrontReader};
 
 /// What a refused line has in the column.
-const NO_FRONT: DateTimeFront = DateTimeFront {
+const NO_FRONT: SpeedateDateTimeFront = SpeedateDateTimeFront {
     microseconds: i64::MIN,
     size: 0,
 };
@@ -45,7 +45,7 @@ pub extern "C" fn speedate_datetime_front_column(
     text: &[u8],
     config: SpeedateConfig,
     column: SpeedateColumnConfig,
-    out: &mut [DateTimeFront],
+    out: &mut [SpeedateDateTimeFront],
     errors: &mut [u8],
     progress: &mut SpeedateProgress,
 ) -> i32
