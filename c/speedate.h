@@ -644,7 +644,7 @@ typedef struct SpeedateColumnConfig {
     /* How a line of dates, times or date-times is parsed: SPEEDATE_PARSER_TEXT, _OR_TIMESTAMP or _STRICT. */
     uint8_t parser;
     /* 1 if a date-time without an offset is taken to be in UTC; 0 if it is refused, with SPEEDATE_TZ_REQUIRED. Only
-     * speedate_datetime_column uses it. */
+     * speedate_datetime_column and speedate_datetime_front_column use it. */
     uint8_t assumes_utc;
     /* 0 if a line that is refused ends the column; 1 if it gets the smallest number, INT64_MIN or INT32_MIN, and the
      * column goes on. No other line has this number, and INT64_MIN is NaT in NumPy. With `errors` the column goes on in
@@ -697,6 +697,20 @@ SPEEDATE_NODISCARD int speedate_datetime_clock_column(const char *text, size_t s
 SPEEDATE_NODISCARD int speedate_datetime_offset_column(const char *text, size_t size, SpeedateConfig config,
                                                        SpeedateColumnConfig column, int32_t *out, size_t room,
                                                        uint8_t *errors, size_t error_room, SpeedateProgress *progress);
+
+/* The date-time at the front of a line. */
+typedef struct SpeedateDateTimeFront {
+    int64_t microseconds; /* since 1970-01-01T00:00:00 in UTC; INT64_MIN if the line is refused */
+    size_t size;          /* how many bytes of the line it takes; 0 if the line is refused */
+} SpeedateDateTimeFront;
+
+/* The date-times at the front of lines, whatever follows them, as speedate_datetime_parse_front parses them: 1000000
+ * and 20 from "1970-01-01T00:00:01Z GET /\n". SPEEDATE_PARSER_OR_TIMESTAMP and SPEEDATE_PARSER_STRICT are out of
+ * range. */
+SPEEDATE_NODISCARD int speedate_datetime_front_column(const char *text, size_t size, SpeedateConfig config,
+                                                      SpeedateColumnConfig column, SpeedateDateTimeFront *out,
+                                                      size_t room, uint8_t *errors, size_t error_room,
+                                                      SpeedateProgress *progress);
 
 /* The days of dates since 1970-01-01: 1 and -1 from "1970-01-02\n1969-12-31\n". Here SPEEDATE_PARSER_STRICT is out of
  * range. */

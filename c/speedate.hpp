@@ -841,13 +841,14 @@ template <class Number> class PrintColumn {
 } // namespace detail
 
 /* Read the lines of a text as numbers, as many as there is room for in `out`, an array, a std::vector, a std::span or
- * another container with contiguous numbers: std::int32_t for dates and offsets, otherwise std::int64_t. With errors, a
- * container of std::uint8_t after `out`, the code of each line is written there. A configuration and a ColumnConfig may
- * come last. */
+ * another container with contiguous numbers: std::int32_t for dates and offsets, SpeedateDateTimeFront at the front of
+ * lines, otherwise std::int64_t. With errors, a container of std::uint8_t after `out`, the code of each line is written
+ * there. A configuration and a ColumnConfig may come last. */
 inline constexpr detail::Column<std::int32_t> date_column(speedate_date_column);
 inline constexpr detail::Column<std::int64_t> datetime_column(speedate_datetime_column);
 inline constexpr detail::Column<std::int64_t> datetime_clock_column(speedate_datetime_clock_column);
 inline constexpr detail::Column<std::int32_t> datetime_offset_column(speedate_datetime_offset_column);
+inline constexpr detail::Column<SpeedateDateTimeFront> datetime_front_column(speedate_datetime_front_column);
 inline constexpr detail::Column<std::int64_t> time_column(speedate_time_column);
 inline constexpr detail::Column<std::int32_t> time_offset_column(speedate_time_offset_column);
 inline constexpr detail::Column<std::int64_t> duration_column(speedate_duration_column);

@@ -204,6 +204,11 @@ static void say_number(long long it) {
     say("%lld", it);
 }
 
+static void say_datetime_front(SpeedateDateTimeFront it) {
+    say("%lld", (long long)it.microseconds);
+    say(":%lld", (long long)it.size);
+}
+
 static void say_size(size_t it) {
     say("%lld", (long long)it);
 }
@@ -286,7 +291,9 @@ static void say_progress(SpeedateProgress it) {
     }
 
 /* Calls that read a column, with errors if there is room for them. Without room there is no address either. */
-#define COLUMN(TYPE, NAME)                                                                                             \
+#define COLUMN(TYPE, NAME) COLUMN_OF(TYPE, say_number, NAME)
+#define FRONTS(NAME) COLUMN_OF(SpeedateDateTimeFront, say_datetime_front, NAME)
+#define COLUMN_OF(TYPE, SAY, NAME)                                                                                     \
     if (is_call(#NAME)) {                                                                                              \
         SpeedateConfig it = config();                                                                                  \
         SpeedateColumnConfig by = column_config();                                                                     \
@@ -304,9 +311,9 @@ static void say_progress(SpeedateProgress it) {
         int kept = lines <= room && is_untouched(out + lines, sizeof out - lines * sizeof *out);                       \
         kept = kept && written <= error_room && is_untouched(errors + written, sizeof errors - written);               \
         if (said(code, kept && IS_KEPT(code, progress))) {                                                             \
-            LIST(out, lines)                                                                                           \
+            LIST(SAY, out, lines)                                                                                      \
             if (error_room)                                                                                            \
-                LIST(errors, lines)                                                                                    \
+                LIST(say_number, errors, lines)                                                                        \
             say_progress(*progress);                                                                                   \
         }                                                                                                              \
         return 1;                                                                                                      \
@@ -334,10 +341,12 @@ static void say_progress(SpeedateProgress it) {
         return 1;                                                                                                      \
     }
 
-#define LIST(NUMBERS, COUNT)                                                                                           \
+#define LIST(SAY, NUMBERS, COUNT)                                                                                      \
     {                                                                                                                  \
-        for (size_t i = 0; i < COUNT; i++)                                                                             \
-            say(i ? " %lld" : "%lld", (long long)NUMBERS[i]);                                                          \
+        for (size_t i = 0; i < COUNT; i++) {                                                                           \
+            strcat(answer, i ? " " : "");                                                                              \
+            SAY(NUMBERS[i]);                                                                                           \
+        }                                                                                                              \
         strcat(answer, "|");                                                                                           \
     }
 
@@ -481,6 +490,7 @@ static int run_text(const char *text, size_t size) {
     COLUMN(int64_t, datetime_column)
     COLUMN(int64_t, datetime_clock_column)
     COLUMN(int32_t, datetime_offset_column)
+    FRONTS(datetime_front_column)
     COLUMN(int32_t, date_column)
     COLUMN(int64_t, time_column)
     COLUMN(int32_t, time_offset_column)

@@ -319,6 +319,18 @@ static void columns() {
     CHECK(numbers[0] == 4000000 && errors[0] == 0 && errors[1] == SPEEDATE_DURATION_UNIT_ORDER);
 }
 
+static void fronts() {
+    std::array<SpeedateDateTimeFront, 2> fronts = {};
+    std::array<std::uint8_t, 2> errors = {7, 7};
+    ColumnConfig column;
+    column.assumes_utc = true;
+    Progress read = datetime_front_column("1970-01-01T00:00:01Z GET /\nx", fronts).value();
+    CHECK(read.lines == 1 && fronts[0].microseconds == 1000000 && fronts[0].size == 20);
+    CHECK(read.error == Error(SPEEDATE_TOO_SHORT));
+    read = datetime_front_column("1970-01-01T00:00 x\nx", fronts, errors, {}, column).value();
+    CHECK(read.lines == 2 && fronts[0].size == 16 && fronts[1].size == 0 && errors[1] == SPEEDATE_TOO_SHORT);
+}
+
 static void columns_in_print() {
     std::string text(40, '-');
     const std::int32_t days[] = {1, -1, INT32_MIN, -719529};
@@ -417,6 +429,7 @@ int main() {
     date_times();
     durations();
     columns();
+    fronts();
     columns_in_print();
     chrono();
     keys();

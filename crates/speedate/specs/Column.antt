@@ -1,14 +1,14 @@
 -- Columns: the lines of a text as numbers.
 use Rattle.std.specs.Prelude.{◌≡◌, ◌≢◌, ℕ, ◌-◌, ◌^◌, ◌<◌, ◌≤◌, Bool, false, ◌||◌, List, [], ◌∷◌, length, slice_index, take, drop, nat_lt, Option, Some, None, is_some, Result, Ok, Err, ℤ, pos, unsigned_abs, if◌then◌else◌}
-use Rattle.speedate_civil.specs.Base.{ParseError}
+use Rattle.speedate_civil.specs.Base.{Behavior, ParseError}
 use Rattle.speedate_base.specs.Ascii.{carriage_return}
 use Rattle.speedate_base.specs.Config.{time_choices}
 use Rattle.speedate_base.specs.Fault.{fault_number}
-use Rattle.speedate_base.specs.Requirement.{◌else_fault◌, first_fault_or, result_and_then}
+use Rattle.speedate_base.specs.Requirement.{◌else_fault◌, ◌>>=◌, first_fault_or, result_and_then}
 use Rattle.speedate_civil.specs.Calendar.{Ymd, days_between}
 use Rattle.speedate_civil.specs.Date.{date_answer, date_or_timestamp}
 use Rattle.speedate_civil.specs.DateTime.{DateAndTime, date_time_answer, date_time_by_config}
-use Rattle.speedate_civil.specs.DateTime.{local_microsecond, utc_microsecond}
+use Rattle.speedate_civil.specs.DateTime.{date_time_front, local_microsecond, utc_microsecond}
 use Rattle.speedate_civil.specs.Strict.{strict_date_time, strict_date_time_answer}
 use Rattle.speedate_civil.specs.Strict.{strict_time_answer}
 use Rattle.speedate_civil.specs.Time.{TimeOfDay, microsecond_of_day, time_answer}
@@ -21,6 +21,8 @@ use Rattle.speedate.specs.declared.column.date.DateReader.{DateReader}
 use Rattle.speedate.specs.declared.column.date_time.DateTimeParser.{DateTimeParser}
 use Rattle.speedate.specs.declared.column.date_time.DateTimeReader.{DateTimeReader}
 use Rattle.speedate.specs.declared.column.duration.DurationReader.{DurationReader}
+use Rattle.speedate.specs.declared.column.front.DateTimeFront.{DateTimeFront}
+use Rattle.speedate.specs.declared.column.front.DateTimeFrontReader.{DateTimeFrontReader}
 use Rattle.speedate.specs.declared.column.time.TimeOffsetReader.{TimeOffsetReader}
 use Rattle.speedate.specs.declared.column.time.TimeParser.{TimeParser}
 use Rattle.speedate.specs.declared.column.time.TimeReader.{TimeReader}
@@ -155,6 +157,24 @@ abbrev pub date_time_number : DateTimeReader → List ℕ → Result ℤ LineErr
 date_time_number reader line =
     as_number utc_microsecond
     (result_and_then (with_offset reader.assumes_utc) (date_time_of_line reader.parser line))
+
+-- the number of the date-time at the front of a line, whatever follows it: the microseconds since
+-- 1970-01-01T00:00:00 in UTC, and how many bytes it takes
+abbrev pub front_number : Behavior → Bool → List ℕ → Result DateTimeFront LineError
+front_number behavior assumes_utc line = do
+  front ← as_number (λ front. front) (date_time_front behavior line)
+  microseconds ← as_number utc_microsecond (with_offset assumes_utc front.0)
+  Ok (record { microseconds = microseconds; size = front.1 })
+
+-- the number of a line in a column of date-times at the front of lines
+abbrev pub date_time_front_number : DateTimeFrontReader → List ℕ → Result DateTimeFront LineError
+date_time_front_number reader line =
+    front_number (time_choices reader.config).behavior reader.assumes_utc line
+
+-- the reader of the same date-times as whole lines
+abbrev pub whole_reader : DateTimeFrontReader → DateTimeReader
+whole_reader reader =
+    record { parser = DateTimeParser.Text reader.config; assumes_utc = reader.assumes_utc }
 
 -- an offset that has to be there
 abbrev pub required_offset : Option ℤ → Result ℤ ParseError

@@ -4,6 +4,7 @@ mod clock;
 mod date;
 mod date_time;
 mod duration;
+mod front;
 mod print;
 mod read;
 mod time;
@@ -14,6 +15,7 @@ pub use clock::{DateTimeClockPrinter, DateTimeClockReader, DateTimeOffsetReader}
 pub use date::{DatePrinter, DateReader};
 pub use date_time::{DateTimeParser, DateTimePrinter, DateTimeReader};
 pub use duration::{DurationPrinter, DurationReader, duration_microseconds};
+pub use front::{DateTimeFront, DateTimeFrontReader};
 pub use print::print_column;
 pub use read::{read_column, read_column_with_errors};
 use speedate_base::faults::ParseError;

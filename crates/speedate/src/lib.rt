@@ -22,7 +22,8 @@
 //! - [`Decimal`], [`IntFloat`], [`int_parse_bytes`] and [`float_parse_bytes`]: numbers as texts.
 //! - [`read_column`] and [`read_column_with_errors`]: the lines of a text as numbers, by a
 //!   [`DateReader`], a [`DateTimeReader`], a [`DateTimeClockReader`], a [`DateTimeOffsetReader`], a
-//!   [`TimeReader`], a [`TimeOffsetReader`] or a [`DurationReader`]; [`line_end`] finds the end of a line.
+//!   [`DateTimeFrontReader`], a [`TimeReader`], a [`TimeOffsetReader`] or a [`DurationReader`];
+//!   [`line_end`] finds the end of a line.
 //! - [`FractionDigits`]: how many digits of a second's fraction are printed.
 //! - [`DateConfig`], [`TimeConfig`], [`DateTimeConfig`] and their builders: how texts are parsed.
 //! - [`ParseError`], [`ConfigError`]: the errors. A text that is refused has exactly one, and each has
@@ -60,11 +61,11 @@ mod duration;
 mod lines;
 
 pub use column::{
-    DatePrinter, DateReader, DateTimeClockPrinter, DateTimeClockReader, DateTimeOffsetReader,
-    DateTimeParser, DateTimePrinter, DateTimeReader, DurationPrinter, DurationReader, LINE_MAX,
-    LineConfig, LineError, LinePrinter, LineReader, Progress, TimeOffsetReader, TimeParser,
-    TimePrinter, TimeReader, duration_microseconds, print_column, read_column,
-    read_column_with_errors, timestamp_microseconds,
+    DatePrinter, DateReader, DateTimeClockPrinter, DateTimeClockReader, DateTimeFront,
+    DateTimeFrontReader, DateTimeOffsetReader, DateTimeParser, DateTimePrinter, DateTimeReader,
+    DurationPrinter, DurationReader, LINE_MAX, LineConfig, LineError, LinePrinter, LineReader,
+    Progress, TimeOffsetReader, TimeParser, TimePrinter, TimeReader, duration_microseconds,
+    print_column, read_column, read_column_with_errors, timestamp_microseconds,
 };
 pub use duration::{DAYS_MAX, Duration, DurationSum};
 pub use lines::line_end;

@@ -2,7 +2,7 @@
 -- leaves.
 use Rattle.std.specs.Prelude.{◌≡◌, ◌≢◌, ℕ, ◌≤◌, ◌++◌, ℤ, pos, Bool, false, List, [], ◌∷◌, length, min, drop, slice_get, Option, Some, None, Result, if◌then◌else◌}
 use Rattle.std.specs.Option.{option_and_then, option_map}
-use Rattle.speedate.specs.Base.{ParseError, TimestampUnit}
+use Rattle.speedate.specs.Base.{Behavior, ParseError, TimestampUnit}
 use Rattle.speedate.specs.Config.{Choices}
 use Rattle.speedate.specs.DateTime.{DateAndTime, date_time_answer, date_time_or_timestamp}
 use Rattle.speedate.specs.DateTime.{local_microsecond, utc_microsecond}
@@ -10,10 +10,11 @@ use Rattle.speedate.specs.Strict.{strict_date_time_answer, strict_time_answer}
 use Rattle.speedate.specs.Time.{TimeOfDay, microsecond_of_day, time_answer}
 use Rattle.speedate.specs.Requirement.{result_and_then}
 use Rattle.speedate.specs.Duration.{duration_answer}
-use Rattle.speedate.specs.Column.{as_number, date_number, number_of_duration, offset_as_number}
-use Rattle.speedate.specs.Column.{text_column, with_offset}
-use Rattle.speedate.specs.ColumnText.{column_text}
+use Rattle.speedate.specs.Column.{as_number, date_number, front_number, number_of_duration}
+use Rattle.speedate.specs.Column.{offset_as_number, text_column, with_offset}
+use Rattle.speedate.specs.ColumnText.{column_text, least_of_64_bits}
 use Rattle.speedate.specs.declared.column.date.DateReader.{DateReader}
+use Rattle.speedate.specs.declared.column.front.DateTimeFront.{DateTimeFront}
 use Rattle.speedate.specs.declared.LineConfig.{LineConfig}
 use Rattle.speedate.specs.declared.LineError.{LineError}
 use Rattle.speedate.specs.Lines.{unfinished_line, whole_lines}
@@ -77,6 +78,18 @@ abbrev pub date_time_offset_number_by : Choices → LineParser → List ℕ → 
 date_time_offset_number_by chosen parser line =
     offset_as_number (λ value. value.time.offset) (date_time_by_parser parser chosen line)
 
+-- the number of a line in a column of date-times at the front of lines, where the parser is one of
+-- these: the microseconds since 1970-01-01T00:00:00 in UTC, and how many bytes the date-time takes
+abbrev pub front_number_by : Behavior → Bool → LineParser
+    → Option (List ℕ → Result DateTimeFront LineError)
+front_number_by behavior assumes_utc LineParser.Text = Some (front_number behavior assumes_utc)
+front_number_by behavior assumes_utc LineParser.OrTimestamp = None
+front_number_by behavior assumes_utc LineParser.Strict = None
+
+-- what a refused line has in such a column
+abbrev pub no_front : DateTimeFront
+no_front = record { microseconds = least_of_64_bits; size = 0 }
+
 -- the time of a line, or the error, where the parser is one of times
 abbrev pub time_by_parser : LineParser → Choices → Option (List ℕ → Result TimeOfDay ParseError)
 time_by_parser LineParser.Text chosen = Some (λ line. time_answer chosen.behavior line)
@@ -112,9 +125,10 @@ duration_number_by chosen line =
 
 -- what both configurations choose, where each of their numbers has a value, and the parser is one
 -- of the column: how it is read, and the number of a line
-abbrev pub chosen_by : (Choices → ColumnChoices → Option (List ℕ → Result ℤ LineError))
+abbrev pub chosen_by : {N : Type 0}
+    → (Choices → ColumnChoices → Option (List ℕ → Result N LineError))
     → SpeedateConfig → SpeedateColumnConfig
-    → Option (ColumnChoices × (List ℕ → Result ℤ LineError))
+    → Option (ColumnChoices × (List ℕ → Result N LineError))
 chosen_by number config column =
     option_and_then (λ chosen.
     option_and_then (λ column.
@@ -137,6 +151,13 @@ abbrev pub chosen_for_date_time_offsets : SpeedateConfig → SpeedateColumnConfi
     → Option (ColumnChoices × (List ℕ → Result ℤ LineError))
 chosen_for_date_time_offsets =
     chosen_by (λ chosen column. Some (date_time_offset_number_by chosen column.parser))
+
+-- for a column of date-times at the front of lines
+abbrev pub chosen_for_fronts : SpeedateConfig → SpeedateColumnConfig
+    → Option (ColumnChoices × (List ℕ → Result DateTimeFront LineError))
+chosen_for_fronts =
+    chosen_by (λ chosen column.
+    front_number_by chosen.behavior column.assumes_utc column.parser)
 
 -- for a column of dates
 abbrev pub chosen_for_dates : SpeedateConfig → SpeedateColumnConfig

@@ -8,6 +8,7 @@ ghost use Rattle.speedate_c.specs.Column.{written_lines};
 mod date;
 mod date_time;
 mod duration;
+mod front;
 mod time;
 
 use crate::code::{SUCCESS, line_error_code};
@@ -29,8 +30,8 @@ pub struct SpeedateColumnConfig {
     /// Which dates, times and date-times a line may be: 0 for no timestamps, 1 for timestamps too,
     /// 2 for only times and date-times of RFC 3339.
     pub parser: u8,
-    /// Whether a date-time without an offset is taken to be in UTC: 1, or 0 if it is refused. Only a column
-    /// of instants uses it.
+    /// Whether a date-time without an offset is taken to be in UTC: 1, or 0 if it is refused. Only columns
+    /// of instants use it.
     pub assumes_utc: u8,
     /// What is done after a line that is refused: 0 if it ends the column, 1 if it gets the smallest
     /// number, and the column goes on, as it does if errors are written.

@@ -2,16 +2,15 @@
 
 use crate::rows::{date_time_config, quoted, same, time_config, value, words};
 use speedate::{
-    DateConfig, DatePrinter, DateReader, DateTimeClockPrinter, DateTimeClockReader,
-    DateTimeOffsetReader, DateTimeParser, DateTimePrinter, DateTimeReader, DurationPrinter,
-    DurationReader, LineConfig, LineError, LinePrinter, LineReader,
+    DateConfig, DatePrinter, DateReader, DateTimeClockPrinter, DateTimeClockReader, DateTimeFront,
+    DateTimeFrontReader, DateTimeOffsetReader, DateTimeParser, DateTimePrinter, DateTimeReader,
+    DurationPrinter, DurationReader, LineConfig, LineError, LinePrinter, LineReader,
     MicrosecondsPrecisionOverflowBehavior, Progress, TimeConfig, TimeOffsetReader, TimeParser,
     TimePrinter, TimeReader, print_column, read_column, read_column_with_errors,
     timestamp_microseconds,
 };
 use std::fmt::Debug;
 use std::process::Abort;
-use std::str::FromStr;
 
 /// How many numbers there is room for.
 const ROOM: usize = 3;
@@ -54,6 +53,36 @@ fn error_name(error: Option<LineError>) -> &'static str {
     }
 }
 
+/// What a line is read as, which a word of a row tells.
+trait Entry: Copy + PartialEq + Debug {
+    /// What a word tells.
+    fn of_word<R: Abort>(rt: &R, word: &str) -> Self
+    where
+        Self: Sized;
+}
+
+impl Entry for i32 {
+    fn of_word<R: Abort>(rt: &R, word: &str) -> Self {
+        value(rt, word)
+    }
+}
+
+impl Entry for i64 {
+    fn of_word<R: Abort>(rt: &R, word: &str) -> Self {
+        value(rt, word)
+    }
+}
+
+impl Entry for DateTimeFront {
+    fn of_word<R: Abort>(rt: &R, word: &str) -> Self {
+        let (microseconds, size) = word.split_once(':').expect(rt, word);
+        DateTimeFront {
+            microseconds: value(rt, microseconds),
+            size: value(rt, size),
+        }
+    }
+}
+
 /// The column of a text, and its first numbers.
 fn column<L: LineReader>(
     text: &str,
@@ -82,8 +111,7 @@ fn expect_column<L: LineReader, R: AllocGlobal + Abort>(
     row: &str,
 )
 where
-    L::Number: PartialEq + Debug + FromStr,
-    <L::Number as FromStr>::Err: Drop,
+    L::Number: Entry,
 {
     let (cut, text, want) = quoted(rt, row);
     let skipped = if cut.contains("skip") {
@@ -100,7 +128,7 @@ where
     for place in 0..ROOM {
         if place < progress.lines {
             let number = out.get(place).copied();
-            same(rt, number, Some(value(rt, numbers[place])), row);
+            same(rt, number, Some(Entry::of_word(rt, numbers[place])), row);
         }
     }
 }
@@ -218,6 +246,25 @@ end '1970-01-01T00:00:00Z |' 0 0 extra_characters
 end '1970-01-01 00:00:00x|' 0 0 invalid_char_tz_sign
 return '1970-01-01T00:00:00Z~|1970-01-32T00:00:00Z~|' 1 22 out_of_range_day 0
 end '1' 0 0 too_short";
+
+/// Each row of lines that begin with a date-time, and the microseconds and bytes of each, with digits past
+/// the sixth dropped.
+const FRONTS: &str = "\
+end '1970-01-01T00:00:01Z GET /|1970-01-01T01:00+01:00' 2 49 - 1000000:20 0:22
+end '1970-01-01 00:00:00.1234567Zx|1970-01-01T00:00Z1970|1970-01-01T00:00-00:01+1|' 3 77 - 123456:28 0:17 60000000:22
+end '1970-01-01T00:00Z|1970-01-01T00:00 +01:00 x' 1 18 tz_required 0:17
+skip end '1970-01-01|x|2021-02-29T00:00Z x|' 3 33 - -7:0 -7:0 -7:0
+skip '1970-01-01T00:00:0x|1970-01-01T00:00Z+24:00|1970-01-01T00:00Z' 2 44 - -7:0 0:17
+return '1970-01-01T00:00Z~|1970-01-01t00:00z~x~|' 2 40 - 0:17 0:17
+end '1970-01-01T00:00|Z' 0 0 tz_required
+end '|1970-01-01T00:00Z' 0 0 too_short
+end '1 x' 0 0 too_short";
+
+/// The same where a date-time without an offset is taken to be in UTC, and no digit is dropped.
+const NAIVE_FRONTS: &str = "\
+end '1970-01-01T00:00:01 GET /|1970-01-01_00:00 +01:00|1970-01-01T00:00+01:00' 3 72 - 1000000:19 0:16 -3600000000:22
+end '1970-01-01T00:00,|1970-01-01T00:00:00.1234567 x' 1 18 second_fraction_too_long 0:16
+end '1970-01-01T00:00:00.|5' 0 0 second_fraction_missing";
 
 /// Each row of date-times and the microseconds that their clocks show, with digits past the sixth dropped.
 const CLOCKS: &str = "\
@@ -340,6 +387,31 @@ fn strict_date_times_are_microseconds(rt: HostRuntime) {
     for row in STRICT_DATE_TIMES.lines() {
         expect_column(&rt, &reader, -7, &mut [-7; ROOM], row);
     }
+}
+
+/// Expects the rows of date-times at the front of lines.
+fn expect_fronts<R: AllocGlobal + Abort>(rt: &R, reader: &DateTimeFrontReader, rows: &str) {
+    let refused = DateTimeFront {
+        microseconds: -7,
+        size: 0,
+    };
+    for row in rows.lines() {
+        expect_column(rt, reader, refused, &mut [refused; ROOM], row);
+    }
+}
+
+#[test]
+fn fronts_are_microseconds_and_bytes(rt: HostRuntime) {
+    let reader = DateTimeFrontReader {
+        config: time_config(&rt, "truncate"),
+        assumes_utc: false,
+    };
+    expect_fronts(&rt, &reader, FRONTS);
+    let reader = DateTimeFrontReader {
+        config: TimeConfig::default(),
+        assumes_utc: true,
+    };
+    expect_fronts(&rt, &reader, NAIVE_FRONTS);
 }
 
 /// Expects the rows of date-times as their clocks show them.

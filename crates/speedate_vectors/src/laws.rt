@@ -11,11 +11,11 @@ ghost use Rattle.speedate.specs.Time.{time_of_day};
 
 use speedate::{
     CallKind, ConfigError, Date, DateConfig, DateConfigBuilder, DateReader, DateTime,
-    DateTimeClockReader, DateTimeConfig, DateTimeConfigBuilder, DateTimeOffsetReader,
-    DateTimeParser, DateTimeReader, Decimal, Duration, DurationReader, IntFloat, IsoOrder,
-    LineConfig, LineError, MicrosecondsPrecisionOverflowBehavior, Moment, ParseError, Progress,
-    Refused, Time, TimeConfig, TimeConfigBuilder, TimeOffsetReader, TimeParser, TimeReader,
-    TimestampUnit,
+    DateTimeClockReader, DateTimeConfig, DateTimeConfigBuilder, DateTimeFront, DateTimeFrontReader,
+    DateTimeOffsetReader, DateTimeParser, DateTimeReader, Decimal, Duration, DurationReader,
+    IntFloat, IsoOrder, LineConfig, LineError, MicrosecondsPrecisionOverflowBehavior, Moment,
+    ParseError, Progress, Refused, Time, TimeConfig, TimeConfigBuilder, TimeOffsetReader,
+    TimeParser, TimeReader, TimestampUnit,
 };
 use speedate_base::numbers::{DigitRun, Fraction};
 use speedate_base::util::{UnixTime, UnixUnit};
@@ -50,6 +50,8 @@ pub struct Each<'a> {
         TimeReader,
         TimeOffsetReader,
     ),
+    /// How columns of fronts are read, and what they hold.
+    pub fronts: (DateTimeFrontReader, DateTimeFront),
     /// How columns parse their lines.
     pub parsers: (DateTimeParser, TimeParser),
     /// How far they come.
@@ -93,6 +95,13 @@ pub fn same_refused(first: &Refused, second: &Refused) -> bool
 
 /// Whether two errors of lines are equal: false if one is that of a text, and the other is not.
 pub fn same_line_error(first: &LineError, second: &LineError) -> bool
+    ensures same { IsTrue result ↔ (first.now ≡ second.now) }
+{
+    first == second
+}
+
+/// Whether two date-times at the front of lines are equal: false if their sizes differ.
+pub fn same_front(first: &DateTimeFront, second: &DateTimeFront) -> bool
     ensures same { IsTrue result ↔ (first.now ≡ second.now) }
 {
     first == second

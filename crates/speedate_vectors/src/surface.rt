@@ -3,11 +3,11 @@
 use speedate::{
     CallKind, ConfigError, Date, DateConfig, DateConfigBuilder, DatePrinter, DateReader, DateTime,
     DateTimeClockPrinter, DateTimeClockReader, DateTimeConfig, DateTimeConfigBuilder,
-    DateTimeOffsetReader, DateTimeParser, DateTimePrinter, DateTimeReader, Decimal, Duration,
-    DurationPrinter, DurationReader, DurationSum, FractionDigits, IntFloat, IsoOrder, LineConfig,
-    LineError, LinePrinter, LineReader, MicrosecondsPrecisionOverflowBehavior, Moment, ParseError,
-    Progress, Refused, Time, TimeConfig, TimeConfigBuilder, TimeOffsetReader, TimeParser,
-    TimePrinter, TimeReader, TimestampUnit,
+    DateTimeFront, DateTimeFrontReader, DateTimeOffsetReader, DateTimeParser, DateTimePrinter,
+    DateTimeReader, Decimal, Duration, DurationPrinter, DurationReader, DurationSum, FractionDigits,
+    IntFloat, IsoOrder, LineConfig, LineError, LinePrinter, LineReader,
+    MicrosecondsPrecisionOverflowBehavior, Moment, ParseError, Progress, Refused, Time, TimeConfig,
+    TimeConfigBuilder, TimeOffsetReader, TimeParser, TimePrinter, TimeReader, TimestampUnit,
 };
 use std::error::Error;
 use std::fmt::{Debug, Display};
@@ -39,6 +39,7 @@ fn each_type_has_its_traits() {
     is_reader::<DateTimeReader>();
     is_reader::<DateTimeClockReader>();
     is_reader::<DateTimeOffsetReader>();
+    is_reader::<DateTimeFrontReader>();
     is_reader::<TimeReader>();
     is_reader::<TimeOffsetReader>();
     is_reader::<DurationReader>();
@@ -47,7 +48,7 @@ fn each_type_has_its_traits() {
     is_printer::<DateTimeClockPrinter>();
     is_printer::<TimePrinter>();
     is_printer::<DurationPrinter>();
-    is_value::<(LineError, Refused, DurationSum, FractionDigits)>();
+    is_value::<(LineError, Refused, DurationSum, DateTimeFront, FractionDigits)>();
     is_value::<(Date, Time, DateTime, Duration, Moment)>();
     is_choice::<TimestampUnit>();
     is_choice::<MicrosecondsPrecisionOverflowBehavior>();

@@ -5,8 +5,10 @@ ghost use Rattle.std.specs.Option.{ForSome};
 ghost use Rattle.speedate_base.specs.Offset.{IsOffset};
 ghost use Rattle.speedate_base.specs.Timestamp.{IsInYears, first_second, instant_at, last_second};
 ghost use Rattle.speedate_base.specs.Timestamp.{unix_instant};
-ghost use Rattle.speedate_civil.specs.DateTime.{date_time_at, utc_microsecond, utc_second};
+ghost use Rattle.speedate_civil.specs.DateTime.{date_and_time, date_time_at, utc_microsecond};
+ghost use Rattle.speedate_civil.specs.DateTime.{utc_second};
 ghost use Rattle.speedate_base.specs.Requirement.{result_map};
+ghost use Rattle.speedate.specs.Column.{as_number, with_offset};
 ghost use Rattle.speedate.specs.ColumnText.{IsShownLine, date_time_line};
 
 use super::{LINE_MAX, LineError, LinePrinter, LineReader};
@@ -88,7 +90,7 @@ impl DateTimeReader {
             (with_offset self.now.assumes_utc) (result_map date_and_time read)) }
     {
         match read {
-            Ok(value) => self.microsecond(&value),
+            Ok(value) => utc_number(&value, self.assumes_utc),
             Err(fault) => Err(LineError::Parse(fault)),
         }
     }
@@ -100,7 +102,7 @@ impl DateTimeReader {
             (with_offset self.now.assumes_utc) (date_time_by_config config.now line.now)) }
     {
         match DateTime::parse_bytes_rfc3339_with_config(line, &config.time_config) {
-            Ok(value) => self.microsecond(&value),
+            Ok(value) => utc_number(&value, self.assumes_utc),
             Err(fault) => match timestamp_instant(line, fault, config) {
                 Ok(time) => self.timestamp_microsecond(time, config),
                 Err(fault) => Err(LineError::Parse(fault)),
@@ -124,18 +126,6 @@ impl DateTimeReader {
             return Err(LineError::Parse(ParseError::TzRequired));
         }
         Ok(timestamp_number(time, offset))
-    }
-
-    /// The microseconds of a date-time, if it has an offset or needs none.
-    #[inline(always)]
-    fn microsecond(&self, value: &DateTime) -> Result<i64, LineError>
-        ensures number { result ≡ as_number utc_microsecond
-            (with_offset self.now.assumes_utc (date_and_time value.now)) }
-    {
-        if value.time.tz_offset.is_none() && !self.assumes_utc {
-            return Err(LineError::Parse(ParseError::TzRequired));
-        }
-        Ok(value.timestamp_tz_us())
     }
 }
 
@@ -166,6 +156,18 @@ impl LineReader for DateTimeReader {
         }
         Some((number, size))
     }
+}
+
+/// The microseconds of a date-time in UTC, if it has an offset or needs none.
+#[inline(always)]
+pub(super) fn utc_number(value: &DateTime, assumes_utc: bool) -> Result<i64, LineError>
+    ensures number { result ≡ as_number utc_microsecond
+        (with_offset assumes_utc (date_and_time value.now)) }
+{
+    if value.time.tz_offset.is_none() && !assumes_utc {
+        return Err(LineError::Parse(ParseError::TzRequired));
+    }
+    Ok(value.timestamp_tz_us())
 }
 
 /// The microseconds of the date-time whose clock shows an instant, and which has this offset.

@@ -1,0 +1,52 @@
+//! Columns of the date-times at the front of lines.
+
+use super::date_time::utc_number;
+use super::{LineError, LineReader};
+use speedate_base::config::TimeConfig;
+use speedate_civil::datetime::DateTime;
+
+/// The date-time at the front of a line: 1,000,000 and 20 for `1970-01-01T00:00:01Z GET /`.
+#[repr(C)]
+#[derive(Clone, Copy, Debug, PartialEq, Eq)]
+pub struct DateTimeFront {
+    /// Its microseconds since 1970-01-01T00:00:00 in UTC.
+    pub microseconds: i64,
+    /// How many bytes of the line it takes.
+    pub size: usize,
+}
+
+/// Reads the date-time at the front of a line, whatever follows it, as
+/// [`DateTime::parse_front`] does, and counts its microseconds as
+/// [`DateTimeReader`](crate::DateTimeReader) does: 1,000,000 and 20 for `1970-01-01T00:00:01Z GET /`.
+#[derive(Clone, Copy, Debug)]
+pub struct DateTimeFrontReader {
+    /// The behavior for digits past the microsecond.
+    pub config: TimeConfig,
+    /// Whether a date-time without an offset is taken to be in UTC. Otherwise it is refused, with
+    /// `TzRequired`.
+    pub assumes_utc: bool,
+}
+
+impl LineReader for DateTimeFrontReader {
+    ghost use Rattle.std.specs.Prelude.{◌≡◌, ◌≤◌, IfOk, Ok, length, take};
+    ghost use Rattle.speedate.specs.Column.{date_time_front_number, date_time_number, whole_reader};
+
+    type Number = DateTimeFront;
+
+    ghost answer = { date_time_front_number };
+
+    fn number(&self, line: &[u8]) -> Result<DateTimeFront, LineError>
+        ensures answer { result ≡ date_time_front_number self.now line.now }
+        ensures within { IfOk result (λ front. front.size ≤ length line.now) }
+        ensures alone { IfOk result (λ front. date_time_number (whole_reader self.now)
+            (take front.size line.now) ≡ Ok front.microseconds) }
+    {
+        match DateTime::parse_front(line, &self.config) {
+            Ok((value, size)) => match utc_number(&value, self.assumes_utc) {
+                Ok(microseconds) => Ok(DateTimeFront { microseconds, size }),
+                Err(error) => Err(error),
+            },
+            Err(fault) => Err(LineError::Parse(fault)),
+        }
+    }
+}
