@@ -112,7 +112,7 @@ fn with_place<'a>(alloc: Global, command: Command<'a>) -> Result<Command<'a>, Al
                 .help("The value comes after the first TEXT of a line [default: at its front]"),
         )?
         .arg(valued(alloc, "field", "N").help(
-            "The value is field N of a line, wholly; it may be quoted, as in CSV",
+            "The value is all of field N, which may be quoted as in CSV",
         ))?
         .arg(
             valued(alloc, "separator", "C")
