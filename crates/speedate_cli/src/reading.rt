@@ -245,6 +245,7 @@ impl Reader<'_> {
     }
 
     /// What is read of a line, by its head, whose value begins at this byte, if anywhere.
+    #[inline(always)]
     fn read_from(&self, head: &[u8], start: Option<usize>) -> Reading
         requires start { IfSome start (λ start. start ≤ length (seen head.now)) }
         ensures read { result ≡ read_from self.now head.now start }
