@@ -44,7 +44,8 @@ pub quote_later : (text : List ℕ) (place : ℕ) → place < length text → ge
     → before_quote (drop place text) ≡ 1 + before_quote (drop (place + 1) text)
 quote_later text place within other =
     ap before_quote (parts_at text place within)
-    ∙ other_first (get_or text place 0) (drop (place + 1) text) (is_other (get_or text place 0) other)
+    ∙ other_first (get_or text place 0) (drop (place + 1) text)
+    (is_other (get_or text place 0) other)
 
 -- a doubled quote is passed
 pub quote_doubled : (text : List ℕ) (place : ℕ) → place + 1 < length text
