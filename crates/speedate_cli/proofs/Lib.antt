@@ -1,5 +1,6 @@
 mod ReadingLemmas
 mod WordLemmas
+mod FieldLemmas
 mod SeenLemmas
 mod EntryLemmas
 mod RunLemmas

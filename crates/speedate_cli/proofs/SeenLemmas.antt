@@ -1,7 +1,8 @@
 -- What is looked at of a line is no longer than the line, and has at most 4,096 bytes.
-use Rattle.std.proofs.Common.{◌≡◌, ℕ, ◌≤◌, List, length, take, arith, sym}
+use Rattle.std.proofs.Common.{◌≡◌, ℕ, ◌-◌, ◌≤◌, List, length, take, arith, sym}
 use Rattle.std.proofs.lemmas.List.{length-take, length-take-le}
-use Rattle.speedate_cli.specs.Reading.{seen}
+use Rattle.std.specs.Prelude.{Bool, true, false, if◌then◌else◌}
+use Rattle.speedate_cli.specs.Reading.{fields_of, seen}
 
 pub seen_within : (head : List ℕ) → length (seen head) ≤ length head
 seen_within head = omega (arith, length-take 4096 head)
@@ -16,3 +17,13 @@ length_before head from within =
     let seen_part = seen_within head in
     let inside : from ≤ length head = omega arith in
     length-take-le from head inside
+
+no_longer : (test : Bool) (size : ℕ) (text : List ℕ)
+    → length (if test then take size text else text) ≤ length text
+no_longer true size text = omega (arith, length-take size text)
+no_longer false size text = omega arith
+
+-- what has the fields of a line is part of what is looked at
+pub fields_within : (head : List ℕ) → length (fields_of head) ≤ length (seen head)
+unfolding fields_of
+fields_within head = no_longer _ (length (seen head) - 1) (seen head)

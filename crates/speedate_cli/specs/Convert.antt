@@ -6,7 +6,7 @@ use Rattle.speedate.specs.DateTime.{DateAndTime, date_time_in_timezone, date_tim
 use Rattle.speedate_stream.specs.Machine.{Machine, head, rest_of}
 use Rattle.speedate_stream.specs.Watch.{one_more}
 use Rattle.speedate_cli.specs.Print.{prefix_text}
-use Rattle.speedate_cli.specs.Reading.{Bad, Form, Found, Why, value_at}
+use Rattle.speedate_cli.specs.Reading.{Bad, Form, Found, Why, value_of}
 use Rattle.speedate_cli.specs.Scan.{Line, is_stopped, keeps, line_of, passed}
 pub use Rattle.speedate_cli.specs.declared.convert.Target.{Target}
 pub use Rattle.speedate_cli.specs.declared.convert.Convert.{Convert}
@@ -34,7 +34,7 @@ written_from target found (Err bad) = Err bad
 -- the value of a line as it is written, or what is bad about it
 unfoldable pub written_value : Convert → List ℕ → Found → Result DateAndTime Bad
 written_value convert head found =
-    written_from convert.target found (value_at convert.scan.reader head found.from)
+    written_from convert.target found (value_of convert.scan.reader head found)
 
 -- the text of a value: a date for dates, otherwise a date-time
 unfoldable pub written_text : Form → DateAndTime → List ℕ

@@ -1,3 +1,4 @@
+pub mod Field
 pub mod Reading
 pub mod Scan
 pub mod Print

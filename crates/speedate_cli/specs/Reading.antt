@@ -10,12 +10,15 @@ use Rattle.speedate.specs.Requirement.{result_map, with_size, ◌>>=◌}
 use Rattle.speedate.specs.Refused.{placed, refused_place}
 use Rattle.speedate_base.specs.declared.refusal.Refused.{Refused}
 use Rattle.speedate.specs.Calendar.{Ymd}
-use Rattle.speedate.specs.Date.{date_front, date_front_or}
-use Rattle.speedate.specs.DateTime.{DateAndTime, date_and_time, date_time_front}
+use Rattle.speedate.specs.Date.{date_answer, date_answer_or, date_front, date_front_or}
+use Rattle.speedate.specs.DateTime.{DateAndTime, date_and_time, date_time_answer}
+use Rattle.speedate.specs.DateTime.{date_time_answer_or, date_time_front}
 use Rattle.speedate.specs.DateTime.{date_time_front_or, date_time_with_offset, utc_microsecond}
+use Rattle.speedate.specs.Lines.{without_return}
 use Rattle.speedate.specs.Strict.{strict_date_time_answer, strict_date_time_answer_or}
 use Rattle.speedate.specs.Time.{minute_time}
 use Rattle.speedate_stream.specs.Machine.{longest_line}
+use Rattle.speedate_cli.specs.Field.{Field, nth_field}
 pub use Rattle.speedate_cli.specs.declared.reading.Place.{Place}
 pub use Rattle.speedate_cli.specs.declared.reading.Form.{Form}
 pub use Rattle.speedate_cli.specs.declared.reading.Reader.{Reader}
@@ -66,6 +69,24 @@ front_of Form.DateTime behavior text = relaxed_front behavior text
 front_of Form.Strict behavior text = strict_front behavior text
 front_of Form.Date behavior text = midnight_front text
 
+-- the date-time that a text is
+unfoldable pub relaxed_whole : Behavior → List ℕ → Result DateAndTime Refused
+relaxed_whole behavior text =
+    with_place (date_time_answer behavior text)
+    (refused_place (date_time_answer_or placed behavior text))
+
+-- the midnight of the date that a text is
+unfoldable pub midnight_whole : List ℕ → Result DateAndTime Refused
+midnight_whole text =
+    result_map midnight_of
+    (with_place (date_answer text) (refused_place (date_answer_or placed text)))
+
+-- the value that a text is
+abbrev pub whole_of : Form → Behavior → List ℕ → Result DateAndTime Refused
+whole_of Form.DateTime behavior text = relaxed_whole behavior text
+whole_of Form.Strict behavior text = strict_whole behavior text
+whole_of Form.Date behavior text = midnight_whole text
+
 -- Where a value begins.
 
 -- what is looked at of a line
@@ -92,11 +113,9 @@ end_of_word word (byte ∷ bytes) =
     if begins_with word (byte ∷ bytes) then Some (length word)
     else moved_place 1 (end_of_word word bytes)
 
--- the byte at which the value of a text begins: at its front, after one `[` if there is one, or
--- after a word
-abbrev pub value_start : Place → List ℕ → Option ℕ
-value_start Place.Front text = Some (if slice_index text 0 == left_bracket then 1 else 0)
-value_start (Place.After word) text = end_of_word word.now text
+-- how many bytes of a text stand before a value at its front: a `[`, or nothing
+abbrev pub bracket_length : List ℕ → ℕ
+bracket_length text = if slice_index text 0 == left_bracket then 1 else 0
 
 -- the byte at a place is a digit
 abbrev pub digit_at : List ℕ → ℕ → Bool
@@ -141,14 +160,18 @@ value_at reader head start =
 unfoldable pub instant_of : DateAndTime → ℤ
 instant_of value = utc_microsecond value
 
--- a value that was found from a byte of a line on, or what is bad
-abbrev pub found_from : ℕ → Result (DateAndTime × ℕ) Bad → Reading
-found_from start (Ok (value, to)) = Reading.Value (record {
-  from = start;
+-- a value that was found from one byte of a line up to another
+abbrev pub found_at : DateAndTime → ℕ → ℕ → Found
+found_at value from to = record {
+  from = from;
   to = to;
   instant = instant_of value;
   offset = value.time.offset;
-})
+}
+
+-- a value that was found from a byte of a line on, or what is bad
+abbrev pub found_from : ℕ → Result (DateAndTime × ℕ) Bad → Reading
+found_from start (Ok (value, to)) = Reading.Value (found_at value start to)
 found_from start (Err bad) = Reading.Bad bad
 
 -- what is read of a line whose value begins at this byte, if anywhere
@@ -158,13 +181,83 @@ read_from reader head (Some start) =
     if claims (drop start (seen head)) then found_from start (value_at reader head start)
     else Reading.Undated start
 
+-- What value is a field.
+
+-- a line is longer than what is looked at
+abbrev pub is_longer : List ℕ → Bool
+is_longer head = nat_lt longest_line (length head)
+
+-- what has the fields of a line: a carriage return at its end belongs to none
+unfoldable pub fields_of : List ℕ → List ℕ
+fields_of head = without_return (not (is_longer head)) (seen head)
+
+-- the bytes of a line from one up to another
+abbrev pub part : List ℕ → ℕ → ℕ → List ℕ
+part head from to = take (to - from) (drop from head)
+
+-- a value that was parsed from one byte of a line up to another
+abbrev pub parsed_between : Option ℤ → ℕ → ℕ → Result DateAndTime Refused
+    → Result (DateAndTime × ℕ) Bad
+parsed_between offset from to (Ok value) = Ok (assumed offset value, to)
+parsed_between offset from to (Err refused) =
+    Err (record { place = from + refused.place; why = Why.Parse refused.fault })
+
+-- the value that a part of a line is, and the byte up to which it stands
+unfoldable pub value_between : Reader → List ℕ → ℕ → ℕ → Result (DateAndTime × ℕ) Bad
+value_between reader head from to =
+    parsed_between reader.offset from to (whole_of reader.form reader.behavior (part head from to))
+
+-- the value of a field; what stands after the quote that closes it is bad
+abbrev pub alone : Field → Result (DateAndTime × ℕ) Bad → Result (DateAndTime × ℕ) Bad
+alone field (Ok value) =
+    if nat_lt (field.to + 1) field.end
+    then Err (record { place = field.to + 1; why = Why.Parse ParseError.ExtraCharacters })
+    else Ok value
+alone field (Err bad) = Err bad
+
+-- what is read of a field that ends before the cut of a longer line
+abbrev pub read_whole : Reader → List ℕ → Field → Reading
+read_whole reader head field =
+    if claims (part head field.from field.to)
+    then found_from field.from (alone field (value_between reader head field.from field.to))
+    else Reading.Undated field.from
+
+-- a value that does not lie within what is looked at
+abbrev pub not_within : ℕ → Reading
+not_within place = Reading.Bad (record { place = place; why = Why.Within })
+
+-- what is read of a line by where its field is, if it is there: a longer line may have it, or more
+-- of it, after the cut
+abbrev pub read_field : Reader → List ℕ → Option Field → Reading
+read_field reader head None =
+    if is_longer head then not_within longest_line else Reading.Undated (length (fields_of head))
+read_field reader head (Some field) =
+    if is_cut head field.end then not_within field.from else read_whole reader head field
+
+-- what is read of a line, by where its value begins
+abbrev pub read_at : Reader → List ℕ → Place → Reading
+read_at reader head Place.Front = read_from reader head (Some (bracket_length (seen head)))
+read_at reader head (Place.After word) = read_from reader head (end_of_word word.now (seen head))
+read_at reader head (Place.Field which) =
+    read_field reader head (nth_field which (fields_of head))
+
 -- what is read of a line
 unfoldable pub read : Reader → List ℕ → Reading
-read reader head = read_from reader head (value_start reader.place (seen head))
+read reader head = read_at reader head reader.place
+
+-- the value that was found in a line, and the byte up to which it stands
+abbrev pub value_again : Reader → List ℕ → Found → Place → Result (DateAndTime × ℕ) Bad
+value_again reader head found Place.Front = value_at reader head found.from
+value_again reader head found (Place.After word) = value_at reader head found.from
+value_again reader head found (Place.Field which) = value_between reader head found.from found.to
+
+unfoldable pub value_of : Reader → List ℕ → Found → Result (DateAndTime × ℕ) Bad
+value_of reader head found = value_again reader head found reader.place
 
 -- a value lies within a line: it begins within what is looked at
 pub record IsWithin (found : Found) (head : List ℕ) : Type 0 where
   pub begins : found.from ≤ length (seen head)
+  pub ordered : found.from ≤ found.to
   pub ends : found.to ≤ length head
 
 -- a value that was read lies within its line

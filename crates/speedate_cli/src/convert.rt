@@ -6,7 +6,7 @@ ghost use Rattle.speedate.specs.DateTime.{date_and_time};
 ghost use Rattle.speedate.specs.Requirement.{result_map};
 ghost use Rattle.speedate_cli.specs.Convert.{convert_line, convert_rest, convert_text, target_place};
 ghost use Rattle.speedate_cli.specs.Convert.{targeted, written_text, written_value};
-ghost use Rattle.speedate_cli.specs.Reading.{IsWithin, seen};
+ghost use Rattle.speedate_cli.specs.Reading.{IsWithin};
 ghost use Rattle.speedate_cli.specs.Scan.{IsFoundWithin};
 ghost use Rattle.speedate_cli.specs.Convert.{convert_lines, convert_machine};
 ghost use Rattle.speedate_cli.specs.Runs.{EndsWith};
@@ -98,11 +98,11 @@ impl Convert<'_> {
     /// The value of a line as it is written, or what is bad about it.
     #[tactic(auto, unfolding(crate::specs::Convert::written_value))]
     fn written(&self, head: &[u8], found: &Found) -> Result<DateTime, Bad>
-        requires within { found.now.from ≤ length (seen head.now) }
+        requires within { IsWithin found.now head.now }
         ensures value { result_map date_and_time result
             ≡ written_value self.now head.now found.now }
     {
-        match self.scan.reader.value_at(head, found.from) {
+        match self.scan.reader.value_of(head, found) {
             Ok((value, _)) => self.target.targeted(found, value),
             Err(bad) => Err(bad),
         }

@@ -4,6 +4,7 @@
 mod between;
 mod check;
 mod convert;
+mod field;
 mod options;
 mod order;
 mod print;

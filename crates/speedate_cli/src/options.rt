@@ -4,6 +4,7 @@ ghost use Rattle.std.specs.Prelude.{◌≡◌, ◌≤◌};
 
 use crate::between::Bounds;
 use crate::convert::Target;
+use crate::field::{NthField, QUOTE};
 use crate::print::Prefix;
 use crate::reading::{Form, Place, Reader};
 use crate::scan::{BadLines, Offsets, UndatedLines};
@@ -74,12 +75,7 @@ fn with_common<'a>(
     command: Command<'a>,
     prints: Prints,
 ) -> Result<Command<'a>, AllocError> {
-    let command = command
-        .arg(
-            valued(alloc, "after", "TEXT")
-                .allow_hyphen_values(true)
-                .help("The value comes after the first TEXT of a line [default: at its front]"),
-        )?
+    let command = with_place(alloc, command)?
         .arg(valued(alloc, "kind", "KIND").help("datetime or date [default: datetime]"))?
         .arg(flag(alloc, "strict").help("Accept only RFC 3339"))?
         .arg(valued(alloc, "digits", "WHAT").help("Digits past the sixth: refuse or truncate"))?
@@ -89,7 +85,7 @@ fn with_common<'a>(
                 .help("utc or +HH:MM for values and bounds that have none"),
         )?
         .arg(valued(alloc, "undated", "WHAT").help(
-            "Lines without a value: join, drop or bad [default: join]",
+            "Lines without a value: join, drop or bad [default: join, with --field bad]",
         ))?
         .arg(valued(alloc, "bad", "WHAT").help(
             "Lines with a bad value: keep, drop or stop [default: keep]",
@@ -105,6 +101,24 @@ fn with_common<'a>(
             .num_args(0..)
             .help("The files; none, or -, is standard input"),
     )
+}
+
+/// A command with where the value of a line begins.
+fn with_place<'a>(alloc: Global, command: Command<'a>) -> Result<Command<'a>, AllocError> {
+    command
+        .arg(
+            valued(alloc, "after", "TEXT")
+                .allow_hyphen_values(true)
+                .help("The value comes after the first TEXT of a line [default: at its front]"),
+        )?
+        .arg(valued(alloc, "field", "N").help(
+            "The value is all of field N, which may be quoted as in CSV",
+        ))?
+        .arg(
+            valued(alloc, "separator", "C")
+                .allow_hyphen_values(true)
+                .help("What separates fields; \\t is a tab [default: a comma]"),
+        )
 }
 
 /// A command with what it prints before each line.
@@ -165,17 +179,45 @@ fn reader<'a>(
     matches: &ArgMatches<'a>,
     digits: MicrosecondsPrecisionOverflowBehavior,
 ) -> Result<Reader<'a>, Refusal> {
-    let place = match matches.get_str("after") {
-        None => Place::Front,
-        Some(text) if text.is_empty() => return Err("--after wants a text that is not empty"),
-        Some(text) => Place::After(text.as_bytes()),
-    };
     Ok(Reader {
-        place,
+        place: place(matches)?,
         form: form(matches)?,
         behavior: behavior(matches, digits)?,
         offset: offset(matches)?,
     })
+}
+
+/// Where the value of a line begins.
+fn place<'a>(matches: &ArgMatches<'a>) -> Result<Place<'a>, Refusal> {
+    match (matches.get_str("after"), matches.get_str("field")) {
+        (Some(_), Some(_)) => Err("--after and --field exclude each other"),
+        (_, None) if matches.get_str("separator").is_some() => Err("--separator wants --field"),
+        (None, None) => Ok(Place::Front),
+        (Some(text), None) if text.is_empty() => Err("--after wants a text that is not empty"),
+        (Some(text), None) => Ok(Place::After(text.as_bytes())),
+        (None, Some(text)) => Ok(Place::Field(NthField {
+            number: field_number(text)?,
+            separator: separator(matches)?,
+        })),
+    }
+}
+
+/// The number of a field.
+fn field_number(text: &str) -> Result<usize, Refusal> {
+    match text.parse::<usize>() {
+        Ok(number) if number > 0 => Ok(number),
+        _ => Err("--field is a number, and the first field is 1"),
+    }
+}
+
+/// The byte that stands between two fields.
+fn separator(matches: &ArgMatches<'_>) -> Result<u8, Refusal> {
+    match matches.get_str("separator").unwrap_or(",").as_bytes() {
+        b"\\t" => Ok(b'\t'),
+        [QUOTE | b'\n' | b'\r'] => Err("--separator is no quote, and no byte that ends lines"),
+        [byte] => Ok(*byte),
+        _ => Err("--separator is one byte, or \\t for a tab"),
+    }
 }
 
 /// What a value is.
@@ -215,6 +257,7 @@ fn offset(matches: &ArgMatches<'_>) -> Result<Option<i32>, Refusal> {
 /// What is done with lines that have no value.
 fn undated_lines(matches: &ArgMatches<'_>) -> Result<UndatedLines, Refusal> {
     match matches.get_str("undated") {
+        None if matches.get_str("field").is_some() => Ok(UndatedLines::Bad),
         None | Some("join") => Ok(UndatedLines::Join),
         Some("drop") => Ok(UndatedLines::Drop),
         Some("bad") => Ok(UndatedLines::Bad),

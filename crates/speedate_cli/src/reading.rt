@@ -1,15 +1,21 @@
 //! What is read of a line.
 
-ghost use Rattle.std.specs.Prelude.{◌≡◌, ◌+◌, ◌<◌, ◌≤◌, ◌==◌, IfErr, IfOk, IfSome, IsTrue, length, take, drop, slice_index, nat_lt, if◌then◌else◌};
+ghost use Rattle.std.specs.Prelude.{◌≡◌, ◌+◌, ◌-◌, ◌≤◌, IfErr, IfOk, IfSome, length, nat_lt};
+ghost use Rattle.speedate.specs.Config.{time_choices};
 ghost use Rattle.speedate.specs.Requirement.{result_map, with_size};
 ghost use Rattle.speedate.specs.Date.{ymd};
 ghost use Rattle.speedate.specs.DateTime.{date_and_time};
-ghost use Rattle.speedate_cli.specs.Reading.{IsReadWithin};
-ghost use Rattle.speedate_cli.specs.Reading.{assumed, claims, digit_at, end_of_word, front_of};
-ghost use Rattle.speedate_cli.specs.Reading.{instant_of, is_cut, left_bracket, midnight_front};
-ghost use Rattle.speedate_cli.specs.Reading.{midnight_of, read, relaxed_front, seen, strict_front};
-ghost use Rattle.speedate_cli.specs.Reading.{strict_whole, value_at, value_start};
+ghost use Rattle.speedate_cli.specs.Field.{IsFieldWithin};
+ghost use Rattle.speedate_cli.specs.Reading.{IsReadWithin, IsWithin};
+ghost use Rattle.speedate_cli.specs.Reading.{alone, assumed, bracket_length, claims, digit_at};
+ghost use Rattle.speedate_cli.specs.Reading.{found_at, not_within};
+ghost use Rattle.speedate_cli.specs.Reading.{end_of_word, fields_of, front_of, instant_of, is_cut};
+ghost use Rattle.speedate_cli.specs.Reading.{is_longer, midnight_front, midnight_of, midnight_whole};
+ghost use Rattle.speedate_cli.specs.Reading.{part, read, read_field, read_from, read_whole};
+ghost use Rattle.speedate_cli.specs.Reading.{relaxed_front, relaxed_whole, seen, strict_front, strict_whole};
+ghost use Rattle.speedate_cli.specs.Reading.{value_at, value_between, value_of, whole_of};
 
+use crate::field::{Field, NthField, byte_at};
 use speedate::{
     Date, DateTime, IsoOrder, MicrosecondsPrecisionOverflowBehavior, ParseError, Refused, Time,
     TimeConfig,
@@ -23,6 +29,8 @@ pub enum Place<'a> {
     Front,
     /// After the first place at which this text stands.
     After(&'a [u8]),
+    /// It is this field of the line, wholly.
+    Field(NthField),
 }
 
 /// What a value is.
@@ -94,22 +102,9 @@ pub enum Reading {
     Undated(usize),
 }
 
-impl Place<'_> {
-    /// The byte at which the value of a text begins.
-    fn value_start(&self, text: &[u8]) -> Option<usize>
-        ensures start { result ≡ value_start self.now text.now }
-        ensures within { IfSome result (λ start. start ≤ length text.now) }
-    {
-        match self {
-            Place::Front => Some(bracket_length(text)),
-            Place::After(word) => end_of_word(word, text),
-        }
-    }
-}
-
 /// How many bytes of a text stand before a value at its front: a `[`, or nothing.
 fn bracket_length(text: &[u8]) -> usize
-    ensures length { result ≡ (if slice_index text.now 0 == left_bracket then 1 else 0) }
+    ensures length { result ≡ bracket_length text.now }
     ensures within { result ≤ length text.now }
 {
     if byte_at(text, 0) == b'[' { 1 } else { 0 }
@@ -128,14 +123,6 @@ fn end_of_word(word: &[u8], text: &[u8]) -> Option<usize>
         place += 1;
     }
     None
-}
-
-/// The byte at a place, or 0 behind the text's end.
-fn byte_at(text: &[u8], place: usize) -> u8
-    ensures byte { result ≡ slice_index text.now place }
-    ensures there { IsTrue (nat_lt 0 result) → place < length text.now }
-{
-    if place < text.len() { text[place] } else { 0 }
 }
 
 /// Whether the byte at a place is a digit.
@@ -170,11 +157,33 @@ pub fn seen(head: &[u8]) -> &[u8]
     }
 }
 
+/// Whether a line is longer than what is looked at.
+fn is_longer(head: &[u8]) -> bool
+    ensures longer { result ≡ is_longer head.now }
+{
+    head.len() > LINE_MAX
+}
+
 /// Whether a place is the cut of a line that is longer than what is looked at.
 fn is_cut(head: &[u8], place: usize) -> bool
     ensures cut { result ≡ is_cut head.now place }
 {
     head.len() > LINE_MAX && place == LINE_MAX
+}
+
+/// What has the fields of a line: a carriage return at its end belongs to none.
+#[tactic(auto, unfolding(crate::specs::Reading::fields_of))]
+fn fields_of(head: &[u8]) -> &[u8]
+    ensures fields { result.now ≡ fields_of head.now }
+    ensures within { length result.now ≤ length (seen head.now) }
+{
+    let text = seen(head);
+    let last = text.len().saturating_sub(1);
+    if !is_longer(head) && byte_at(text, last) == b'\r' {
+        &text[..last]
+    } else {
+        text
+    }
 }
 
 /// The microsecond of a value: in UTC if it has an offset, otherwise as its clock shows it.
@@ -199,6 +208,28 @@ pub fn assume(offset: Option<i32>, value: DateTime) -> DateTime
     }
 }
 
+/// A value that was found from one byte of a line up to another.
+fn found_at(value: &DateTime, from: usize, to: usize) -> Found
+    ensures found { result ≡ found_at (date_and_time value.now) from to }
+{
+    Found {
+        from,
+        to,
+        instant: instant_of(value),
+        offset: value.time.tz_offset,
+    }
+}
+
+/// What is read of a line whose value does not lie within what is looked at.
+fn not_within(place: usize) -> Reading
+    ensures read { result ≡ not_within place }
+{
+    Reading::Bad(Bad {
+        place,
+        why: Why::Within,
+    })
+}
+
 impl Reader<'_> {
     /// What is read of a line, by its head.
     #[tactic(auto, unfolding(crate::specs::Reading::read))]
@@ -206,30 +237,136 @@ impl Reader<'_> {
         ensures read { result ≡ read self.now head.now }
         ensures within { IsReadWithin result head.now }
     {
+        match self.place {
+            Place::Front => self.read_from(head, Some(bracket_length(seen(head)))),
+            Place::After(word) => self.read_from(head, end_of_word(word, seen(head))),
+            Place::Field(which) => self.read_field(head, which.find(fields_of(head))),
+        }
+    }
+
+    /// What is read of a line, by its head, whose value begins at this byte, if anywhere.
+    #[inline(always)]
+    fn read_from(&self, head: &[u8], start: Option<usize>) -> Reading
+        requires start { IfSome start (λ start. start ≤ length (seen head.now)) }
+        ensures read { result ≡ read_from self.now head.now start }
+        ensures within { IsReadWithin result head.now }
+    {
         let text = seen(head);
-        let Some(start) = self.place.value_start(text) else {
+        let Some(start) = start else {
             return Reading::Undated(text.len());
         };
         if !claims(&text[start..]) {
             return Reading::Undated(start);
         }
         match self.value_at(head, start) {
-            Ok((value, to)) => Reading::Value(Found {
-                from: start,
-                to,
-                instant: instant_of(&value),
-                offset: value.time.tz_offset,
-            }),
+            Ok((value, to)) => Reading::Value(found_at(&value, start, to)),
             Err(bad) => Reading::Bad(bad),
+        }
+    }
+
+    /// What is read of a line, by its head and where its field is, if it is there.
+    #[tactic(auto, using(crate::proofs::SeenLemmas::fields_within))]
+    fn read_field(&self, head: &[u8], field: Option<Field>) -> Reading
+        requires within { IfSome field (λ field. IsFieldWithin field (fields_of head.now)) }
+        ensures read { result ≡ read_field self.now head.now field }
+        ensures within { IsReadWithin result head.now }
+    {
+        match field {
+            None => {
+                if is_longer(head) {
+                    return not_within(LINE_MAX);
+                }
+                Reading::Undated(fields_of(head).len())
+            }
+            Some(field) => {
+                if is_cut(head, field.end) {
+                    return not_within(field.from);
+                }
+                self.read_whole(head, &field)
+            }
+        }
+    }
+
+    /// What is read of a line, by its head and its field, which lies within what is looked at.
+    #[tactic(auto, using(crate::proofs::SeenLemmas::seen_within))]
+    fn read_whole(&self, head: &[u8], field: &Field) -> Reading
+        requires ordered { field.now.from ≤ field.now.to }
+        requires ends { field.now.to ≤ field.now.end }
+        requires within { field.now.end ≤ length (seen head.now) }
+        ensures read { result ≡ read_whole self.now head.now field.now }
+        ensures within { IsReadWithin result head.now }
+    {
+        if !claims(&head[field.from..field.to]) {
+            return Reading::Undated(field.from);
+        }
+        match self.value_alone(head, field) {
+            Ok((value, to)) => Reading::Value(found_at(&value, field.from, to)),
+            Err(bad) => Reading::Bad(bad),
+        }
+    }
+
+    /// The value of a field of a line, by its head, and the byte up to which it stands; what stands after the
+    /// quote that closes the field is bad.
+    fn value_alone(&self, head: &[u8], field: &Field) -> Result<(DateTime, usize), Bad>
+        requires ordered { field.now.from ≤ field.now.to }
+        requires ends { field.now.to ≤ field.now.end }
+        requires within { field.now.end ≤ length head.now }
+        ensures value { result_map (with_size date_and_time) result
+            ≡ alone field.now (value_between self.now head.now field.now.from field.now.to) }
+        ensures size { IfOk result (λ found. found.1 ≡ field.now.to) }
+    {
+        match self.value_between(head, field.from, field.to) {
+            Ok(found) => {
+                if field.end - field.to > 1 {
+                    return Err(Bad {
+                        place: field.to + 1,
+                        why: Why::Parse(ParseError::ExtraCharacters),
+                    });
+                }
+                Ok(found)
+            }
+            Err(bad) => Err(bad),
+        }
+    }
+
+    /// The value that was found in a line, by its head, and the byte up to which it stands.
+    #[tactic(auto, unfolding(crate::specs::Reading::value_of))]
+    pub fn value_of(&self, head: &[u8], found: &Found) -> Result<(DateTime, usize), Bad>
+        requires within { IsWithin found.now head.now }
+        ensures value { result_map (with_size date_and_time) result
+            ≡ value_of self.now head.now found.now }
+    {
+        match self.place {
+            Place::Field(_) => self.value_between(head, found.from, found.to),
+            _ => self.value_at(head, found.from),
+        }
+    }
+
+    /// The value that a part of a line is, by its head, and the byte up to which it stands.
+    #[tactic(auto, unfolding(crate::specs::Reading::value_between))]
+    fn value_between(&self, head: &[u8], from: usize, to: usize) -> Result<(DateTime, usize), Bad>
+        requires ordered { from ≤ to }
+        requires within { to ≤ length head.now }
+        ensures value { result_map (with_size date_and_time) result
+            ≡ value_between self.now head.now from to }
+        ensures size { IfOk result (λ found. found.1 ≡ to) }
+    {
+        match self.form.whole(&head[from..to], self.behavior) {
+            Ok(value) => Ok((assume(self.offset, value), to)),
+            Err(refused) => Err(Bad {
+                place: from + refused.place,
+                why: Why::Parse(refused.fault),
+            }),
         }
     }
 
     /// The value that begins at a byte of a line, by its head, and the byte up to which it stands.
     #[tactic(auto, unfolding(crate::specs::Reading::value_at))]
-    pub fn value_at(&self, head: &[u8], start: usize) -> Result<(DateTime, usize), Bad>
+    fn value_at(&self, head: &[u8], start: usize) -> Result<(DateTime, usize), Bad>
         requires start { start ≤ length (seen head.now) }
         ensures value { result_map (with_size date_and_time) result
             ≡ value_at self.now head.now start }
+        ensures ordered { IfOk result (λ found. start ≤ found.1) }
         ensures within { IfOk result (λ found. found.1 ≤ length head.now) }
     {
         match self.form.front(&seen(head)[start..], self.behavior) {
@@ -278,6 +415,35 @@ impl Form {
     }
 }
 
+impl Form {
+    /// The value that a text is.
+    fn whole(
+        self,
+        text: &[u8],
+        behavior: MicrosecondsPrecisionOverflowBehavior,
+    ) -> Result<DateTime, Refused>
+        ensures whole { result_map date_and_time result ≡ whole_of self behavior text.now }
+        ensures within { IfErr result (λ refused. refused.place ≤ length text.now) }
+    {
+        match self {
+            Form::DateTime => relaxed_whole(text, behavior),
+            Form::Strict => strict_whole(text, behavior),
+            Form::Date => midnight_whole(text),
+        }
+    }
+}
+
+/// How date-times are read whose own text is not one of RFC 3339 alone.
+fn relaxed(behavior: MicrosecondsPrecisionOverflowBehavior) -> TimeConfig
+    ensures behavior { (time_choices result).behavior ≡ behavior }
+{
+    TimeConfig {
+        microseconds_precision_overflow_behavior: behavior,
+        unix_timestamp_offset: None,
+        iso_order: IsoOrder::Lax,
+    }
+}
+
 /// The date-time at the front of a text, and how many bytes it takes.
 #[tactic(auto, using(crate::proofs::ReadingLemmas::placed_answer), unfolding(crate::specs::Reading::relaxed_front))]
 fn relaxed_front(
@@ -288,12 +454,19 @@ fn relaxed_front(
     ensures size { IfOk result (λ front. front.1 ≤ length text.now) }
     ensures within { IfErr result (λ refused. refused.place ≤ length text.now) }
 {
-    let config = TimeConfig {
-        microseconds_precision_overflow_behavior: behavior,
-        unix_timestamp_offset: None,
-        iso_order: IsoOrder::Lax,
-    };
-    DateTime::parse_or_place_front(text, &config)
+    DateTime::parse_or_place_front(text, &relaxed(behavior))
+}
+
+/// The date-time that a text is.
+#[tactic(auto, using(crate::proofs::ReadingLemmas::placed_answer), unfolding(crate::specs::Reading::relaxed_whole))]
+fn relaxed_whole(
+    text: &[u8],
+    behavior: MicrosecondsPrecisionOverflowBehavior,
+) -> Result<DateTime, Refused>
+    ensures whole { result_map date_and_time result ≡ relaxed_whole behavior text.now }
+    ensures within { IfErr result (λ refused. refused.place ≤ length text.now) }
+{
+    DateTime::parse_or_place_rfc3339(text, &relaxed(behavior))
 }
 
 /// The date-time of RFC 3339 that a text is.
@@ -337,6 +510,18 @@ fn midnight_front(text: &[u8]) -> Result<(DateTime, usize), Refused>
 {
     match Date::parse_or_place_front(text) {
         Ok((date, size)) => Ok((midnight_of(date), size)),
+        Err(refused) => Err(refused),
+    }
+}
+
+/// The midnight of the date that a text is.
+#[tactic(auto, using(crate::proofs::ReadingLemmas::placed_answer), unfolding(crate::specs::Reading::midnight_whole))]
+fn midnight_whole(text: &[u8]) -> Result<DateTime, Refused>
+    ensures whole { result_map date_and_time result ≡ midnight_whole text.now }
+    ensures within { IfErr result (λ refused. refused.place ≤ length text.now) }
+{
+    match Date::parse_or_place_rfc3339(text) {
+        Ok(date) => Ok(midnight_of(date)),
         Err(refused) => Err(refused),
     }
 }
