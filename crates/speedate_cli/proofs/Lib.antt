@@ -4,3 +4,4 @@ mod SeenLemmas
 mod EntryLemmas
 mod RunLemmas
 mod LineLemmas
+mod SummaryLemmas
