@@ -5,3 +5,4 @@ mod SeenLemmas
 mod EntryLemmas
 mod RunLemmas
 mod LineLemmas
+mod SummaryLemmas

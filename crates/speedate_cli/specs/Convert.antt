@@ -43,9 +43,9 @@ written_text Form.DateTime value = date_time_text value
 written_text Form.Strict value = date_time_text value
 
 -- the text of what can be written
-abbrev pub text_of : Form → Result DateAndTime Bad → List ℕ
+abbrev pub text_of : {E : Type 0} → Form → Result DateAndTime E → List ℕ
 text_of form (Ok value) = written_text form value
-text_of form (Err bad) = []
+text_of form (Err fault) = []
 
 -- a line whose value cannot be written is bad
 abbrev pub line_by_value : Found → Result DateAndTime Bad → Line

@@ -5,6 +5,7 @@ pub mod Print
 pub mod Check
 pub mod Between
 pub mod Order
+pub mod Summary
 pub mod Convert
 pub mod Entries
 pub mod Runs

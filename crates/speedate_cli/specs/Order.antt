@@ -21,6 +21,7 @@ duration_between from to =
 abbrev pub latest_of : Scan → Found → Latest
 latest_of scan found = record {
   instant = found.instant;
+  offset = found.offset;
   name = scan.name;
   number = one_more scan.number;
 }

@@ -82,7 +82,7 @@ impl Target {
 
 /// Appends a value: a date for dates, otherwise a date-time.
 #[tactic(auto, unfolding(crate::specs::Convert::written_text))]
-fn push_value(form: Form, value: &DateTime, pending: &mut Pending)
+pub fn push_value(form: Form, value: &DateTime, pending: &mut Pending)
     requires room { array_vec_len pending.old + 32 ≤ PENDING_MAX }
     ensures pushed { pending.new.items
         ≡ pending.old.items ++ written_text form (date_and_time value.now) }

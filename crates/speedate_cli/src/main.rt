@@ -1,4 +1,4 @@
-//! Selects, orders, converts and checks lines by their date-times.
+//! Selects, orders, converts, checks and sums up lines by their date-times.
 #![tactic(auto)]
 
 mod between;
@@ -11,6 +11,9 @@ mod print;
 mod reading;
 mod scan;
 mod session;
+mod summary;
+#[cfg(test)]
+mod tests;
 
 use between::Between;
 use check::Check;
@@ -22,6 +25,7 @@ use reading::{Bad, Why};
 use scan::{Offsets, REPORTS_MAX, Report, Scan, Stop};
 use speedate::MicrosecondsPrecisionOverflowBehavior::{Error, Truncate};
 use std::process::ExitCode;
+use summary::Summary;
 
 /// The status of a command line that is refused.
 const USAGE: u8 = 2;
@@ -53,46 +57,67 @@ fn main(rt: HostRuntime) -> anyhow::Result<ExitCode> {
 /// Runs a command by its name and what it was given, and returns the exit status.
 fn run(rt: &HostRuntime, name: &str, given: &ArgMatches<'_>) -> Result<u8, Refusal> {
     let files = given.get_strs("FILE").unwrap_or(&[]);
-    match name {
-        "between" => {
-            let options = options::common(given, Truncate)?;
-            let (bounds, offsets) = options::bounds(given, options.reader.offset)?;
-            let mut machine = Between {
-                scan: first_scan(&options, offsets),
-                bounds,
-                prefix: options.prefix,
-                is_kept: false,
-                has_value: false,
-                before: 0,
-            };
-            Ok(session::run_files(rt, &mut machine, files))
-        }
-        "check" => {
-            let options = options::common(given, Error)?;
-            let mut machine = Check {
-                scan: first_scan(&options, Offsets::Any),
-            };
-            Ok(session::run_files(rt, &mut machine, files))
-        }
-        "convert" => {
-            let options = options::common(given, Error)?;
-            let mut machine = Convert {
-                scan: first_scan(&options, Offsets::Any),
-                prefix: options.prefix,
-                target: options::target(given)?,
-            };
-            Ok(session::run_files(rt, &mut machine, files))
-        }
-        _ => {
-            let options = options::common(given, Truncate)?;
-            let mut machine = Order {
-                scan: first_scan(&options, Offsets::AsFirst),
-                latest: None,
-                late: 0,
-            };
-            Ok(session::run_files(rt, &mut machine, files))
-        }
-    }
+    Ok(match name {
+        "between" => session::run_files(rt, &mut first_between(given)?, files),
+        "check" => session::run_files(rt, &mut first_check(given)?, files),
+        "convert" => session::run_files(rt, &mut first_convert(given)?, files),
+        "order" => session::run_files(rt, &mut first_order(given)?, files),
+        _ => session::run_files(rt, &mut first_summary(given)?, files),
+    })
+}
+
+/// The command `between` before the first line.
+fn first_between<'a>(given: &ArgMatches<'a>) -> Result<Between<'a>, Refusal> {
+    let options = options::common(given, Truncate)?;
+    let (bounds, offsets) = options::bounds(given, options.reader.offset)?;
+    Ok(Between {
+        scan: first_scan(&options, offsets),
+        bounds,
+        prefix: options.prefix,
+        is_kept: false,
+        has_value: false,
+        before: 0,
+    })
+}
+
+/// The command `check` before the first line.
+fn first_check<'a>(given: &ArgMatches<'a>) -> Result<Check<'a>, Refusal> {
+    let options = options::common(given, Error)?;
+    Ok(Check {
+        scan: first_scan(&options, Offsets::Any),
+    })
+}
+
+/// The command `convert` before the first line.
+fn first_convert<'a>(given: &ArgMatches<'a>) -> Result<Convert<'a>, Refusal> {
+    let options = options::common(given, Error)?;
+    Ok(Convert {
+        scan: first_scan(&options, Offsets::Any),
+        prefix: options.prefix,
+        target: options::target(given)?,
+    })
+}
+
+/// The command `order` before the first line.
+fn first_order<'a>(given: &ArgMatches<'a>) -> Result<Order<'a>, Refusal> {
+    let options = options::common(given, Truncate)?;
+    Ok(Order {
+        scan: first_scan(&options, Offsets::AsFirst),
+        latest: None,
+        late: 0,
+    })
+}
+
+/// The command `summary` before the first line.
+fn first_summary<'a>(given: &ArgMatches<'a>) -> Result<Summary<'a>, Refusal> {
+    Ok(Summary {
+        order: first_order(given)?,
+        lines: 0,
+        values: 0,
+        undated: 0,
+        first: None,
+        longest: None,
+    })
 }
 
 /// What is known before the first line.

@@ -57,16 +57,20 @@ pub fn program<'a>(alloc: Global) -> Result<Command<'a>, AllocError> {
     let order = Command::new(alloc, "order").about(
         "Prints each value that is earlier than the one before, and by how much",
     );
+    let summary = Command::new(alloc, "summary").about(
+        "Prints how many lines and values there are, the first, the last and the longest gap",
+    );
     Command::new(alloc, "speedate")
         .version("1.0.0")
         .bin_name("speedate")?
-        .about("Selects, orders, converts and checks lines by their date-times")
+        .about("Selects, orders, converts, checks and sums up lines by their date-times")
         .subcommand_required(true)
         .arg_required_else_help(true)
         .subcommand(with_common(alloc, between, Prints::Lines)?)?
         .subcommand(with_common(alloc, check, Prints::Reports)?)?
         .subcommand(with_common(alloc, convert, Prints::Lines)?)?
-        .subcommand(with_common(alloc, order, Prints::Reports)?)
+        .subcommand(with_common(alloc, order, Prints::Reports)?)?
+        .subcommand(with_common(alloc, summary, Prints::Reports)?)
 }
 
 /// A command with what every command takes.

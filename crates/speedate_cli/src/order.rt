@@ -3,7 +3,7 @@
 ghost use Rattle.std.specs.Prelude.{◌≡◌, ◌+◌, ◌++◌, ◌≤◌, Err, OnOk, false, true};
 ghost use Rattle.arrayvec.specs.ArrayVec.{array_vec_len};
 ghost use Rattle.speedate_cli.specs.Order.{by_how_much, duration_between, is_late, late_after};
-ghost use Rattle.speedate_cli.specs.Order.{late_text, latest_of, order_text, value_after};
+ghost use Rattle.speedate_cli.specs.Order.{late_text, latest_of, order_after, order_text, value_after};
 ghost use Rattle.speedate_cli.specs.Order.{order_lines, order_machine};
 ghost use Rattle.speedate_cli.specs.Runs.{EndsWith};
 ghost use Rattle.speedate_stream.specs.Run.{EndsBy, PrintsBeginning, PrintsProgress};
@@ -21,6 +21,8 @@ use std::io::{Read, Write};
 pub struct Latest<'a> {
     /// The value, in microseconds as `Found::instant` counts them.
     pub instant: i64,
+    /// Its offset, in seconds, if it has one.
+    pub offset: Option<i32>,
     /// The name of its file.
     pub name: &'a [u8],
     /// The number of its line.
@@ -45,6 +47,7 @@ impl<'a> Scan<'a> {
     {
         Latest {
             instant: found.instant,
+            offset: found.offset,
             name: self.name,
             number: self.next_number(),
         }
@@ -81,6 +84,15 @@ impl<'a> Order<'a> {
         } else {
             self.late
         }
+    }
+
+    /// Compares the value of a line with the one before, and counts the line.
+    pub fn pass(&mut self, line: Line)
+        ensures passed { self.new ≡ order_after self.old line }
+    {
+        self.late = self.late_after(&line);
+        self.latest = self.value_after(&line);
+        self.scan.pass(line);
     }
 
     /// Appends what is printed for a line: `app.log:7: PT10S before app.log:6`, and a line feed, if it
@@ -159,9 +171,7 @@ impl LineMachine for Order<'_> {
     fn step(&mut self, head: &[u8], pending: &mut Pending) -> Option<usize> {
         let line = self.scan.line(head);
         self.push_line(&line, pending);
-        self.late = self.late_after(&line);
-        self.latest = self.value_after(&line);
-        self.scan.pass(line);
+        self.pass(line);
         None
     }
 }

@@ -9,6 +9,7 @@ use crate::convert::{Convert, print_converted};
 use crate::order::{Order, print_late};
 use crate::print::{push_line_place, push_report};
 use crate::scan::{Offsets, Report, Scan, Stop};
+use crate::summary::{SUMMARY_MAX, Summary, add_lines};
 use speedate_stream::run::RunError;
 use speedate_stream::{PENDING_MAX, Pending, Watched, push_bytes};
 use std::fs;
@@ -53,7 +54,7 @@ pub trait Session<'a> {
 
     /// Appends what is printed after the last file.
     fn push_end(&self, pending: &mut Pending)
-        requires room { array_vec_len pending.old + 4600 ≤ PENDING_MAX };
+        requires room { array_vec_len pending.old + SUMMARY_MAX ≤ PENDING_MAX };
 }
 
 impl<'a> Session<'a> for Between<'a> {
@@ -184,6 +185,40 @@ impl<'a> Session<'a> for Order<'a> {
     fn push_end(&self, _pending: &mut Pending) {}
 }
 
+impl<'a> Session<'a> for Summary<'a> {
+    fn print<R: Read, W: Write>(
+        &mut self,
+        input: &mut Watched<R>,
+        output: &mut Watched<W>,
+    ) -> Result<(), RunError> {
+        add_lines(self, input, output)
+    }
+
+    fn begin(&mut self, name: &'a [u8]) {
+        self.order.scan.begin(name);
+    }
+
+    fn scan(&self) -> Scan<'a> {
+        self.order.scan
+    }
+
+    fn reports_bad(&self) -> bool {
+        true
+    }
+
+    fn left_out(&self) -> u64 {
+        0
+    }
+
+    fn out_of_order(&self) -> u64 {
+        self.order.late
+    }
+
+    fn push_end(&self, pending: &mut Pending) {
+        self.push_onto(pending);
+    }
+}
+
 /// Standard output, which remembers whether its reader has gone.
 #[derive(Drop)]
 struct Output<W> {
@@ -232,7 +267,7 @@ pub fn run_files<'a, M: Session<'a>>(rt: &HostRuntime, machine: &mut M, files: &
 }
 
 /// Writes what is printed after the last file.
-fn write_end<'a, M: Session<'a>, W: Write>(machine: &M, output: &mut W) -> io::Result<()> {
+pub fn write_end<'a, M: Session<'a>, W: Write>(machine: &M, output: &mut W) -> io::Result<()> {
     let mut end = Pending::new();
     machine.push_end(&mut end);
     output.write_all(end.as_slice())?;

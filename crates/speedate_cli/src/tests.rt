@@ -1,0 +1,275 @@
+//! The commands over readers and writers in memory.
+
+mod ends;
+mod rows;
+
+use crate::session::{Session, write_end};
+use crate::{first_between, first_check, first_convert, first_order, first_summary, options};
+use clap::ArgMatches;
+use ends::{Sink, Source};
+use rows::{CLOCKS, COMMANDS, LOG, OPTIONS};
+use speedate_stream::Watched;
+use speedate_stream::run::RunError;
+use std::alloc::AllocError;
+use std::process::Abort;
+
+/// Command lines, and how many values are then bad, lines left out before the first entry, and values out
+/// of order.
+const COUNTS: [(&str, &str, (u64, u64, u64)); 7] = [
+    ("between .. ..", LOG, (1, 0, 0)),
+    (
+        "between --bad stop 2026-11-22T06:09:30Z ..",
+        "x\n2026-11-22T06:09:00Z\n2026-11-22T06:10:00Z\n2026-13-22\n2026-11-22T06:11:00Z\n",
+        (1, 1, 0),
+    ),
+    ("between --undated bad 2027-01-01T00:00Z ..", LOG, (2, 0, 0)),
+    ("check", LOG, (1, 0, 0)),
+    ("convert --to utc", CLOCKS, (2, 0, 0)),
+    ("order", LOG, (1, 0, 1)),
+    ("summary", LOG, (1, 0, 1)),
+];
+
+/// One command line for each command.
+const EACH: [&str; 5] = [
+    "between -n .. ..",
+    "check",
+    "convert -n",
+    "order",
+    "summary",
+];
+
+/// An input that is split everywhere: a bad value, and a line that is undated.
+const SMALL: &[u8] = b"2026-0\n2x";
+
+/// What a run leaves.
+#[derive(Drop)]
+struct Ended {
+    result: Result<(), RunError>,
+    /// How many calls of the reader there were.
+    reads: u64,
+    taken: Vec<u8>,
+    /// How many values were bad, lines left out, and values out of order.
+    counts: (u64, u64, u64),
+}
+
+/// A run of a command over a reader and a writer.
+fn run_command<'a, M: Session<'a>>(machine: &mut M, source: Source<'_>, sink: Sink) -> Ended {
+    machine.begin(b"app.log");
+    let mut input = Watched::new(source);
+    let mut output = Watched::new(sink);
+    let mut result = machine.print(&mut input, &mut output);
+    let mut sink = output.into_inner();
+    if result != Err(RunError::Write) && write_end(machine, &mut sink).is_err() {
+        result = Err(RunError::Write);
+    }
+    Ended {
+        result,
+        reads: input.into_inner().calls,
+        taken: sink.taken,
+        counts: (
+            machine.scan().bad,
+            machine.left_out(),
+            machine.out_of_order(),
+        ),
+    }
+}
+
+/// A run of the command of this name.
+fn run_given<R: Abort>(
+    rt: &R,
+    name: &str,
+    given: &ArgMatches<'_>,
+    source: Source<'_>,
+    sink: Sink,
+) -> Ended {
+    match name {
+        "between" => run_command(
+            &mut first_between(given).ok().expect(rt, name),
+            source,
+            sink,
+        ),
+        "check" => run_command(&mut first_check(given).ok().expect(rt, name), source, sink),
+        "convert" => run_command(
+            &mut first_convert(given).ok().expect(rt, name),
+            source,
+            sink,
+        ),
+        "order" => run_command(&mut first_order(given).ok().expect(rt, name), source, sink),
+        _ => run_command(
+            &mut first_summary(given).ok().expect(rt, name),
+            source,
+            sink,
+        ),
+    }
+}
+
+/// The words of a command line, which are apart by spaces.
+fn words_of<R: AllocGlobal>(rt: &R, words: &'static str) -> Result<Vec<&'static str>, AllocError> {
+    let mut list = Vec::new(rt.alloc());
+    list.push("speedate")?;
+    for word in words.split(' ') {
+        list.push(word)?;
+    }
+    Ok(list)
+}
+
+/// A run of the command of a command line.
+fn run_words<R: AllocGlobal + Abort>(
+    rt: &R,
+    words: &'static str,
+    source: Source<'_>,
+    sink: Sink,
+) -> Result<Ended, AllocError> {
+    let list = words_of(rt, words)?;
+    let program = options::program(rt.alloc())?;
+    let matches = program.try_get_matches_from(list.as_slice());
+    let matches = matches.ok().expect(rt, words);
+    let (name, given) = matches.subcommand().expect(rt, words);
+    Ok(run_given(rt, name, given, source, sink))
+}
+
+/// What a command line prints of an input that is read at once.
+fn whole<R: AllocGlobal + Abort>(
+    rt: &R,
+    words: &'static str,
+    input: &[u8],
+) -> Result<Ended, AllocError> {
+    let sink = Sink::new(rt.alloc(), usize::MAX);
+    run_words(rt, words, Source::new(input, usize::MAX), sink)
+}
+
+/// The rows are to print what they want, by reads and writes of some bytes each.
+fn expect_rows<R: AllocGlobal + Abort>(
+    rt: &R,
+    rows: &[(&'static str, &'static str, &'static str)],
+) -> Result<(), AllocError> {
+    for &(words, input, want) in rows {
+        for step in [1, 7, usize::MAX] {
+            let source = Source::new(input.as_bytes(), step);
+            let ended = run_words(rt, words, source, Sink::new(rt.alloc(), step))?;
+            assert_eq!(rt; ended.result, Ok(()), "{words}");
+            assert_eq!(rt; ended.taken.as_slice(), want.as_bytes(), "{words}");
+        }
+    }
+    Ok(())
+}
+
+#[test]
+fn each_command_prints(rt: HostRuntime) -> Result<(), AllocError> {
+    expect_rows(&rt, &COMMANDS)
+}
+
+#[test]
+fn each_option_matters(rt: HostRuntime) -> Result<(), AllocError> {
+    expect_rows(&rt, &OPTIONS)
+}
+
+#[test]
+fn values_and_lines_are_counted(rt: HostRuntime) -> Result<(), AllocError> {
+    for (words, input, want) in COUNTS {
+        assert_eq!(rt;
+            whole(&rt, words, input.as_bytes())?.counts,
+            want,
+            "{words}"
+        );
+    }
+    Ok(())
+}
+
+/// A run of a command over a log that is read and written by some bytes a call.
+fn run_log<R: AllocGlobal + Abort>(
+    rt: &R,
+    name: &str,
+    given: &ArgMatches<'_>,
+    log: &[u8],
+    step: usize,
+) -> Ended {
+    let sink = Sink::new(rt.alloc(), step);
+    run_given(rt, name, given, Source::new(log, step), sink)
+}
+
+/// Each split of a small input into reads is to print the same.
+fn expect_splits<R: AllocGlobal + Abort>(rt: &R, name: &str, given: &ArgMatches<'_>) {
+    let want = run_log(rt, name, given, SMALL, usize::MAX);
+    for cuts in 0..256 {
+        let mut source = Source::new(SMALL, usize::MAX);
+        source.cuts = cuts;
+        let ended = run_given(rt, name, given, source, Sink::new(rt.alloc(), usize::MAX));
+        assert_eq!(rt;
+            ended.taken.as_slice(),
+            want.taken.as_slice(),
+            "{name} {cuts}"
+        );
+    }
+}
+
+/// The complete lines of the first bytes of [`LOG`].
+fn complete<R: Abort>(rt: &R, read: usize) -> &'static [u8] {
+    let mut end = 0;
+    for (place, &byte) in LOG.as_bytes().iter().enumerate() {
+        if place < read && byte == b'\n' {
+            end = place.saturating_add(1);
+        }
+    }
+    LOG.as_bytes().get(..end).expect(rt, "a line")
+}
+
+/// A read that fails is to end the run, with what is printed for the lines before it.
+fn expect_reads<R: AllocGlobal + Abort>(rt: &R, name: &str, given: &ArgMatches<'_>, step: usize) {
+    let reads = run_log(rt, name, given, LOG.as_bytes(), step).reads;
+    for call in 0..reads {
+        let mut source = Source::new(LOG.as_bytes(), step);
+        source.fails = Some(call);
+        let ended = run_given(rt, name, given, source, Sink::new(rt.alloc(), 3));
+        let lines = complete(rt, step.saturating_mul(call as usize));
+        let want = run_log(rt, name, given, lines, usize::MAX);
+        assert_eq!(rt; ended.result, Err(RunError::Read), "{name} {call}");
+        assert_eq!(rt; ended.reads, call.saturating_add(1), "{name} {call}");
+        assert_eq!(rt;
+            ended.taken.as_slice(),
+            want.taken.as_slice(),
+            "{name} {call}"
+        );
+    }
+}
+
+/// A writer that is full is to end the run, and to have a beginning of what is printed.
+fn expect_writes<R: AllocGlobal + Abort>(rt: &R, name: &str, given: &ArgMatches<'_>, step: usize) {
+    let want = run_log(rt, name, given, LOG.as_bytes(), usize::MAX).taken;
+    for room in 0..want.len() {
+        let mut sink = Sink::new(rt.alloc(), step);
+        sink.room = room;
+        let ended = run_given(rt, name, given, Source::new(LOG.as_bytes(), 40), sink);
+        let beginning = want.get(..room).expect(rt, name);
+        assert_eq!(rt; ended.result, Err(RunError::Write), "{name} {room}");
+        assert_eq!(rt; ended.taken.as_slice(), beginning, "{name} {room}");
+    }
+}
+
+/// A flush that fails is to end the run, and all is to be written.
+fn expect_flush<R: AllocGlobal + Abort>(rt: &R, name: &str, given: &ArgMatches<'_>) {
+    let want = run_log(rt, name, given, LOG.as_bytes(), usize::MAX).taken;
+    let mut sink = Sink::new(rt.alloc(), usize::MAX);
+    sink.flush_fails = true;
+    let ended = run_given(rt, name, given, Source::new(LOG.as_bytes(), 40), sink);
+    assert_eq!(rt; ended.result, Err(RunError::Write), "{name}");
+    assert_eq!(rt; ended.taken.as_slice(), want.as_slice(), "{name}");
+}
+
+#[test]
+fn each_end_fails_in_turn(rt: HostRuntime) -> Result<(), AllocError> {
+    for words in EACH {
+        let list = words_of(&rt, words)?;
+        let program = options::program(rt.alloc())?;
+        let matches = program.try_get_matches_from(list.as_slice());
+        let matches = matches.ok().expect(&rt, words);
+        let (name, given) = matches.subcommand().expect(&rt, words);
+        expect_splits(&rt, name, given);
+        for step in [1, 40] {
+            expect_reads(&rt, name, given, step);
+            expect_writes(&rt, name, given, step);
+        }
+        expect_flush(&rt, name, given);
+    }
+    Ok(())
+}

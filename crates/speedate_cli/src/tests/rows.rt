@@ -1,0 +1,405 @@
+//! Command lines, and what each prints of an input whose name is `app.log`.
+
+/// A log.
+pub const LOG: &str = "\
+2026-11-22T06:10:00Z a\n\
+trace\n\
+[2026-11-22T07:09:00+01:00] b\n\
+2026-02-30T00:00Z c\n\
+2026-11-22T06:30:00.5Z d";
+
+/// Lines whose values have no offset.
+pub const CLOCKS: &str = "\
+2026-11-22 06:10:00,1234567 a\n\
+2026-11-22T06:10:00.123456 b\n\
+";
+
+/// Command lines, and what each prints of an input whose name is `app.log`.
+pub const COMMANDS: [(&str, &str, &str); 13] = [
+    (
+        "between .. ..",
+        LOG,
+        "\
+2026-11-22T06:10:00Z a\n\
+trace\n\
+[2026-11-22T07:09:00+01:00] b\n\
+2026-02-30T00:00Z c\n\
+2026-11-22T06:30:00.5Z d\n\
+",
+    ),
+    (
+        "between 2026-11-22T06:10Z 2026-11-22T06:30:00.5Z",
+        LOG,
+        "\
+2026-11-22T06:10:00Z a\n\
+trace\n\
+",
+    ),
+    (
+        "between 2026-11-22T06:10:00.000001Z ..",
+        LOG,
+        "2026-11-22T06:30:00.5Z d\n",
+    ),
+    (
+        "between .. 2026-11-22T07:10+01:00",
+        LOG,
+        "\
+[2026-11-22T07:09:00+01:00] b\n\
+2026-02-30T00:00Z c\n\
+",
+    ),
+    (
+        "check",
+        LOG,
+        "app.log:4:9: expected a day that the month has\n",
+    ),
+    (
+        "convert",
+        LOG,
+        "\
+2026-11-22T06:10:00Z a\n\
+trace\n\
+[2026-11-22T07:09:00+01:00] b\n\
+2026-02-30T00:00Z c\n\
+2026-11-22T06:30:00.500000Z d\n\
+",
+    ),
+    ("order", LOG, "app.log:3: PT1M before app.log:1\n"),
+    (
+        "summary",
+        LOG,
+        "\
+lines 5\n\
+values 3\n\
+undated 1\n\
+bad 1\n\
+out of order 1\n\
+first 2026-11-22T06:10:00Z\n\
+last 2026-11-22T06:30:00.500000Z\n\
+longest gap PT21M0.5S before app.log:5\n\
+",
+    ),
+    (
+        "summary",
+        "",
+        "\
+lines 0\n\
+values 0\n\
+undated 0\n\
+bad 0\n\
+out of order 0\n\
+",
+    ),
+    (
+        "summary",
+        "x\n",
+        "\
+lines 1\n\
+values 0\n\
+undated 1\n\
+bad 0\n\
+out of order 0\n\
+",
+    ),
+    (
+        "summary",
+        "0000-01-01T00:30:00+01:00\n9999-12-31T23:30:00-01:00",
+        "\
+lines 2\n\
+values 2\n\
+undated 0\n\
+bad 0\n\
+out of order 0\n\
+first 0000-01-01T00:30:00+01:00\n\
+last 9999-12-31T23:30:00-01:00\n\
+longest gap P10006Y235DT1H before app.log:2\n\
+",
+    ),
+    (
+        "summary",
+        "\
+2026-11-22T06:10:00 a\n\
+2026-11-22T06:10:01 b\n\
+2026-11-22T06:10:02 c\n\
+2026-11-22T06:10:04\n\
+",
+        "\
+lines 4\n\
+values 4\n\
+undated 0\n\
+bad 0\n\
+out of order 0\n\
+first 2026-11-22T06:10:00\n\
+last 2026-11-22T06:10:04\n\
+longest gap PT2S before app.log:4\n\
+",
+    ),
+    (
+        "summary",
+        "\
+2026-11-22T06:10:00Z a\n\
+2026-11-22T06:10:00Z b\n\
+",
+        "\
+lines 2\n\
+values 2\n\
+undated 0\n\
+bad 0\n\
+out of order 0\n\
+first 2026-11-22T06:10:00Z\n\
+last 2026-11-22T06:10:00Z\n\
+",
+    ),
+];
+
+/// The same with the options.
+pub const OPTIONS: [(&str, &str, &str); 29] = [
+    (
+        "between -n -H .. ..",
+        LOG,
+        "\
+app.log:1:2026-11-22T06:10:00Z a\n\
+app.log:2:trace\n\
+app.log:3:[2026-11-22T07:09:00+01:00] b\n\
+app.log:4:2026-02-30T00:00Z c\n\
+app.log:5:2026-11-22T06:30:00.5Z d\n\
+",
+    ),
+    (
+        "between --number --name --undated drop --bad drop .. ..",
+        LOG,
+        "\
+app.log:1:2026-11-22T06:10:00Z a\n\
+app.log:3:[2026-11-22T07:09:00+01:00] b\n\
+app.log:5:2026-11-22T06:30:00.5Z d\n\
+",
+    ),
+    (
+        "convert -n",
+        LOG,
+        "\
+1:2026-11-22T06:10:00Z a\n\
+2:trace\n\
+3:[2026-11-22T07:09:00+01:00] b\n\
+4:2026-02-30T00:00Z c\n\
+5:2026-11-22T06:30:00.500000Z d\n\
+",
+    ),
+    (
+        "convert --to utc",
+        LOG,
+        "\
+2026-11-22T06:10:00Z a\n\
+trace\n\
+[2026-11-22T06:09:00Z] b\n\
+2026-02-30T00:00Z c\n\
+2026-11-22T06:30:00.500000Z d\n\
+",
+    ),
+    (
+        "convert --to +05:30",
+        LOG,
+        "\
+2026-11-22T11:40:00+05:30 a\n\
+trace\n\
+[2026-11-22T11:39:00+05:30] b\n\
+2026-02-30T00:00Z c\n\
+2026-11-22T12:00:00.500000+05:30 d\n\
+",
+    ),
+    (
+        "convert --to text --bad drop",
+        LOG,
+        "\
+2026-11-22T06:10:00Z a\n\
+trace\n\
+[2026-11-22T07:09:00+01:00] b\n\
+2026-11-22T06:30:00.500000Z d\n\
+",
+    ),
+    (
+        "convert --undated drop -H",
+        LOG,
+        "\
+app.log:2026-11-22T06:10:00Z a\n\
+app.log:[2026-11-22T07:09:00+01:00] b\n\
+app.log:2026-02-30T00:00Z c\n\
+app.log:2026-11-22T06:30:00.500000Z d\n\
+",
+    ),
+    (
+        "check --after ts=",
+        "\
+ts=2026-11-22T06:10Zts=\n\
+ts=2026-13-22T06:10Z\n\
+ts\n\
+",
+        "app.log:2:9: expected month, 01 to 12\n",
+    ),
+    (
+        "check --undated bad",
+        LOG,
+        "\
+app.log:2:1: expected a date-time: YYYY-MM-DDTHH:MM or YYYY-MM-DDTHH:MM:SS\n\
+app.log:4:9: expected a day that the month has\n\
+",
+    ),
+    (
+        "check --bad stop --undated bad",
+        LOG,
+        "app.log:2:1: expected a date-time: YYYY-MM-DDTHH:MM or YYYY-MM-DDTHH:MM:SS\n",
+    ),
+    (
+        "check --strict",
+        "\
+2026-11-22T06:10Z\n\
+2026-11-22T06:10:00Z\n\
+",
+        "app.log:1:17: expected a colon, as in HH:MM:SS\n",
+    ),
+    (
+        "check --kind date",
+        "\
+2026-11-22x\n\
+2026-11-31x\n\
+",
+        "app.log:2:9: expected a day that the month has\n",
+    ),
+    ("convert --kind date", "[2026-11-22x\n", "[2026-11-22x\n"),
+    (
+        "check",
+        CLOCKS,
+        "app.log:1:27: expected at most six digits of a second's fraction\n",
+    ),
+    ("check --digits truncate", CLOCKS, ""),
+    ("order", CLOCKS, ""),
+    ("order --digits refuse", CLOCKS, ""),
+    (
+        "between --offset +01:00 2026-11-22 2026-11-22T05:11Z",
+        CLOCKS,
+        "\
+2026-11-22 06:10:00,1234567 a\n\
+2026-11-22T06:10:00.123456 b\n\
+",
+    ),
+    (
+        "convert --offset -01:00 --to utc --digits truncate",
+        CLOCKS,
+        "\
+2026-11-22T07:10:00.123456Z a\n\
+2026-11-22T07:10:00.123456Z b\n\
+",
+    ),
+    (
+        "convert --header",
+        LOG,
+        "\
+2026-11-22T06:10:00Z a\n\
+trace\n\
+[2026-11-22T07:09:00+01:00] b\n\
+2026-02-30T00:00Z c\n\
+2026-11-22T06:30:00.500000Z d\n\
+",
+    ),
+    (
+        "check --header",
+        "\
+2026-02-30\n\
+2026-02-30\n\
+",
+        "app.log:2:9: expected a day that the month has\n",
+    ),
+    (
+        "summary --header",
+        LOG,
+        "\
+lines 5\n\
+values 2\n\
+undated 1\n\
+bad 1\n\
+out of order 0\n\
+first 2026-11-22T06:09:00Z\n\
+last 2026-11-22T06:30:00.500000Z\n\
+longest gap PT21M0.5S before app.log:5\n\
+",
+    ),
+    (
+        "between --header 2027-01-01T00:00Z ..",
+        LOG,
+        "2026-11-22T06:10:00Z a\n",
+    ),
+    (
+        "summary --bad stop",
+        LOG,
+        "\
+lines 4\n\
+values 2\n\
+undated 1\n\
+bad 1\n\
+out of order 1\n\
+first 2026-11-22T06:10:00Z\n\
+last 2026-11-22T06:09:00Z\n\
+",
+    ),
+    (
+        "summary --undated bad",
+        LOG,
+        "\
+lines 5\n\
+values 3\n\
+undated 0\n\
+bad 2\n\
+out of order 1\n\
+first 2026-11-22T06:10:00Z\n\
+last 2026-11-22T06:30:00.500000Z\n\
+longest gap PT21M0.5S before app.log:5\n\
+",
+    ),
+    (
+        "summary --kind date --offset +01:00",
+        "\
+2026-11-22\n\
+2026-11-24 x\n\
+",
+        "\
+lines 2\n\
+values 2\n\
+undated 0\n\
+bad 0\n\
+out of order 0\n\
+first 2026-11-21T23:00:00Z\n\
+last 2026-11-23T23:00:00Z\n\
+longest gap P2D before app.log:2\n\
+",
+    ),
+    (
+        "summary --after =",
+        "a=2026-11-22T06:10Z\n",
+        "\
+lines 1\n\
+values 1\n\
+undated 0\n\
+bad 0\n\
+out of order 0\n\
+first 2026-11-22T06:10:00Z\n\
+last 2026-11-22T06:10:00Z\n\
+",
+    ),
+    (
+        "order --offset utc",
+        "\
+2026-11-22T06:10:00 a\n\
+2026-11-22T07:09:59+01:00 b\n\
+",
+        "app.log:2: PT1S before app.log:1\n",
+    ),
+    (
+        "between --bad stop .. ..",
+        LOG,
+        "\
+2026-11-22T06:10:00Z a\n\
+trace\n\
+[2026-11-22T07:09:00+01:00] b\n\
+",
+    ),
+];
