@@ -220,9 +220,11 @@ export function toDate(value: SpeedateDateTime): Date;
 /** The date-time of a Date, at the offset 0. `date_too_small` or `date_too_large` outside the years 0 to 9999. */
 export function fromDate(date: Date): SpeedateDateTime;
 
-/** The one text of a value: `PT1H30M` of 90 minutes. A RangeError where an offset is not whole minutes, since it would be parsed
- * as another. */
-export function format(value: SpeedateValue): string;
+/** The one text of a value: `PT1H30M` of 90 minutes. With `digits` a time or a date-time has just as many digits after the second,
+ * rounded down: `12:13:14.500Z` with 3, as `Date` prints it. A RangeError where an offset is not whole minutes, since it would be
+ * parsed as another. */
+export function format(value: SpeedateValue, options?: NoOptions): string;
+export function format(value: SpeedateTime | SpeedateDateTime, options: { digits?: 0 | 3 | 6 }): string;
 /** The order of two values, for `sort`: -1 if the first is the smaller one, 0 if they are equal, otherwise 1. Times and
  * date-times compare by instant if both have an offset, otherwise as clocks show them, unlike in `between`: sort values that
  * all have one, or that all have none. */

@@ -265,7 +265,7 @@ const CHOICES = {
 /** The options of a call without any. Each name is here, since a prototype might have it. */
 const noNumbers = () => ({
   timestamps: undefined, timestampOffset: undefined, overflow: undefined, isoOrder: undefined, strict: undefined, exact: undefined,
-  missingOffset: undefined, unit: undefined, refusals: undefined, maxRefusals: undefined, maxLineBytes: undefined,
+  missingOffset: undefined, unit: undefined, digits: undefined, refusals: undefined, maxRefusals: undefined, maxLineBytes: undefined,
 });
 const NO_OPTIONS = noNumbers();
 
@@ -278,6 +278,11 @@ function choiceOf(value, choices, name) {
 function offsetOption(value) {
   if (Number.isInteger(value) && Math.abs(value) < SECONDS_IN_DAY) return value;
   throw new TypeError("timestampOffset has to be an integer, less than 86400 either way");
+}
+
+function digitsOption(value) {
+  if ([0, 3, 6].includes(value)) return value;
+  throw new TypeError("digits has to be one of 0, 3, 6");
 }
 
 function sizeOption(value, name) {
@@ -298,6 +303,7 @@ function isPlain(it) {
 function optionOf(value, name) {
   if (name === "timestampOffset") return offsetOption(value);
   if (name === "refusals") return arrayOf(value, name);
+  if (name === "digits") return digitsOption(value);
   if (name === "maxLineBytes" || name === "maxRefusals") return sizeOption(value, name);
   return choiceOf(value, CHOICES[name], name);
 }
@@ -381,7 +387,7 @@ const DATE = {
 const TIME = {
   name: "time",
   calls: undefined,
-  inC: { check: "time_check", print: "time_to_text", compare: "time_compare", inTimezone: "time_in_timezone" },
+  inC: { check: "time_check", print: "time_to_text", printDigits: "time_to_text_with_digits", compare: "time_compare", inTimezone: "time_in_timezone" },
   fields: ["hour", "minute", "second", "millisecond", "microsecond", "offsetSeconds"],
   read({ view }) {
     const micro = view.getInt32(PLACE.out + 4, true);
@@ -409,7 +415,7 @@ const DATE_TIME = {
   name: "datetime",
   calls: undefined,
   inC: {
-    check: "datetime_check", print: "datetime_to_text", compare: "datetime_compare",
+    check: "datetime_check", print: "datetime_to_text", printDigits: "datetime_to_text_with_digits", compare: "datetime_compare",
     between: "duration_between", after: "duration_after", before: "duration_before", inTimezone: "datetime_in_timezone",
   },
   fields: [...DATE.fields, ...TIME.fields],
@@ -1076,9 +1082,12 @@ export function fromDate(date) {
 
 // ---- Printing and arithmetic ----
 
-export function format(value) {
-  const it = given(value, "value", ALL_KINDS);
-  acceptOf(it.kind.calls.print(putFirst(it), address.buffer, BUFFER_SIZE, address.taken), it);
+export function format(value, options) {
+  const { digits } = numbersOf(options, ["digits"]);
+  const it = given(value, "value", digits === undefined ? ALL_KINDS : HAS_OFFSET);
+  const { print, printDigits } = it.kind.calls;
+  const room = [address.buffer, BUFFER_SIZE, address.taken];
+  acceptOf(digits === undefined ? print(putFirst(it), ...room) : printDigits(putFirst(it), digits, ...room), it);
   if (it.offsetSeconds % 60) throw new RangeError("offsetSeconds has to be whole minutes in print");
   return printed();
 }

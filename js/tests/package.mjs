@@ -40,7 +40,7 @@ const CALLS = {
   ...Object.fromEntries(readers.map((it) => [it, [["x", noText], [undefined, noOptions]]])),
   dateFromTimestamp: ofTimestamp, timeFromTimestamp: ofTimestamp, dateTimeFromTimestamp: ofTimestamp,
   epochMilliseconds: [ofDateTime], toDate: [ofDateTime], fromDate: [[new Date(0), [undefined, ...noObject, {}, date]]],
-  format: [[time, noValue]], compare: [ofDate, ofDate], between: [ofDate, ofDate], daysBetween: [ofDate, ofDate],
+  format: [[time, noValue], [undefined, [...noOptions, ...["3", 1, 2, 9, -3, NaN, null, true, 3n].map((digits) => ({ digits }))]]], compare: [ofDate, ofDate], between: [ofDate, ofDate], daysBetween: [ofDate, ofDate],
   addDays: [ofDate, [1, noNumber]], dayOfYear: [ofDate], negate: [ofDuration], totalSeconds: [ofDuration],
   durationFromMicroseconds: [[0, noNumber.filter((it) => it !== 5n)]], totalMicroseconds: [ofDuration],
   sum: [[[duration], [undefined, ...noObject, {}, new Set(), ...ofDuration[1].filter((it) => typeof it !== "symbol").map((it) => [duration, it])]]],
@@ -295,6 +295,11 @@ assert.deepEqual(duration, { sign: -1, days: -1, seconds: 0, milliseconds: -1, m
 assert.deepEqual(safeParseDate("x"), { ok: false, fault: "too_short", code: 1, message: "input is too short", expected: "a date: YYYY-MM-DD", place: 1, end: 1 });
 assert.deepEqual(fromDate(toDate(dateTime)), dateTime);
 assert.equal(format(speedate.durationFromMicroseconds(-1500000)), "-PT1.5S");
+assert.deepEqual([0, 3, 6, undefined].map((digits) => format(dateTime, { digits })), ["14", "14.500", "14.500000", "14.500000"].map((it) => `2020-02-29T12:13:${it}Z`));
+assert.equal(format({ ...time, microsecond: 999, offsetSeconds: null }, { digits: 3 }), "12:13:14.500");
+for (const it of [date, duration]) assert.throws(() => format(it, { digits: 3 }), /^TypeError: value has to be a time or datetime/);
+assert.throws(() => format({ ...dateTime, hour: 24 }, { digits: 3 }), refused("out_of_range_hour"));
+assert.equal(format(dateTime, { digits: 3 }), toDate(dateTime).toISOString());
 for (const it of [2n ** 63n, -(2n ** 63n) - 1n, 0.5, 2 ** 63]) assert.throws(() => speedate.durationFromMicroseconds(it), RangeError);
 for (const it of [0n, -1n, 2n ** 63n - 1n, 1n - 2n ** 63n]) assert.equal(speedate.totalMicroseconds(speedate.durationFromMicroseconds(it)), it);
 assert.throws(() => speedate.totalMicroseconds(parseDuration("P106751992D")), refused("number_too_large"));

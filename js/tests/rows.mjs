@@ -44,7 +44,7 @@ const KINDS = {
 /** The calls of values by the end of their name in C, where `of` makes a value of the kind that begins the name. */
 const CALLS = {
   check: (of, it) => void compare(of(it), of(it)),
-  to_text: (of, it) => format(of(it)),
+  to_text: (of, it) => format(of(it)), to_text_with_digits: (of, it, digits) => format(of(it), { digits: Number(digits) }),
   compare: (of, one, other) => compare(of(one), of(other)),
   add_days: (of, it, days) => speedate.addDays(of(it), Number(days)),
   ordinal_day: (of, it) => speedate.dayOfYear(of(it)),
@@ -66,7 +66,7 @@ const CALLS = {
   },
 };
 /** What no call here can be given, by the call of C and its code. */
-const LEFT_OUT = / config_out_of_range|^date_from_timestamp value_out_of_range|^datetime_from_timestamp time_too_large/;
+const LEFT_OUT = / config_out_of_range|_with_digits value_out_of_range|^date_from_timestamp value_out_of_range|^datetime_from_timestamp time_too_large/;
 
 /** How many units of a string end at a byte of its UTF-8 or before. */
 function unitsAt(text, byte) {

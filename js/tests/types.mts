@@ -111,7 +111,7 @@ const uses: Record<keyof typeof speedate, unknown> = {
   epochMilliseconds: same<number, ReturnType<typeof speedate.epochMilliseconds>>(true, speedate.epochMilliseconds(moment)),
   toDate: same<Date, ReturnType<typeof speedate.toDate>>(true, speedate.toDate(moment)),
   fromDate: same<SpeedateDateTime, ReturnType<typeof speedate.fromDate>>(true, speedate.fromDate(new Date(0))),
-  format: same<string, ReturnType<typeof speedate.format>>(true, speedate.format(date as SpeedateValue)),
+  format: [speedate.format(date as SpeedateValue), same<string, ReturnType<typeof speedate.format>>(true, speedate.format(moment, { digits: 3 })), speedate.format(time, { digits: 0 })],
   compare: [
     same<-1 | 0 | 1, ReturnType<typeof speedate.compare>>(true, speedate.compare(date, date)), speedate.compare(time, time),
     speedate.compare(moment, moment), speedate.compare(second, second), [date, date].sort(speedate.compare), [moment, moment].sort(speedate.compare),
@@ -161,6 +161,12 @@ const refused = [
   () => speedate.dateTimeClockColumn("", { missingOffset: "utc" }),
   // @ts-expect-error
   () => speedate.dateTimeOffsetColumn("", { unit: "us" }),
+  // @ts-expect-error
+  () => [time].map(speedate.format),
+  // @ts-expect-error
+  () => speedate.format(date, { digits: 3 }),
+  // @ts-expect-error
+  () => speedate.format(time, { digits: 2 }),
   // @ts-expect-error
   () => speedate.timeColumn("", { timestamps: "s" }),
   // @ts-expect-error

@@ -122,6 +122,7 @@ static inline int take_text(PyObject *object, Py_ssize_t index, Text *text) {
 /* Which fields of timestamps a call reads. */
 enum { READS_NONE, READS_OFFSET, READS_ALL };
 
+int take_integer(const State *state, const char *name, PyObject *value, int64_t low, int64_t high, int64_t *out);
 int take_flag(const char *name, PyObject *value, bool *out);
 int take_choice(const State *state, const char *name, PyObject *value, const char *first, const char *second,
                 bool *out);

@@ -385,12 +385,15 @@ static PyMethodDef methods[] = {
            "Traceback (most recent call last):\n"
            "speedate.Fault: number_too_large in text 0: expected a duration of less than 2^63 microseconds: 'P106751992D'\n\n"
            "NumPy reads a column without a copy: `numpy.frombuffer(column, \"timedelta64[us]\")`.\n"),
-    METHOD(text, "(value)",
-           "The one text of a value. A year is 365 days, a month 30: 400 days are `P1Y35D`, which other readers may refuse.\n\n"
+    METHOD(text, "(value, *, digits=None)",
+           "The one text of a value. With `digits`, which is 0, 3 or 6, a time or a date-time has just as many digits after the\n"
+           "second, rounded down. A year is 365 days, a month 30: 400 days are `P1Y35D`, which other readers may refuse.\n\n"
            "It refuses with a `ValueError` an offset that is not whole minutes, a time in a zone whose offset depends on the\n"
            "date, and a value of a subclass that says more than its base class, such as nanoseconds.\n\n"
            ">>> text(date_time(\"2020-02-29 12:13Z\")), text(time(\"12:13:14,5\")), text(datetime.date(2020, 2, 29))\n"
            "('2020-02-29T12:13:00Z', '12:13:14.500000', '2020-02-29')\n"
+           ">>> text(time(\"12:13:14.5\"), digits=3), text(date_time(\"2020-02-29T12:13Z\"), digits=3)\n"
+           "('12:13:14.500', '2020-02-29T12:13:00.000Z')\n"
            ">>> text(datetime.timedelta(microseconds=-1))\n"
            "'-PT0.000001S'\n"),
     METHOD(text_column, "(numbers, kind)",

@@ -86,7 +86,7 @@ int take_other_text(PyObject *object, Py_ssize_t index, Text *text) {
 /* The functions below leave *out as it is where there is no argument. */
 
 /* Takes an integer. One in its range is taken here, and what else there is by the function of the package. */
-static int take_integer(const State *state, const char *name, PyObject *value, int64_t low, int64_t high, int64_t *out) {
+int take_integer(const State *state, const char *name, PyObject *value, int64_t low, int64_t high, int64_t *out) {
     int overflow = 0;
     if (!value)
         return 0;

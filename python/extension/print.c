@@ -16,9 +16,18 @@ static PyObject *text_of(const State *state, int code, const Printed *printed) {
     return text;
 }
 
+#define ROOM printed.bytes, sizeof printed.bytes, &printed.length
+
 #define PRINTED(call, value) \
     Printed printed; \
-    int code = call(value, printed.bytes, sizeof printed.bytes, &printed.length); \
+    int code = call(value, ROOM); \
+    return text_of(state, code, &printed)
+
+/* The same of a value with a second, with just as many digits of it unless these are SHORTEST. */
+#define SHORTEST -1
+#define PRINTED_WITH_DIGITS(call, value, digits) \
+    Printed printed; \
+    int code = digits == SHORTEST ? call(value, ROOM) : call##_with_digits(value, digits, ROOM); \
     return text_of(state, code, &printed)
 
 static int take_size(PyObject *size, SpeedateTime *time) {
@@ -58,11 +67,17 @@ static SpeedateDate date_of(PyObject *value) {
     return (SpeedateDate){PyDateTime_GET_YEAR(value), PyDateTime_GET_MONTH(value), PyDateTime_GET_DAY(value)};
 }
 
-static PyObject *print_date(const State *state, PyObject *value) {
+static PyObject *no_digits(PyObject *value) {
+    return wrong_type("value", "datetime or time if there are digits", value), NULL;
+}
+
+static PyObject *print_date(const State *state, PyObject *value, int digits) {
+    if (digits != SHORTEST)
+        return no_digits(value);
     PRINTED(speedate_date_to_text, date_of(value));
 }
 
-static PyObject *print_time(const State *state, PyObject *value) {
+static PyObject *print_time(const State *state, PyObject *value, int digits) {
     PyDateTime_Time *it = (PyDateTime_Time *)value;
     SpeedateTime time = {.hour = PyDateTime_TIME_GET_HOUR(it),
                          .minute = PyDateTime_TIME_GET_MINUTE(it),
@@ -70,10 +85,10 @@ static PyObject *print_time(const State *state, PyObject *value) {
                          .microsecond = PyDateTime_TIME_GET_MICROSECOND(it)};
     if (take_offset(state, value, it->hastzinfo ? it->tzinfo : Py_None, &time) < 0)
         return NULL;
-    PRINTED(speedate_time_to_text, time);
+    PRINTED_WITH_DIGITS(speedate_time_to_text, time, digits);
 }
 
-static PyObject *print_date_time(const State *state, PyObject *value) {
+static PyObject *print_date_time(const State *state, PyObject *value, int digits) {
     PyDateTime_DateTime *it = (PyDateTime_DateTime *)value;
     SpeedateDateTime moment = {date_of(value),
                                {.hour = PyDateTime_DATE_GET_HOUR(it),
@@ -82,10 +97,12 @@ static PyObject *print_date_time(const State *state, PyObject *value) {
                                 .microsecond = PyDateTime_DATE_GET_MICROSECOND(it)}};
     if (take_offset(state, value, it->hastzinfo ? it->tzinfo : Py_None, &moment.time) < 0)
         return NULL;
-    PRINTED(speedate_datetime_to_text, moment);
+    PRINTED_WITH_DIGITS(speedate_datetime_to_text, moment, digits);
 }
 
-static PyObject *print_duration(const State *state, PyObject *value) {
+static PyObject *print_duration(const State *state, PyObject *value, int digits) {
+    if (digits != SHORTEST)
+        return no_digits(value);
     SpeedateDuration it = {.negative = PyDateTime_DELTA_GET_DAYS(value) < 0};
     PyObject *size = PyNumber_Absolute(value);
     if (!size)
@@ -97,7 +114,7 @@ static PyObject *print_duration(const State *state, PyObject *value) {
     PRINTED(speedate_duration_to_text, it);
 }
 
-typedef PyObject *Print(const State *state, PyObject *value);
+typedef PyObject *Print(const State *state, PyObject *value, int digits);
 
 /* How values of a type are printed, or NULL: those of a subclass may say more. */
 static Print *print_of(const State *state, const PyTypeObject *type) {
@@ -109,20 +126,32 @@ static Print *print_of(const State *state, const PyTypeObject *type) {
                                      : NULL;
 }
 
+/* Takes how many digits of a second are printed, or SHORTEST for None. */
+static int take_digits(const State *state, PyObject *value, int *digits) {
+    int64_t number = SHORTEST;
+    if (value != Py_None && take_integer(state, "digits", value, 0, 6, &number) < 0)
+        return -1;
+    if (number != SHORTEST && number % 3 != 0)
+        return PyErr_SetString(PyExc_ValueError, "digits has to be 0 or 3 or 6"), -1;
+    *digits = (int)number;
+    return 0;
+}
+
 PyObject *call_text(GIVEN) {
-    static const Signature signature = {"text", {"value"}, 1};
+    static const Signature signature = {"text", {"value", "digits"}, 1};
     const State *state = PyModule_GetState(module);
-    PyObject *bound[1], *text = NULL;
-    if (bind(&signature, arguments, count, keywords, bound) < 0)
+    PyObject *bound[2], *text = NULL;
+    int digits;
+    if (bind(&signature, arguments, count, keywords, bound) < 0 || take_digits(state, bound[1], &digits) < 0)
         return NULL;
     Print *print = print_of(state, Py_TYPE(bound[0]));
     if (print)
-        return print(state, bound[0]);
+        return print(state, bound[0], digits);
     PyObject *plain = PyObject_CallFunctionObjArgs(state->held[PLAIN], bound[0], NULL);
     if (!plain)
         return NULL;
     if ((print = print_of(state, Py_TYPE(plain))))
-        text = print(state, plain);
+        text = print(state, plain, digits);
     else
         wrong_type("value", "datetime or date or time or timedelta", plain);
     Py_DECREF(plain);

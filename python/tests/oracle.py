@@ -154,6 +154,7 @@ _CALLS = {
     "time_parse_front": [*_TEXT, _Config, _TO_TIME, _SIZE],
     "time_from_timestamp": [ctypes.c_uint32, ctypes.c_uint32, _Config, _TO_TIME],
     "time_to_text": [_Time, *_PRINTED],
+    "time_to_text_with_digits": [_Time, ctypes.c_int, *_PRINTED],
     "datetime_parse": [*_TEXT, _Config, _TO_DATE_TIME],
     "datetime_parse_text": [*_TEXT, _Config, _TO_DATE_TIME],
     "datetime_parse_strict": [*_TEXT, _Config, _TO_DATE_TIME],
@@ -161,6 +162,7 @@ _CALLS = {
     "datetime_from_timestamp": [ctypes.c_int64, ctypes.c_uint32, _Config, _TO_DATE_TIME],
     "datetime_unix_seconds": [_DateTime, ctypes.POINTER(ctypes.c_int64)],
     "datetime_to_text": [_DateTime, *_PRINTED],
+    "datetime_to_text_with_digits": [_DateTime, ctypes.c_int, *_PRINTED],
     "duration_parse": [*_TEXT, _Config, _TO_DURATION],
     "duration_to_text": [_Duration, *_PRINTED],
 }
@@ -181,10 +183,10 @@ _library = _load(pathlib.Path(__file__).resolve().parents[2] / "out/libspeedate.
 _Buffer = ctypes.c_char * 64
 
 
-def _printed(call, value):
+def _printed(call, value, *digits):
     """The text that a call prints of a value."""
     buffer = _Buffer()
-    code = call(value, buffer, len(buffer), ctypes.c_size_t())
+    code = call(value, *digits, buffer, len(buffer), ctypes.c_size_t())
     if code:
         raise Fault(code)
     return buffer.value.decode("ascii")
@@ -712,16 +714,21 @@ def _clock(value):
     return value.hour, value.minute, value.second, offset is not None, value.microsecond, seconds
 
 
-def text(value):
+def text(value, *, digits=None):
+    if digits is not None and (digits := _integer("digits", digits, 0, 6)) % 3:
+        raise ValueError("digits has to be 0 or 3 or 6")
     if type(value) not in _FIELDS:
         value = _plain(value)
-    if isinstance(value, datetime.datetime):
-        numbers = _DateTime(value.year, value.month, value.day, *_clock(value))
-        return _printed(_library.speedate_datetime_to_text, numbers)
+    if isinstance(value, (datetime.datetime, datetime.time)):
+        is_time = isinstance(value, datetime.time)
+        name, numbers = ("time", _Time(*_clock(value))) if is_time else ("datetime", _DateTime(value.year, value.month, value.day, *_clock(value)))
+        if digits is None:
+            return _printed(getattr(_library, f"speedate_{name}_to_text"), numbers)
+        return _printed(getattr(_library, f"speedate_{name}_to_text_with_digits"), numbers, digits)
+    if digits is not None:
+        raise TypeError(f"value has to be datetime or time if there are digits, not {type(value).__name__}")
     if isinstance(value, datetime.date):
         return _printed(_library.speedate_date_to_text, _Date(value.year, value.month, value.day))
-    if isinstance(value, datetime.time):
-        return _printed(_library.speedate_time_to_text, _Time(*_clock(value)))
     size = abs(value)
     numbers = _Duration(value.days < 0, size.days, size.seconds, size.microseconds)
     return _printed(_library.speedate_duration_to_text, numbers)

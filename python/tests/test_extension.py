@@ -204,7 +204,8 @@ DRAWN = {
     "text": drawn_text, "value": drawn_value, "timestamp": drawn_integer, "second": drawn_integer, "microsecond": drawn_integer,
     **dict.fromkeys(["timestamps", "exact", "strict", "lines"], lambda draw, name: draw.random() < 0.5),
     "naive": lambda draw, name: draw.choice(["error", "utc", "UTC"]), "newline": lambda draw, name: draw.choice(["\r\n", "\n"]),
-    "empty": lambda draw, name: draw.choice(["error", "nat"]), "kind": lambda draw, name: draw.choice(KINDS)}
+    "empty": lambda draw, name: draw.choice(["error", "nat"]), "kind": lambda draw, name: draw.choice(KINDS),
+    "digits": lambda draw, name: draw.choice([None, 0, 3, 6, 6, 3, 1, 9, -3, "3", True])}
 MADE = {"texts": drawn_column, "faults": drawn_faults, "numbers": drawn_numbers}
 PARAMETERS = {name: list(inspect.signature(getattr(speedate, name)).parameters.values()) for name in CALLS}
 

@@ -313,6 +313,12 @@ text(datetime.time(12, tzinfo=Zone())) -> ValueError: the zone Berlin has no off
 text(datetime.time(12, tzinfo=offset(seconds=90))) -> ValueError: the offset 0:01:30 is not whole minutes
 text(datetime.time(12, tzinfo=offset(minutes=1, microseconds=1))) -> ValueError: the offset 0:01:00.000001 is not whole minutes
 text(datetime.time(12, tzinfo=offset(hours=-23, minutes=-59))) -> '12:00:00-23:59'
+text(time("12:13:14.999999Z"), digits=0), text(time("12:13"), digits=3), text(time("12:13"), digits=None) -> ('12:13:14Z', '12:13:00.000', '12:13:00')
+text(subclass(datetime.datetime)(2020, 10, 25, 2, tzinfo=Zone()), digits=6) -> '2020-10-25T02:00:00.000000+02:00'
+text(date("2020-02-29"), digits=3) -> TypeError: value has to be datetime or time if there are digits, not date
+text(duration("PT1S"), digits=0) -> TypeError: value has to be datetime or time if there are digits, not timedelta
+text(time("12:13"), digits=1) -> ValueError: digits has to be 0 or 3 or 6
+text(time("12:13"), digits=9) -> ValueError: digits has to be from 0 to 6
 text(datetime.timedelta.min) -> '-P2739726Y9D'
 text(datetime.timedelta.max) -> 'P2739726Y9DT23H59M59.999999S'
 text(subclass(datetime.datetime)(2020, 10, 25, 2, tzinfo=Zone(), fold=1)) -> '2020-10-25T02:00:00+01:00'
@@ -463,7 +469,7 @@ ARGUMENTS = {
     "timestamp_unit": NAME, "timestamp_offset": (0, int, type(None)), "overflow_behavior": NAME, "iso_order": NAME,
     "texts": ([], bytes, list), "strict": FLAG, "naive": ("utc", str), "faults": ("nat", str, list, dict), "newline": ("\n", str),
     "empty": ("nat", str), "lines": FLAG, "numbers": ([], list, dict, array.array, memoryview), "kind": ("date", str),
-    "index": (None, int, type(None)),
+    "index": (None, int, type(None)), "digits": (3, int, type(None)),
 }
 WRONG = [None, True, 0, 1.0, 3j, "1", b"1", [], {}, object(), speedate.text, array.array("d", [1]), memoryview(b"12345678").cast("d"),
          datetime.date(2020, 2, 29), speedate.Config, speedate.Config()]

@@ -49,8 +49,8 @@ speedate.duration("P1D", {"iso_order": "strict"})  # arg-type
 speedate.Config("minutes")  # arg-type
 speedate.Config(timestamp_offset="+01:00")  # arg-type
 speedate.Config().iso_order = "strict"  # misc
-speedate.text("2020-02-29")  # arg-type
-speedate.text(None)  # arg-type
+speedate.text("2020-02-29")  # call-overload
+speedate.text(None)  # call-overload
 speedate.date_from_timestamp(1.5)  # arg-type
 speedate.date_time_from_timestamp("1")  # arg-type
 column = speedate.date_time_column("1970-01-01T00:00Z")  # assignment
@@ -68,6 +68,8 @@ column = speedate.date_time_column(texts, errors="coerce")  # call-overload
 column = speedate.date_time_column(texts, faults=())  # call-overload
 column = speedate.date_time_column(texts, newline="\r")  # call-overload
 column = speedate.date_time_column(texts, lines=1)  # call-overload
+speedate.text(datetime.date(2020, 2, 29), digits=3)  # call-overload
+speedate.text(datetime.time(12), digits=2)  # call-overload
 lines = speedate.text_column(b"1", "date")  # assignment
 lines = speedate.text_column("1", "date")  # assignment
 lines = speedate.text_column(floats, "date")  # call-overload
