@@ -9,7 +9,7 @@ use crate::{
 };
 
 /// A date and a time of day, as a clock at the offset of the time shows them. It is printed as the [`Date`], `T` and
-/// the [`Time`]. For the `T` the parsers also accept `t`, `_` or a space.
+/// the [`Time`], with a precision too. For the `T` the parsers also accept `t`, `_` or a space.
 ///
 /// ```
 /// use speedate::{Date, DateTime, Time};
@@ -19,6 +19,7 @@ use crate::{
 /// let time = Time { hour: 12, minute: 13, second: 14, microsecond: 0, tz_offset: Some(-30_600) };
 /// assert_eq!(value, DateTime { date, time });
 /// assert_eq!(value.to_string(), "2020-02-29T12:13:14-08:30");
+/// assert_eq!(format!("{value:.3}"), "2020-02-29T12:13:14.000-08:30");
 /// ```
 #[derive(Debug, PartialEq, Eq, Hash, Clone, Copy)]
 pub struct DateTime {
@@ -38,7 +39,8 @@ value! {
     /// assert_eq!(DateTime::parse_str("2020-02-29 12:13:14.5"), DateTime::parse_str("1582978394.5"));
     /// assert_eq!(DateTime::parse_str("2020-02-29"), Err(ParseError::InvalidCharDateTimeSep));
     /// ```
-    DateTime by speedate_datetime_parse under DateTimeConfig, speedate_datetime_to_text
+    DateTime by speedate_datetime_parse under DateTimeConfig,
+    speedate_datetime_to_text or speedate_datetime_to_text_with_digits
 }
 
 impl Value for DateTime {

@@ -558,7 +558,9 @@ checks! {
 printers! {
     fn speedate_date_to_text(date: CDate);
     fn speedate_time_to_text(time: CTime);
+    fn speedate_time_to_text_with_digits(time: CTime, digits: c_int);
     fn speedate_datetime_to_text(value: CDateTime);
+    fn speedate_datetime_to_text_with_digits(value: CDateTime, digits: c_int);
     fn speedate_duration_to_text(duration: CDuration);
 }
 

@@ -8,7 +8,7 @@ use crate::{ConfigError, ParseError, Refused, TimeConfig};
 /// A time of day, with an offset from UTC or without one.
 ///
 /// It is printed as `HH:MM:SS`; then, if the microsecond is not 0, `.` and six digits; then `Z`, `+HH:MM`, `-HH:MM` or
-/// nothing. The parsers also accept a time without a second, and other forms of the fraction and the offset.
+/// nothing. With a precision of 0, 3 or 6 it has just so many digits of the second, rounded down. The parsers also accept a time without a second, and other forms of the fraction and the offset.
 ///
 /// ```
 /// use speedate::Time;
@@ -16,6 +16,7 @@ use crate::{ConfigError, ParseError, Refused, TimeConfig};
 /// let time = Time::parse_str("12:13:14.5+01:30").unwrap();
 /// assert_eq!(time, Time { hour: 12, minute: 13, second: 14, microsecond: 500_000, tz_offset: Some(5_400) });
 /// assert_eq!(time.to_string(), "12:13:14.500000+01:30");
+/// assert_eq!(format!("{time:.3}"), "12:13:14.500+01:30");
 /// ```
 #[derive(Debug, PartialEq, Eq, Hash, Clone, Copy)]
 pub struct Time {
@@ -40,7 +41,7 @@ value! {
     /// assert!(Time::parse_str("15:00Z").unwrap() > Time::parse_str("15:00+01:00").unwrap());
     /// assert_eq!(Time::parse_str("24:00"), Err(ParseError::OutOfRangeHour));
     /// ```
-    Time by speedate_time_parse under TimeConfig, speedate_time_to_text
+    Time by speedate_time_parse under TimeConfig, speedate_time_to_text or speedate_time_to_text_with_digits
 }
 
 impl Value for Time {

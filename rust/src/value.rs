@@ -57,11 +57,15 @@ fn out_of_range<V: Value + ?Sized>(value: &V) -> ! {
 
 /// Defines how values of a type are parsed and printed, by its functions of C.
 macro_rules! value {
-    ($(#[$parse_str:meta])* $name:ident by $parse:ident under $config:ident, $to_text:ident) => {
+    ($(#[$parse_str:meta])* $name:ident by $parse:ident under $config:ident, $to_text:ident $(or $with_digits:ident)?) => {
         /// Writes the text. It panics if the value is out of range.
         impl core::fmt::Display for $name {
             fn fmt(&self, f: &mut core::fmt::Formatter<'_>) -> core::fmt::Result {
-                f.write_str(self.total(ffi::Buffer::new().$to_text(self)))
+                let mut buffer = ffi::Buffer::new();
+                $(if let Some(digits @ (0 | 3 | 6)) = f.precision() {
+                    return f.write_str(self.total(buffer.$with_digits(self, digits as i32)));
+                })?
+                f.write_str(self.total(buffer.$to_text(self)))
             }
         }
 

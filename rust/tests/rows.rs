@@ -74,6 +74,7 @@ impl Row<'_> {
                 self.has_front_or_part(3, Time::parse_or_place_front(text(2), &time_config(1)?))
             }
             "time_to_text" => self.has_text(2, self.get::<Time>(1)?),
+            "time_to_text_with_digits" => self.has_text(3, format!("{:.*}", self.digits()?, self.get::<Time>(1)?)),
             "time_compare" => self.has_order::<Time>()?,
             "time_from_timestamp" => {
                 self.has(4, Time::from_timestamp_with_config(self.get(1)?, self.get(2)?, &time_config(3)?))
@@ -96,6 +97,9 @@ impl Row<'_> {
                 self.has_front_or_part(3, DateTime::parse_or_place_front(text(2), &time_config(1)?))
             }
             "datetime_to_text" => self.has_text(2, self.get::<DateTime>(1)?),
+            "datetime_to_text_with_digits" => {
+                self.has_text(3, format!("{:.*}", self.digits()?, self.get::<DateTime>(1)?))
+            }
             "datetime_compare" => self.has_order::<DateTime>()?,
             "datetime_from_timestamp" => {
                 self.has(4, DateTime::from_timestamp_with_config(self.get(1)?, self.get(2)?, &config(3)?))
@@ -248,6 +252,11 @@ impl Row<'_> {
     fn has_front_or_part<T: Field + PartialEq>(&self, place: usize, answer: Result<(T, usize), Refused>) -> bool {
         let size = answer.as_ref().ok().map(|front| front.1 as i64);
         self.has_or_part(place, answer.map(|front| front.0)) && (size.is_none() || self.get::<i64>(place + 2) == size)
+    }
+
+    /// The digits of a second that a row prints, if a precision can ask for them.
+    fn digits(&self) -> Option<usize> {
+        self.get(2).filter(|it| [0, 3, 6].contains(it))
     }
 
     fn has_text(&self, place: usize, value: impl ToString) -> bool {
