@@ -2,9 +2,11 @@
 //! the lines of an input, writes what is printed, and says why it ended.
 #![tactic(auto)]
 
+mod buffer;
 mod machine;
 pub mod run;
 mod watched;
 
-pub use machine::{HEAD_MAX, LINE_MAX, LineMachine, PENDING_MAX, Pending, STEP_MAX, push_bytes};
+pub use buffer::{PENDING_MAX, Pending, STEP_MAX, push_bytes};
+pub use machine::{HEAD_MAX, LINE_MAX, LineMachine};
 pub use watched::{Failed, Watched};

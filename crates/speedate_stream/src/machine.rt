@@ -1,25 +1,12 @@
 //! What a program prints for each line.
 
-ghost use Rattle.std.specs.Prelude.{◌≡◌, ◌+◌, ◌++◌, ◌≤◌, length};
-ghost use Rattle.arrayvec.specs.ArrayVec.{array_vec_len};
-
-use arrayvec::ArrayVec;
+use crate::buffer::{PENDING_MAX, Pending, STEP_MAX};
 
 /// How many bytes a line may have of which a machine sees all.
 pub const LINE_MAX: usize = 4096;
 
 /// How many bytes a machine sees of a line: of a longer one enough to show that it is longer.
 pub const HEAD_MAX: usize = LINE_MAX + 1;
-
-/// How many bytes a machine may print for a line, besides the line itself.
-pub const STEP_MAX: usize = 8448;
-
-/// How many bytes there is room for: 65,499 that are gathered before they are written, and what a
-/// machine prints for one more line.
-pub const PENDING_MAX: usize = 65_499 + STEP_MAX;
-
-/// Bytes that wait to be written.
-pub type Pending = ArrayVec<u8, PENDING_MAX>;
 
 /// What a program prints for each line, one after the other.
 pub trait LineMachine {
@@ -49,14 +36,4 @@ pub trait LineMachine {
         ensures text { pending.new.items ≡ pending.old.items ++ machine.text self.old head.now }
         ensures rest { result ≡ machine.rest self.old head.now }
         ensures within { IfSome result (λ from. from ≤ length head.now) };
-}
-
-/// Appends bytes to those that wait: `ok ` and then a text, for an answer. There must be room.
-#[inline(always)]
-pub fn push_bytes(bytes: &[u8], pending: &mut Pending)
-    requires room { array_vec_len pending.old + length bytes.now ≤ PENDING_MAX }
-    ensures pushed { pending.new.items ≡ pending.old.items ++ bytes.now }
-    ensures length { array_vec_len pending.new ≡ array_vec_len pending.old + length bytes.now }
-{
-    let _ = pending.try_extend_from_slice(bytes);
 }

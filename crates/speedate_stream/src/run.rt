@@ -12,7 +12,8 @@ ghost use Rattle.speedate_stream.specs.Run.{ReadsAfter, EndsBy, Ends, Writes, On
 ghost use Rattle.speedate_stream.specs.Run.{PrintsProgress, PrintsBeginning};
 ghost use Rattle.speedate_stream.specs.Watch.{one_more};
 
-use crate::machine::{HEAD_MAX, LINE_MAX, LineMachine, PENDING_MAX, Pending, STEP_MAX, push_bytes};
+use crate::buffer::{PENDING_MAX, Pending, STEP_MAX, push_bytes};
+use crate::machine::{HEAD_MAX, LINE_MAX, LineMachine};
 use crate::watched::{Failed, Watched};
 use speedate::line_end;
 use std::io::{Read, Write};
