@@ -17,7 +17,7 @@ use crate::reading::{Bad, Form, Found, Why};
 use crate::scan::{Line, Scan};
 use speedate::DateTime;
 use speedate_stream::run::{RunError, run};
-use speedate_stream::{LineMachine, PENDING_MAX, Pending, STEP_MAX, Watched, push_bytes};
+use speedate_stream::{LineMachine, Observer, PENDING_MAX, Pending, STEP_MAX, Watched, push_bytes};
 use std::io::{Read, Write};
 
 /// At which offset values are written.
@@ -172,10 +172,11 @@ impl LineMachine for Convert<'_> {
 /// Prints each line of an input with its value written anew, and its other bytes as they are.
 ///
 /// Fails with `RunError::Read` if a read fails, with `RunError::Write` if a write or the flush does.
-pub fn print_converted<R: Read, W: Write>(
-    command: &mut Convert<'_>,
+pub fn print_converted<'a, R: Read, W: Write, O: Observer<Convert<'a>>>(
+    command: &mut Convert<'a>,
     input: &mut Watched<R>,
     output: &mut Watched<W>,
+    observer: &mut O,
 ) -> Result<(), RunError>
     // If neither end had failed before, one has failed if and only if the answer says so.
     ensures failed { input.old.failed ≡ false → output.old.failed ≡ false →
@@ -194,7 +195,7 @@ pub fn print_converted<R: Read, W: Write>(
         (R.remaining input.old.inner) (R.remaining input.new.inner)
         (W.contents output.old.inner) (W.contents output.new.inner) }
 {
-    match run(command, input, output) {
+    match run(command, input, output, observer) {
         Ok(()) => Ok(()),
         Err(error) => Err(error),
     }
