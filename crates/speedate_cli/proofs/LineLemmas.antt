@@ -10,7 +10,7 @@ use Rattle.speedate_cli.specs.Scan.{BadLines, Line, Scan, UndatedLines, keeps, l
 use Rattle.speedate_cli.specs.Check.{Check, check_lines, check_machine, check_text}
 use Rattle.speedate_cli.specs.Convert.{Convert, convert_line, convert_lines, convert_machine}
 use Rattle.speedate_cli.specs.Convert.{convert_rest, convert_text, converted, line_prefix, text_of}
-use Rattle.speedate_cli.specs.Convert.{written_value}
+use Rattle.speedate_cli.specs.Convert.{written_of}
 use Rattle.speedate_cli.specs.Order.{Latest, Order, dated, dated_and, late_report, late_reports}
 use Rattle.speedate_cli.specs.Order.{latest_of, order_after}
 use Rattle.speedate_cli.specs.Order.{order_lines, order_machine, order_text, report_if_late}
@@ -69,7 +69,7 @@ one_line : (convert : Convert) (line : List ℕ) (what : Line)
     ≡ converted convert line what
 one_line convert line (Line.Value found) =
     joined (line_prefix convert) (take found.from (head line))
-    (text_of convert.scan.reader.form (written_value convert (head line) found))
+    (text_of convert.scan.reader.form (written_of convert (head line) (Line.Value found)))
     (rest_of (Some found.to) line)
 one_line convert line Line.Header = as_it_is true (line_prefix convert) line
 one_line convert line (Line.Bad bad) =

@@ -1,12 +1,13 @@
 -- The command `convert`: each line with its value written anew.
 use Rattle.std.specs.Prelude.{ℕ, ℤ, ◌∷◌, ◌++◌, Bool, List, [], take, Option, Some, None, is_some, Result, Ok, Err, if◌then◌else◌}
+use Rattle.std.specs.Result.{result_ok}
 use Rattle.speedate.specs.Base.{ParseError}
 use Rattle.speedate.specs.Date.{date_text}
 use Rattle.speedate.specs.DateTime.{DateAndTime, date_time_in_timezone, date_time_text}
 use Rattle.speedate_stream.specs.Machine.{Machine, head, rest_of}
 use Rattle.speedate_stream.specs.Watch.{one_more}
 use Rattle.speedate_cli.specs.Print.{prefix_text}
-use Rattle.speedate_cli.specs.Reading.{Bad, Form, Found, Why, value_of}
+use Rattle.speedate_cli.specs.Reading.{Bad, Form, Found, Why, value_at}
 use Rattle.speedate_cli.specs.Scan.{Line, is_stopped, keeps, line_of, passed}
 pub use Rattle.speedate_cli.specs.declared.convert.Target.{Target}
 pub use Rattle.speedate_cli.specs.declared.convert.Convert.{Convert}
@@ -34,7 +35,7 @@ written_from target found (Err bad) = Err bad
 -- the value of a line as it is written, or what is bad about it
 unfoldable pub written_value : Convert → List ℕ → Found → Result DateAndTime Bad
 written_value convert head found =
-    written_from convert.target found (value_of convert.scan.reader head found)
+    written_from convert.target found (value_at convert.scan.reader head found.from)
 
 -- the text of a value: a date for dates, otherwise a date-time
 unfoldable pub written_text : Form → DateAndTime → List ℕ
@@ -42,10 +43,10 @@ written_text Form.Date value = date_text value.date
 written_text Form.DateTime value = date_time_text value
 written_text Form.Strict value = date_time_text value
 
--- the text of what can be written
-abbrev pub text_of : {E : Type 0} → Form → Result DateAndTime E → List ℕ
-text_of form (Ok value) = written_text form value
-text_of form (Err fault) = []
+-- the text of a value, if there is one
+abbrev pub text_of : Form → Option DateAndTime → List ℕ
+text_of form (Some value) = written_text form value
+text_of form None = []
 
 -- a line whose value cannot be written is bad
 abbrev pub line_by_value : Found → Result DateAndTime Bad → Line
@@ -65,10 +66,20 @@ line_with_value convert head Line.Undated = Line.Undated
 abbrev pub convert_line : Convert → List ℕ → Line
 convert_line convert head = line_with_value convert head (line_of convert.scan head)
 
+-- the value of a line as it is written, if it has one
+abbrev pub written_of : Convert → List ℕ → Line → Option DateAndTime
+written_of convert head (Line.Value found) = result_ok (written_value convert head found)
+written_of convert head Line.Late = None
+written_of convert head Line.Header = None
+written_of convert head (Line.Bad bad) = None
+written_of convert head Line.Unfit = None
+written_of convert head Line.Undated = None
+
 -- the bytes of a line before its value, and the value written anew
 abbrev pub value_text : Convert → List ℕ → Line → List ℕ
 value_text convert head (Line.Value found) =
-    take found.from head ++ text_of convert.scan.reader.form (written_value convert head found)
+    take found.from head
+    ++ text_of convert.scan.reader.form (written_of convert head (Line.Value found))
 value_text convert head Line.Late = []
 value_text convert head Line.Header = []
 value_text convert head (Line.Bad bad) = []
@@ -116,7 +127,7 @@ line_prefix convert =
 abbrev pub converted : Convert → List ℕ → Line → List ℕ
 converted convert line (Line.Value found) =
     line_prefix convert ++ take found.from (head line)
-    ++ text_of convert.scan.reader.form (written_value convert (head line) found)
+    ++ text_of convert.scan.reader.form (written_of convert (head line) (Line.Value found))
     ++ rest_of (Some found.to) line
 converted convert line Line.Header = line_prefix convert ++ rest_of (Some 0) line
 converted convert line (Line.Bad bad) =

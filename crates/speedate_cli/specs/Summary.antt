@@ -1,6 +1,6 @@
 -- The command `summary`: how many lines and values there are, the first value, the last, and the
 -- longest gap.
-use Rattle.std.specs.Prelude.{◌≡◌, ◌⊎◌, ℕ, ℤ, pos, ◌+ℤ◌, ◌-ℤ◌, ◌*ℤ◌, Bool, true, false, List, [], ◌∷◌, ◌++◌, Option, Some, None, unwrap_or, Result, int_lt, codes, decimal, if◌then◌else◌}
+use Rattle.std.specs.Prelude.{◌≡◌, ◌⊎◌, ℕ, ℤ, pos, ◌+ℤ◌, ◌-ℤ◌, ◌*ℤ◌, Bool, true, false, List, [], ◌∷◌, ◌++◌, Option, Some, None, unwrap_or, Result, Ok, Err, int_lt, codes, decimal, if◌then◌else◌}
 use Rattle.std.specs.Int.{saturate_signed, w64}
 use Rattle.std.specs.Io.KnownBytes.{Appends, Consumes, IsAtEnd}
 use Rattle.std.specs.Result.{result_or}
@@ -13,7 +13,7 @@ use Rattle.speedate.specs.Requirement.{◌>>=◌}
 use Rattle.speedate_stream.specs.Machine.{Machine, head}
 use Rattle.speedate_stream.specs.Run.{PrintsProgress}
 use Rattle.speedate_stream.specs.Watch.{one_more}
-use Rattle.speedate_cli.specs.Convert.{text_of}
+use Rattle.speedate_cli.specs.Convert.{written_text}
 use Rattle.speedate_cli.specs.Order.{Latest, duration_between, latest_of, order_after}
 use Rattle.speedate_cli.specs.Print.{line_place}
 use Rattle.speedate_cli.specs.Reading.{Form}
@@ -143,9 +143,14 @@ shown_at None instant = clock_at None instant
 shown_at (Some offset) instant =
     result_or (clock_at (Some (pos 0)) instant) (clock_at (Some offset) instant)
 
+-- the text of what can be shown
+abbrev pub shown_text : {E : Type 0} → Result DateAndTime E → List ℕ
+shown_text (Ok value) = written_text Form.DateTime value
+shown_text (Err fault) = []
+
 -- the text of a value
 unfoldable pub instant_text : Option ℤ → ℤ → List ℕ
-instant_text offset instant = text_of Form.DateTime (shown_at offset instant)
+instant_text offset instant = shown_text (shown_at offset instant)
 
 -- a line with a name and a count
 unfoldable pub count_text : List ℕ → ℕ → List ℕ

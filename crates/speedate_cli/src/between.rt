@@ -13,7 +13,7 @@ use crate::print::{PREFIX_MAX, Prefix};
 use crate::reading::Found;
 use crate::scan::{Line, Scan};
 use speedate_stream::run::{RunError, run};
-use speedate_stream::{LineMachine, PENDING_MAX, Pending, Watched};
+use speedate_stream::{LineMachine, Observer, PENDING_MAX, Pending, Watched};
 use std::io::{Read, Write};
 
 /// Two bounds, in microseconds as [`Found::instant`] counts them. A bound that is absent is open.
@@ -150,10 +150,11 @@ impl LineMachine for Between<'_> {
 /// whole.
 ///
 /// Fails with `RunError::Read` if a read fails, with `RunError::Write` if a write or the flush does.
-pub fn print_entries<R: Read, W: Write>(
-    command: &mut Between<'_>,
+pub fn print_entries<'a, R: Read, W: Write, O: Observer<Between<'a>>>(
+    command: &mut Between<'a>,
     input: &mut Watched<R>,
     output: &mut Watched<W>,
+    observer: &mut O,
 ) -> Result<(), RunError>
     // If neither end had failed before, one has failed if and only if the answer says so.
     ensures failed { input.old.failed ≡ false → output.old.failed ≡ false →
@@ -172,7 +173,7 @@ pub fn print_entries<R: Read, W: Write>(
         (R.remaining input.old.inner) (R.remaining input.new.inner)
         (W.contents output.old.inner) (W.contents output.new.inner) }
 {
-    match run(command, input, output) {
+    match run(command, input, output, observer) {
         Ok(()) => Ok(()),
         Err(error) => Err(error),
     }

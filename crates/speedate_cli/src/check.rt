@@ -9,7 +9,7 @@ ghost use Rattle.speedate_stream.specs.Run.{EndsBy, PrintsBeginning, PrintsProgr
 use crate::print::{REPORT_MAX, push_report};
 use crate::scan::{Line, Scan};
 use speedate_stream::run::{RunError, run};
-use speedate_stream::{LineMachine, PENDING_MAX, Pending, Watched};
+use speedate_stream::{LineMachine, Observer, PENDING_MAX, Pending, Watched};
 use std::io::{Read, Write};
 
 /// Prints a report of each line whose value is bad, and no line itself.
@@ -64,10 +64,11 @@ impl LineMachine for Check<'_> {
 /// Prints a report of each line of an input whose value is bad.
 ///
 /// Fails with `RunError::Read` if a read fails, with `RunError::Write` if a write or the flush does.
-pub fn print_reports<R: Read, W: Write>(
-    command: &mut Check<'_>,
+pub fn print_reports<'a, R: Read, W: Write, O: Observer<Check<'a>>>(
+    command: &mut Check<'a>,
     input: &mut Watched<R>,
     output: &mut Watched<W>,
+    observer: &mut O,
 ) -> Result<(), RunError>
     // If neither end had failed before, one has failed if and only if the answer says so.
     ensures failed { input.old.failed ≡ false → output.old.failed ≡ false →
@@ -86,7 +87,7 @@ pub fn print_reports<R: Read, W: Write>(
         (R.remaining input.old.inner) (R.remaining input.new.inner)
         (W.contents output.old.inner) (W.contents output.new.inner) }
 {
-    match run(command, input, output) {
+    match run(command, input, output, observer) {
         Ok(()) => Ok(()),
         Err(error) => Err(error),
     }

@@ -1,12 +1,14 @@
 //! The command `convert`: each line with its value written anew.
 
 ghost use Rattle.std.specs.Prelude.{◌≡◌, ◌+◌, ◌++◌, ◌≤◌, IfSome, length, take, Err, OnOk, false, true};
+ghost use Rattle.std.specs.Option.{option_map};
 ghost use Rattle.arrayvec.specs.ArrayVec.{array_vec_len};
 ghost use Rattle.speedate.specs.DateTime.{date_and_time};
 ghost use Rattle.speedate.specs.Requirement.{result_map};
 ghost use Rattle.speedate_cli.specs.Convert.{convert_line, convert_rest, convert_text, target_place};
-ghost use Rattle.speedate_cli.specs.Convert.{targeted, written_text, written_value};
-ghost use Rattle.speedate_cli.specs.Reading.{IsWithin};
+ghost use Rattle.speedate_cli.specs.Convert.{targeted, text_of, written_of, written_text};
+ghost use Rattle.speedate_cli.specs.Convert.{written_value};
+ghost use Rattle.speedate_cli.specs.Reading.{IsWithin, seen};
 ghost use Rattle.speedate_cli.specs.Scan.{IsFoundWithin};
 ghost use Rattle.speedate_cli.specs.Convert.{convert_lines, convert_machine};
 ghost use Rattle.speedate_cli.specs.Runs.{EndsWith};
@@ -17,7 +19,7 @@ use crate::reading::{Bad, Form, Found, Why};
 use crate::scan::{Line, Scan};
 use speedate::DateTime;
 use speedate_stream::run::{RunError, run};
-use speedate_stream::{LineMachine, PENDING_MAX, Pending, STEP_MAX, Watched, push_bytes};
+use speedate_stream::{LineMachine, Observer, PENDING_MAX, Pending, STEP_MAX, Watched, push_bytes};
 use std::io::{Read, Write};
 
 /// At which offset values are written.
@@ -94,6 +96,18 @@ pub fn push_value(form: Form, value: &DateTime, pending: &mut Pending)
     }
 }
 
+/// Appends a value, if there is one.
+fn push_if_some(form: Form, value: &Option<DateTime>, pending: &mut Pending)
+    requires room { array_vec_len pending.old + 32 ≤ PENDING_MAX }
+    ensures pushed { pending.new.items
+        ≡ pending.old.items ++ text_of form (option_map date_and_time value.now) }
+    ensures length { array_vec_len pending.new ≤ array_vec_len pending.old + 32 }
+{
+    if let Some(value) = value {
+        push_value(form, value, pending);
+    }
+}
+
 impl Convert<'_> {
     /// The value of a line as it is written, or what is bad about it.
     #[tactic(auto, unfolding(crate::specs::Convert::written_value))]
@@ -108,23 +122,32 @@ impl Convert<'_> {
         }
     }
 
-    /// What a line is: one whose value cannot be written is bad.
-    fn line(&self, head: &[u8]) -> Line
-        ensures line { result ≡ convert_line self.now head.now }
-        ensures within { IsFoundWithin result head.now }
+    /// What a line is, and its value as it is written: a line whose value cannot be written is bad.
+    fn line(&self, head: &[u8]) -> (Line, Option<DateTime>)
+        ensures line { result.0 ≡ convert_line self.now head.now }
+        ensures within { IsFoundWithin result.0 head.now }
+        ensures value { option_map date_and_time result.1 ≡ written_of self.now head.now result.0 }
     {
         let line = self.scan.line(head);
-        if let Line::Value(found) = &line {
-            if let Err(bad) = self.written(head, found) {
-                return Line::Bad(bad);
-            }
+        let Line::Value(found) = &line else {
+            return (line, None);
+        };
+        match self.written(head, found) {
+            Ok(value) => (line, Some(value)),
+            Err(bad) => (Line::Bad(bad), None),
         }
-        line
     }
 
     /// Appends what stands before the rest of a line, and returns the byte from which on that follows.
-    fn push_line(&self, head: &[u8], line: &Line, pending: &mut Pending) -> Option<usize>
+    fn push_line(
+        &self,
+        head: &[u8],
+        line: &Line,
+        value: &Option<DateTime>,
+        pending: &mut Pending,
+    ) -> Option<usize>
         requires within { IsFoundWithin line.now head.now }
+        requires value { option_map date_and_time value.now ≡ written_of self.now head.now line.now }
         requires room { array_vec_len pending.old + STEP_MAX ≤ PENDING_MAX }
         ensures pushed { pending.new.items
             ≡ pending.old.items ++ convert_text self.now head.now line.now }
@@ -141,9 +164,7 @@ impl Convert<'_> {
             return Some(0);
         };
         push_bytes(before_value(head, found), pending);
-        if let Ok(value) = self.written(head, found) {
-            push_value(self.scan.reader.form, &value, pending);
-        }
+        push_if_some(self.scan.reader.form, value, pending);
         Some(found.to)
     }
 }
@@ -158,12 +179,13 @@ impl LineMachine for Convert<'_> {
     }
 
     fn passes(&self, head: &[u8]) -> bool {
-        self.scan.keeps(&self.line(head))
+        let (line, _) = self.line(head);
+        self.scan.keeps(&line)
     }
 
     fn step(&mut self, head: &[u8], pending: &mut Pending) -> Option<usize> {
-        let line = self.line(head);
-        let rest = self.push_line(head, &line, pending);
+        let (line, value) = self.line(head);
+        let rest = self.push_line(head, &line, &value, pending);
         self.scan.pass(line);
         rest
     }
@@ -172,10 +194,11 @@ impl LineMachine for Convert<'_> {
 /// Prints each line of an input with its value written anew, and its other bytes as they are.
 ///
 /// Fails with `RunError::Read` if a read fails, with `RunError::Write` if a write or the flush does.
-pub fn print_converted<R: Read, W: Write>(
-    command: &mut Convert<'_>,
+pub fn print_converted<'a, R: Read, W: Write, O: Observer<Convert<'a>>>(
+    command: &mut Convert<'a>,
     input: &mut Watched<R>,
     output: &mut Watched<W>,
+    observer: &mut O,
 ) -> Result<(), RunError>
     // If neither end had failed before, one has failed if and only if the answer says so.
     ensures failed { input.old.failed ≡ false → output.old.failed ≡ false →
@@ -194,7 +217,7 @@ pub fn print_converted<R: Read, W: Write>(
         (R.remaining input.old.inner) (R.remaining input.new.inner)
         (W.contents output.old.inner) (W.contents output.new.inner) }
 {
-    match run(command, input, output) {
+    match run(command, input, output, observer) {
         Ok(()) => Ok(()),
         Err(error) => Err(error),
     }

@@ -13,7 +13,7 @@ use crate::reading::Found;
 use crate::scan::{Line, Scan};
 use speedate::Duration;
 use speedate_stream::run::{RunError, run};
-use speedate_stream::{LineMachine, PENDING_MAX, Pending, STEP_MAX, Watched, push_bytes};
+use speedate_stream::{LineMachine, Observer, PENDING_MAX, Pending, STEP_MAX, Watched, push_bytes};
 use std::io::{Read, Write};
 
 /// A value, and where it stands.
@@ -179,10 +179,11 @@ impl LineMachine for Order<'_> {
 /// Prints each value of an input that is earlier than the one before, and by how much.
 ///
 /// Fails with `RunError::Read` if a read fails, with `RunError::Write` if a write or the flush does.
-pub fn print_late<R: Read, W: Write>(
-    command: &mut Order<'_>,
+pub fn print_late<'a, R: Read, W: Write, O: Observer<Order<'a>>>(
+    command: &mut Order<'a>,
     input: &mut Watched<R>,
     output: &mut Watched<W>,
+    observer: &mut O,
 ) -> Result<(), RunError>
     // If neither end had failed before, one has failed if and only if the answer says so.
     ensures failed { input.old.failed ≡ false → output.old.failed ≡ false →
@@ -201,7 +202,7 @@ pub fn print_late<R: Read, W: Write>(
         (R.remaining input.old.inner) (R.remaining input.new.inner)
         (W.contents output.old.inner) (W.contents output.new.inner) }
 {
-    match run(command, input, output) {
+    match run(command, input, output, observer) {
         Ok(()) => Ok(()),
         Err(error) => Err(error),
     }

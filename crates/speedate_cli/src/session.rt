@@ -8,10 +8,11 @@ use crate::check::{Check, print_reports};
 use crate::convert::{Convert, print_converted};
 use crate::order::{Order, print_late};
 use crate::print::{push_line_place, push_report};
+use crate::reading::Form;
 use crate::scan::{Offsets, Report, Scan, Stop};
 use crate::summary::{SUMMARY_MAX, Summary, add_lines};
 use speedate_stream::run::RunError;
-use speedate_stream::{PENDING_MAX, Pending, Watched, push_bytes};
+use speedate_stream::{LineMachine, Observer, PENDING_MAX, Pending, Watched, push_bytes};
 use std::fs;
 use std::io::{self, ErrorKind, Read, Write};
 use std::os::unix::fs::MetadataExt;
@@ -28,13 +29,37 @@ const READ: u8 = 3;
 /// The status of a run of which a write failed.
 const WRITE: u8 = 4;
 
+/// What a command says after the lines.
+pub trait Closing {
+    /// Whether bad values are reported on standard error.
+    fn reports_bad(&self) -> bool {
+        true
+    }
+
+    /// How many lines before the first value were not printed.
+    fn left_out(&self) -> u64 {
+        0
+    }
+
+    /// How many values were out of order.
+    fn out_of_order(&self) -> u64 {
+        0
+    }
+
+    /// Appends what is printed after the last file.
+    fn push_end(&self, _pending: &mut Pending)
+        requires room { array_vec_len _pending.old + SUMMARY_MAX ≤ PENDING_MAX }
+    {}
+}
+
 /// A command over the lines of several files.
-pub trait Session<'a> {
+pub trait Session<'a>: LineMachine + Closing + Sized {
     /// Prints what the command prints of an input.
-    fn print<R: Read, W: Write>(
+    fn print<R: Read, W: Write, O: Observer<Self>>(
         &mut self,
         input: &mut Watched<R>,
         output: &mut Watched<W>,
+        observer: &mut O,
     ) -> Result<(), RunError>;
 
     /// Begins a file with this name.
@@ -42,60 +67,22 @@ pub trait Session<'a> {
 
     /// What is known of the lines so far.
     fn scan(&self) -> Scan<'a>;
-
-    /// Whether bad values are reported on standard error.
-    fn reports_bad(&self) -> bool;
-
-    /// How many lines before the first value were not printed.
-    fn left_out(&self) -> u64;
-
-    /// How many values were out of order.
-    fn out_of_order(&self) -> u64;
-
-    /// Appends what is printed after the last file.
-    fn push_end(&self, pending: &mut Pending)
-        requires room { array_vec_len pending.old + SUMMARY_MAX ≤ PENDING_MAX };
 }
 
-impl<'a> Session<'a> for Between<'a> {
-    fn print<R: Read, W: Write>(
-        &mut self,
-        input: &mut Watched<R>,
-        output: &mut Watched<W>,
-    ) -> Result<(), RunError> {
-        print_entries(self, input, output)
-    }
-
-    fn begin(&mut self, name: &'a [u8]) {
-        self.scan.begin(name);
-    }
-
-    fn scan(&self) -> Scan<'a> {
-        self.scan
-    }
-
-    fn reports_bad(&self) -> bool {
-        true
-    }
-
+impl Closing for Between<'_> {
     fn left_out(&self) -> u64 {
         self.before
     }
-
-    fn out_of_order(&self) -> u64 {
-        0
-    }
-
-    fn push_end(&self, _pending: &mut Pending) {}
 }
 
-impl<'a> Session<'a> for Check<'a> {
-    fn print<R: Read, W: Write>(
+impl<'a> Session<'a> for Between<'a> {
+    fn print<R: Read, W: Write, O: Observer<Self>>(
         &mut self,
         input: &mut Watched<R>,
         output: &mut Watched<W>,
+        observer: &mut O,
     ) -> Result<(), RunError> {
-        print_reports(self, input, output)
+        print_entries(self, input, output, observer)
     }
 
     fn begin(&mut self, name: &'a [u8]) {
@@ -105,29 +92,43 @@ impl<'a> Session<'a> for Check<'a> {
     fn scan(&self) -> Scan<'a> {
         self.scan
     }
+}
 
+impl Closing for Check<'_> {
     fn reports_bad(&self) -> bool {
         false
     }
-
-    fn left_out(&self) -> u64 {
-        0
-    }
-
-    fn out_of_order(&self) -> u64 {
-        0
-    }
-
-    fn push_end(&self, _pending: &mut Pending) {}
 }
+
+impl<'a> Session<'a> for Check<'a> {
+    fn print<R: Read, W: Write, O: Observer<Self>>(
+        &mut self,
+        input: &mut Watched<R>,
+        output: &mut Watched<W>,
+        observer: &mut O,
+    ) -> Result<(), RunError> {
+        print_reports(self, input, output, observer)
+    }
+
+    fn begin(&mut self, name: &'a [u8]) {
+        self.scan.begin(name);
+    }
+
+    fn scan(&self) -> Scan<'a> {
+        self.scan
+    }
+}
+
+impl Closing for Convert<'_> {}
 
 impl<'a> Session<'a> for Convert<'a> {
-    fn print<R: Read, W: Write>(
+    fn print<R: Read, W: Write, O: Observer<Self>>(
         &mut self,
         input: &mut Watched<R>,
         output: &mut Watched<W>,
+        observer: &mut O,
     ) -> Result<(), RunError> {
-        print_converted(self, input, output)
+        print_converted(self, input, output, observer)
     }
 
     fn begin(&mut self, name: &'a [u8]) {
@@ -137,61 +138,51 @@ impl<'a> Session<'a> for Convert<'a> {
     fn scan(&self) -> Scan<'a> {
         self.scan
     }
-
-    fn reports_bad(&self) -> bool {
-        true
-    }
-
-    fn left_out(&self) -> u64 {
-        0
-    }
-
-    fn out_of_order(&self) -> u64 {
-        0
-    }
-
-    fn push_end(&self, _pending: &mut Pending) {}
 }
 
-impl<'a> Session<'a> for Order<'a> {
-    fn print<R: Read, W: Write>(
-        &mut self,
-        input: &mut Watched<R>,
-        output: &mut Watched<W>,
-    ) -> Result<(), RunError> {
-        print_late(self, input, output)
-    }
-
-    fn begin(&mut self, name: &'a [u8]) {
-        self.scan.begin(name);
-    }
-
-    fn scan(&self) -> Scan<'a> {
-        self.scan
-    }
-
-    fn reports_bad(&self) -> bool {
-        true
-    }
-
-    fn left_out(&self) -> u64 {
-        0
-    }
-
+impl Closing for Order<'_> {
     fn out_of_order(&self) -> u64 {
         self.late
     }
-
-    fn push_end(&self, _pending: &mut Pending) {}
 }
 
-impl<'a> Session<'a> for Summary<'a> {
-    fn print<R: Read, W: Write>(
+impl<'a> Session<'a> for Order<'a> {
+    fn print<R: Read, W: Write, O: Observer<Self>>(
         &mut self,
         input: &mut Watched<R>,
         output: &mut Watched<W>,
+        observer: &mut O,
     ) -> Result<(), RunError> {
-        add_lines(self, input, output)
+        print_late(self, input, output, observer)
+    }
+
+    fn begin(&mut self, name: &'a [u8]) {
+        self.scan.begin(name);
+    }
+
+    fn scan(&self) -> Scan<'a> {
+        self.scan
+    }
+}
+
+impl Closing for Summary<'_> {
+    fn out_of_order(&self) -> u64 {
+        self.order.late
+    }
+
+    fn push_end(&self, pending: &mut Pending) {
+        self.push_onto(pending);
+    }
+}
+
+impl<'a> Session<'a> for Summary<'a> {
+    fn print<R: Read, W: Write, O: Observer<Self>>(
+        &mut self,
+        input: &mut Watched<R>,
+        output: &mut Watched<W>,
+        observer: &mut O,
+    ) -> Result<(), RunError> {
+        add_lines(self, input, output, observer)
     }
 
     fn begin(&mut self, name: &'a [u8]) {
@@ -200,22 +191,6 @@ impl<'a> Session<'a> for Summary<'a> {
 
     fn scan(&self) -> Scan<'a> {
         self.order.scan
-    }
-
-    fn reports_bad(&self) -> bool {
-        true
-    }
-
-    fn left_out(&self) -> u64 {
-        0
-    }
-
-    fn out_of_order(&self) -> u64 {
-        self.order.late
-    }
-
-    fn push_end(&self, pending: &mut Pending) {
-        self.push_onto(pending);
     }
 }
 
@@ -287,20 +262,23 @@ fn run_file<'a, M: Session<'a>, W: Write>(
         return READ;
     }
     let told = machine.scan().bad;
+    let mut reports = Reports {
+        rt,
+        name: name.as_bytes(),
+        told,
+    };
     let ended = if name == "-" {
-        machine.print(&mut Watched::new(rt.stdin()), output)
+        machine.print(&mut Watched::new(rt.stdin()), output, &mut reports)
     } else {
         match fs::open(rt, name) {
-            Ok(file) => machine.print(&mut Watched::new(file), output),
+            Ok(file) => machine.print(&mut Watched::new(file), output, &mut reports),
             Err(_) => {
                 let _ = eprintln!(rt; "speedate: {name}: cannot be opened");
                 return READ;
             }
         }
     };
-    if machine.reports_bad() {
-        tell_bad(rt, &machine.scan(), told);
-    }
+    reports.before_read(machine);
     match ended {
         Ok(()) => 0,
         Err(RunError::Read) => {
@@ -322,26 +300,42 @@ fn is_output(rt: &HostRuntime, path: &str) -> bool {
     }
 }
 
-/// Tells the bad values of a file that are among the first, on standard error.
-fn tell_bad(rt: &HostRuntime, scan: &Scan<'_>, told: u64) {
-    for (index, report) in scan.reports.iter().enumerate() {
-        if index as u64 >= told && (index as u64) < scan.bad {
-            tell_report(rt, scan, report);
+/// Tells the bad values of a file on standard error: those that are among the first, once each.
+#[derive(Clone, Copy)]
+struct Reports<'r, 'a> {
+    rt: &'r HostRuntime,
+    /// The name of the file.
+    name: &'a [u8],
+    /// How many values were bad when they were told last.
+    told: u64,
+}
+
+impl<'a, M: Session<'a>> Observer<M> for Reports<'_, 'a> {
+    fn before_read(&mut self, machine: &M) {
+        let scan = machine.scan();
+        if machine.reports_bad() {
+            self.tell(&scan);
         }
+        self.told = scan.bad;
     }
 }
 
-/// Tells a bad value on standard error. If that fails too, only the status is left to tell.
-fn tell_report(rt: &HostRuntime, scan: &Scan<'_>, report: &Report) {
-    let mut text = Pending::new();
-    push_report(
-        scan.name,
-        report.number,
-        &report.bad,
-        scan.reader.form,
-        &mut text,
-    );
-    let _ = rt.stderr().write_all(text.as_slice());
+impl Reports<'_, '_> {
+    /// Tells the bad values that are among the first, but for those that were told.
+    fn tell(&self, scan: &Scan<'_>) {
+        for (index, report) in scan.reports.iter().enumerate() {
+            if index as u64 >= self.told && (index as u64) < scan.bad {
+                self.tell_report(scan.reader.form, report);
+            }
+        }
+    }
+
+    /// Tells a bad value. If that fails too, only the status is left to tell.
+    fn tell_report(&self, form: Form, report: &Report) {
+        let mut text = Pending::new();
+        push_report(self.name, report.number, &report.bad, form, &mut text);
+        let _ = self.rt.stderr().write_all(text.as_slice());
+    }
 }
 
 /// Tells on standard error what is to be told at the end, and returns the exit status as far as it is

@@ -20,7 +20,7 @@ use crate::reading::{Form, Found};
 use crate::scan::Line;
 use speedate::{DateTime, DateTimeConfig, ParseError, TimeConfig, TimestampUnit};
 use speedate_stream::run::{RunError, run};
-use speedate_stream::{LineMachine, PENDING_MAX, Pending, Watched, push_bytes};
+use speedate_stream::{LineMachine, Observer, PENDING_MAX, Pending, Watched, push_bytes};
 use std::io::{Read, Write};
 
 /// No summary is longer.
@@ -319,10 +319,11 @@ impl LineMachine for Summary<'_> {
 /// Adds the lines of an input to a summary, and prints nothing.
 ///
 /// Fails with `RunError::Read` if a read fails, with `RunError::Write` if the flush does.
-pub fn add_lines<R: Read, W: Write>(
-    command: &mut Summary<'_>,
+pub fn add_lines<'a, R: Read, W: Write, O: Observer<Summary<'a>>>(
+    command: &mut Summary<'a>,
     input: &mut Watched<R>,
     output: &mut Watched<W>,
+    observer: &mut O,
 ) -> Result<(), RunError>
     // If neither end had failed before, one has failed if and only if the answer says so.
     ensures failed { input.old.failed ≡ false → output.old.failed ≡ false →
@@ -341,7 +342,7 @@ pub fn add_lines<R: Read, W: Write>(
         (R.remaining input.old.inner) (R.remaining input.new.inner)
         (W.contents output.old.inner) (W.contents output.new.inner) }
 {
-    match run(command, input, output) {
+    match run(command, input, output, observer) {
         Ok(()) => Ok(()),
         Err(error) => Err(error),
     }

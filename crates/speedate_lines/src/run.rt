@@ -9,7 +9,7 @@ ghost use Rattle.speedate_stream.specs.Run.{EndsBy};
 ghost use Rattle.speedate_stream.specs.Watch.{one_more};
 
 use crate::answer::Answering;
-use speedate_stream::Watched;
+use speedate_stream::{NoObserver, Watched};
 use speedate_stream::run::RunError;
 use std::io::{Read, Write};
 
@@ -55,7 +55,7 @@ pub fn run<R: Read, W: Write>(
         (W.contents output.old.inner) (W.contents output.new.inner) }
 {
     let mut machine = Answering;
-    match speedate_stream::run::run(&mut machine, input, output) {
+    match speedate_stream::run::run(&mut machine, input, output, &mut NoObserver) {
         Ok(()) => Ok(()),
         Err(error) => Err(error),
     }

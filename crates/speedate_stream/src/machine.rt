@@ -37,3 +37,17 @@ pub trait LineMachine {
         ensures rest { result ≡ machine.rest self.old head.now }
         ensures within { IfSome result (λ from. from ≤ length head.now) };
 }
+
+/// Watches a machine while it runs: a program that reports on standard error what the machine has noted.
+pub trait Observer<M> {
+    /// Is called before each read, when all that was due has been written.
+    fn before_read(&mut self, machine: &M);
+}
+
+/// Watches nothing.
+#[derive(Clone, Copy)]
+pub struct NoObserver;
+
+impl<M> Observer<M> for NoObserver {
+    fn before_read(&mut self, _machine: &M) {}
+}

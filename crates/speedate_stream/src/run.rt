@@ -13,7 +13,7 @@ ghost use Rattle.speedate_stream.specs.Run.{PrintsProgress, PrintsBeginning};
 ghost use Rattle.speedate_stream.specs.Watch.{one_more};
 
 use crate::buffer::{PENDING_MAX, Pending, STEP_MAX, push_bytes};
-use crate::machine::{HEAD_MAX, LINE_MAX, LineMachine};
+use crate::machine::{HEAD_MAX, LINE_MAX, LineMachine, Observer};
 use crate::watched::{Failed, Watched};
 use speedate::line_end;
 use std::io::{Read, Write};
@@ -46,15 +46,16 @@ struct Unfinished {
 /// wants no further line.
 ///
 /// A line is ended by a line feed or by the end of the input. What is printed for all complete lines
-/// that were read is written before the next read. Memory does not grow with a line: one of more than
-/// 4,096 bytes is printed as it comes, or its head is kept.
+/// that were read is written before the next read, and then the observer is called. Memory does not grow
+/// with a line: one of more than 4,096 bytes is printed as it comes, or its head is kept.
 ///
 /// Fails with `RunError::Read` if a read fails, with `RunError::Write` if a write fails, or the one
 /// flush at the end.
-pub fn run<M: LineMachine, R: Read, W: Write>(
+pub fn run<M: LineMachine, R: Read, W: Write, O: Observer<M>>(
     machine: &mut M,
     input: &mut Watched<R>,
     output: &mut Watched<W>,
+    observer: &mut O,
 ) -> Result<(), RunError>
     // If neither end had failed before the call, one has failed after it if and only if the answer
     // says so.
@@ -85,6 +86,7 @@ pub fn run<M: LineMachine, R: Read, W: Write>(
     let mut kept = 0;
     let mut passes = false;
     while !machine.is_done() {
+        observer.before_read(machine);
         let Ok(filled) = fill(input, &mut block, kept) else {
             return Err(RunError::Read);
         };
