@@ -8,7 +8,7 @@ use crate::{first_between, first_check, first_convert, first_order, first_summar
 use clap::ArgMatches;
 use ends::{Sink, Source};
 use rows::{CLOCKS, COMMANDS, LOG, OPTIONS};
-use speedate_stream::Watched;
+use speedate_stream::{NoObserver, Watched};
 use speedate_stream::run::RunError;
 use std::alloc::AllocError;
 use std::process::Abort;
@@ -57,7 +57,7 @@ fn run_command<'a, M: Session<'a>>(machine: &mut M, source: Source<'_>, sink: Si
     machine.begin(b"app.log");
     let mut input = Watched::new(source);
     let mut output = Watched::new(sink);
-    let mut result = machine.print(&mut input, &mut output);
+    let mut result = machine.print(&mut input, &mut output, &mut NoObserver);
     let mut sink = output.into_inner();
     if result != Err(RunError::Write) && write_end(machine, &mut sink).is_err() {
         result = Err(RunError::Write);
