@@ -19,7 +19,7 @@ use Rattle.speedate_civil.proofs.TimeLemmas.{nothing-after}
 
 -- a date with its letter, and then a time, that were appended one after another
 pub date_time-joined : (old first second date time : List ℕ)
-    → first ≡ old ++ (date ++ capital_t ∷ []) → second ≡ first ++ time
+    → first ≡ old ++ date ++ capital_t ∷ [] → second ≡ first ++ time
     → second ≡ old ++ (date ++ capital_t ∷ time)
 date_time-joined old first second date time one two = grind (arith, common_steps)
 
