@@ -1,9 +1,9 @@
 -- Where the fields of a line are.
-use Rattle.std.proofs.Common.{◌≡◌, ◌≢◌, ◌∙◌, ℕ, ◌+◌, ◌-◌, ◌<◌, ◌≤◌, zero, suc, Bool, List, [], ◌∷◌, length, drop, true, false, Option, Some, None, refl, ap, arith, get_or, length-drop}
+use Rattle.std.proofs.Common.{◌≡◌, ◌≢◌, ◌∙◌, ℕ, ◌+◌, ◌-◌, ◌<◌, ◌≤◌, zero, suc, Bool, List, [], ◌∷◌, length, take, drop, true, false, Option, Some, None, refl, ap, arith, get_or, length-drop}
 use Rattle.std.proofs.lemmas.Bool.Decides.{nat_tests}
 use Rattle.std.specs.Prelude.{◌==◌, nat_lt}
 use Rattle.std.specs.List.{position, position_or_len}
-use Rattle.std.proofs.lemmas.List.{drop_all}
+use Rattle.std.proofs.lemmas.List.{drop_all, take_rest}
 use Rattle.std.proofs.lemmas.List.Sums.{prefix_len-le-length}
 use Rattle.speedate_cli.specs.Field.{before_quote, field_after, field_at, next_separator}
 use Rattle.speedate_cli.proofs.WordLemmas.{parts_at}
@@ -106,6 +106,12 @@ no_separator_from separator text from within none =
     let all = no_separator (λ byte. byte == separator) (drop from text) none in
     let left = length-drop from text in
     omega (arith, all, left)
+
+pub no_separator_after : (separator : ℕ) (text : List ℕ) (from : ℕ) → from ≤ length text
+    → None ≡ position (λ byte. byte == separator) (take (length text - from) (drop from text))
+    → length text ≡ next_separator separator text from
+no_separator_after separator text from within none =
+    no_separator_from separator text from within (rw take_rest at none)
 
 -- The field after others.
 

@@ -40,7 +40,7 @@ word_later word (first ∷ rest) bytes byte parts later =
     rw later (ap (λ (l : List ℕ). moved_place 1 (end_of_word word l)) same)
 
 -- the bytes of a text from a byte on
-parts_at : (text : List ℕ) (place : ℕ) → place < length text
+pub parts_at : (text : List ℕ) (place : ℕ) → place < length text
     → drop place text ≡ (get_or text place 0 ∷ drop (place + 1) text)
 parts_at text place within = drop-cons text place 0 within ∙ rw add-one refl
 

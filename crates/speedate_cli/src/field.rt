@@ -89,7 +89,6 @@ fn ended(text: &[u8], from: usize, to: usize, separator: u8) -> Field
 }
 
 /// The byte of the quote that closes a field, from a byte of it on, or the text's end.
-#[tactic(auto, using(crate::proofs::FieldLemmas::quote_later, crate::proofs::FieldLemmas::quote_doubled, crate::proofs::FieldLemmas::quote_here, crate::proofs::FieldLemmas::quote_nowhere))]
 fn closing_quote(text: &[u8], from: usize) -> usize
     requires from { from ≤ length text.now }
     ensures quote { result ≡ closing_quote text.now from }
@@ -111,7 +110,7 @@ fn closing_quote(text: &[u8], from: usize) -> usize
 }
 
 /// The first separator from a byte of a text on, or the text's end.
-#[tactic(auto, using(crate::proofs::FieldLemmas::separator_from, crate::proofs::FieldLemmas::no_separator_from))]
+#[tactic(auto, using(crate::proofs::FieldLemmas::separator_from))]
 fn next_separator(text: &[u8], from: usize, separator: u8) -> usize
     requires from { from ≤ length text.now }
     ensures separator { result ≡ next_separator separator text.now from }
