@@ -212,8 +212,8 @@ fn push_instant(offset: Option<i32>, instant: i64, pending: &mut Pending)
     }
 }
 
-/// The date-time of a microsecond that has an offset in UTC, or if UTC has another year at that offset.
-/// Without an offset it is the one that a clock shows.
+/// The date-time by which a microsecond is shown: in UTC if it has an offset, but at its own offset if UTC
+/// is not in the years 0000 to 9999. Without an offset, as a clock shows it.
 #[tactic(auto, unfolding(crate::specs::Summary::shown_at))]
 fn shown_at(offset: Option<i32>, instant: i64) -> Result<DateTime, ParseError>
     ensures shown { result gives shown_at offset instant }
