@@ -4,6 +4,8 @@ use Rattle.std.specs.Result.{result_ok}
 use Rattle.speedate.specs.Base.{ParseError}
 use Rattle.speedate.specs.Date.{date_text}
 use Rattle.speedate.specs.DateTime.{DateAndTime, date_time_in_timezone, date_time_text}
+use Rattle.speedate.specs.DateTime.{date_time_text_with}
+use Rattle.speedate.specs.declared.FractionDigits.{FractionDigits}
 use Rattle.speedate_stream.specs.Machine.{Machine, head, rest_of}
 use Rattle.speedate_stream.specs.Watch.{one_more}
 use Rattle.speedate_cli.specs.Print.{prefix_text}
@@ -37,16 +39,21 @@ unfoldable pub written_value : Convert → List ℕ → Found → Result DateAnd
 written_value convert head found =
     written_from convert.target found (value_at convert.scan.reader head found.from)
 
+-- the text of a date-time, with so many digits of a second, or with all that are not 0
+abbrev pub text_with : Option FractionDigits → DateAndTime → List ℕ
+text_with None value = date_time_text value
+text_with (Some digits) value = date_time_text_with digits value
+
 -- the text of a value: a date for dates, otherwise a date-time
-unfoldable pub written_text : Form → DateAndTime → List ℕ
-written_text Form.Date value = date_text value.date
-written_text Form.DateTime value = date_time_text value
-written_text Form.Strict value = date_time_text value
+unfoldable pub written_text : Form → Option FractionDigits → DateAndTime → List ℕ
+written_text Form.Date digits value = date_text value.date
+written_text Form.DateTime digits value = text_with digits value
+written_text Form.Strict digits value = text_with digits value
 
 -- the text of a value, if there is one
-abbrev pub text_of : Form → Option DateAndTime → List ℕ
-text_of form (Some value) = written_text form value
-text_of form None = []
+abbrev pub text_of : Form → Option FractionDigits → Option DateAndTime → List ℕ
+text_of form digits (Some value) = written_text form digits value
+text_of form digits None = []
 
 -- a line whose value cannot be written is bad
 abbrev pub line_by_value : Found → Result DateAndTime Bad → Line
@@ -79,7 +86,7 @@ written_of convert head Line.Undated = None
 abbrev pub value_text : Convert → List ℕ → Line → List ℕ
 value_text convert head (Line.Value found) =
     take found.from head
-    ++ text_of convert.scan.reader.form (written_of convert head (Line.Value found))
+    ++ text_of convert.scan.reader.form convert.digits (written_of convert head (Line.Value found))
 value_text convert head Line.Late = []
 value_text convert head Line.Header = []
 value_text convert head (Line.Bad bad) = []
@@ -127,7 +134,7 @@ line_prefix convert =
 abbrev pub converted : Convert → List ℕ → Line → List ℕ
 converted convert line (Line.Value found) =
     line_prefix convert ++ take found.from (head line)
-    ++ text_of convert.scan.reader.form (written_of convert (head line) (Line.Value found))
+    ++ text_of convert.scan.reader.form convert.digits (written_of convert (head line) (Line.Value found))
     ++ rest_of (Some found.to) line
 converted convert line Line.Header = line_prefix convert ++ rest_of (Some 0) line
 converted convert line (Line.Bad bad) =

@@ -145,7 +145,7 @@ shown_at (Some offset) instant =
 
 -- the text of what can be shown
 abbrev pub shown_text : {E : Type 0} → Result DateAndTime E → List ℕ
-shown_text (Ok value) = written_text Form.DateTime value
+shown_text (Ok value) = written_text Form.DateTime None value
 shown_text (Err fault) = []
 
 -- the text of a value

@@ -6,7 +6,7 @@ ghost use Rattle.arrayvec.specs.ArrayVec.{array_vec_len};
 ghost use Rattle.speedate.specs.DateTime.{date_and_time};
 ghost use Rattle.speedate.specs.Requirement.{result_map};
 ghost use Rattle.speedate_cli.specs.Convert.{convert_line, convert_rest, convert_text, target_place};
-ghost use Rattle.speedate_cli.specs.Convert.{targeted, text_of, written_of, written_text};
+ghost use Rattle.speedate_cli.specs.Convert.{targeted, text_of, text_with, written_of, written_text};
 ghost use Rattle.speedate_cli.specs.Convert.{written_value};
 ghost use Rattle.speedate_cli.specs.Reading.{IsWithin, seen};
 ghost use Rattle.speedate_cli.specs.Scan.{IsFoundWithin};
@@ -17,7 +17,8 @@ ghost use Rattle.speedate_stream.specs.Run.{EndsBy, PrintsBeginning, PrintsProgr
 use crate::print::Prefix;
 use crate::reading::{Bad, Form, Found, Why};
 use crate::scan::{Line, Scan};
-use speedate::DateTime;
+use arrayvec::ArrayString;
+use speedate::{DateTime, FractionDigits};
 use speedate_stream::run::{RunError, run};
 use speedate_stream::{LineMachine, Observer, PENDING_MAX, Pending, STEP_MAX, Watched, push_bytes};
 use std::io::{Read, Write};
@@ -40,6 +41,8 @@ pub struct Convert<'a> {
     pub prefix: Prefix,
     /// At which offset values are written.
     pub target: Target,
+    /// With how many digits of a second, if not with all that are not 0.
+    pub digits: Option<FractionDigits>,
 }
 
 /// The byte to report of a value that cannot be written: the end of one without an offset, or else its
@@ -84,27 +87,47 @@ impl Target {
 
 /// Appends a value: a date for dates, otherwise a date-time.
 #[tactic(auto, unfolding(crate::specs::Convert::written_text))]
-pub fn push_value(form: Form, value: &DateTime, pending: &mut Pending)
+pub fn push_value(
+    form: Form,
+    digits: Option<FractionDigits>,
+    value: &DateTime,
+    pending: &mut Pending,
+)
     requires room { array_vec_len pending.old + 32 ≤ PENDING_MAX }
     ensures pushed { pending.new.items
-        ≡ pending.old.items ++ written_text form (date_and_time value.now) }
+        ≡ pending.old.items ++ written_text form digits (date_and_time value.now) }
     ensures length { array_vec_len pending.new ≤ array_vec_len pending.old + 32 }
 {
     match form {
         Form::Date => push_bytes(value.date.to_text().as_str().as_bytes(), pending),
-        _ => push_bytes(value.to_text().as_str().as_bytes(), pending),
+        _ => push_bytes(text_with(digits, value).as_str().as_bytes(), pending),
+    }
+}
+
+/// The text of a date-time, with so many digits of a second, or with all that are not 0.
+fn text_with(digits: Option<FractionDigits>, value: &DateTime) -> ArrayString<32>
+    ensures text { result.bytes ≡ text_with digits (date_and_time value.now) }
+{
+    match digits {
+        Some(digits) => value.to_text_with_digits(digits),
+        None => value.to_text(),
     }
 }
 
 /// Appends a value, if there is one.
-fn push_if_some(form: Form, value: &Option<DateTime>, pending: &mut Pending)
+fn push_if_some(
+    form: Form,
+    digits: Option<FractionDigits>,
+    value: &Option<DateTime>,
+    pending: &mut Pending,
+)
     requires room { array_vec_len pending.old + 32 ≤ PENDING_MAX }
     ensures pushed { pending.new.items
-        ≡ pending.old.items ++ text_of form (option_map date_and_time value.now) }
+        ≡ pending.old.items ++ text_of form digits (option_map date_and_time value.now) }
     ensures length { array_vec_len pending.new ≤ array_vec_len pending.old + 32 }
 {
     if let Some(value) = value {
-        push_value(form, value, pending);
+        push_value(form, digits, value, pending);
     }
 }
 
@@ -164,7 +187,7 @@ impl Convert<'_> {
             return Some(0);
         };
         push_bytes(before_value(head, found), pending);
-        push_if_some(self.scan.reader.form, value, pending);
+        push_if_some(self.scan.reader.form, self.digits, value, pending);
         Some(found.to)
     }
 }

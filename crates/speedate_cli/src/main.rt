@@ -90,11 +90,13 @@ fn first_check<'a>(given: &ArgMatches<'a>) -> Result<Check<'a>, Refusal> {
 
 /// The command `convert` before the first line.
 fn first_convert<'a>(given: &ArgMatches<'a>) -> Result<Convert<'a>, Refusal> {
-    let options = options::common(given, Error)?;
+    let digits = options::fraction_digits(given)?;
+    let options = options::common(given, if digits.is_some() { Truncate } else { Error })?;
     Ok(Convert {
         scan: first_scan(&options, Offsets::Any),
         prefix: options.prefix,
         target: options::target(given)?,
+        digits,
     })
 }
 

@@ -10,7 +10,7 @@ use crate::reading::{Form, Place, Reader};
 use crate::scan::{BadLines, Offsets, UndatedLines};
 use arrayvec::ArrayVec;
 use clap::{Arg, ArgAction, ArgMatches, Command};
-use speedate::{Date, DateTime, MicrosecondsPrecisionOverflowBehavior, Time};
+use speedate::{Date, DateTime, FractionDigits, MicrosecondsPrecisionOverflowBehavior, Time};
 use std::alloc::{AllocError, Global};
 
 /// What the command line asks for that every command has.
@@ -53,6 +53,9 @@ pub fn program<'a>(alloc: Global) -> Result<Command<'a>, AllocError> {
         .about("Prints each line with its value written anew, the other bytes as they are")
         .arg(valued(alloc, "to", "WHAT").help(
             "How a value is written: text, utc, or an offset +HH:MM [default: text]",
+        ))?
+        .arg(valued(alloc, "fraction", "N").help(
+            "Exactly 0, 3 or 6 digits of a second, rounded down; implies --digits truncate",
         ))?;
     let order = Command::new(alloc, "order").about(
         "Prints each value that is earlier than the one before, and by how much",
@@ -276,6 +279,17 @@ fn bad_lines(matches: &ArgMatches<'_>) -> Result<BadLines, Refusal> {
         Some("drop") => Ok(BadLines::Drop),
         Some("stop") => Ok(BadLines::Stop),
         _ => Err("--bad is keep, drop or stop"),
+    }
+}
+
+/// With how many digits of a second values are written, if not with all that are not 0.
+pub fn fraction_digits(matches: &ArgMatches<'_>) -> Result<Option<FractionDigits>, Refusal> {
+    match matches.get_str("fraction") {
+        None => Ok(None),
+        Some("0") => Ok(Some(FractionDigits::Zero)),
+        Some("3") => Ok(Some(FractionDigits::Three)),
+        Some("6") => Ok(Some(FractionDigits::Six)),
+        _ => Err("--fraction is 0, 3 or 6"),
     }
 }
 

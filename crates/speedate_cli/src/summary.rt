@@ -208,7 +208,7 @@ fn push_instant(offset: Option<i32>, instant: i64, pending: &mut Pending)
     ensures length { array_vec_len pending.new ≤ array_vec_len pending.old + 32 }
 {
     if let Ok(shown) = shown_at(offset, instant) {
-        push_value(Form::DateTime, &shown, pending);
+        push_value(Form::DateTime, None, &shown, pending);
     }
 }
 
