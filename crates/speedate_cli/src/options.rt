@@ -42,14 +42,39 @@ enum Prints {
 
 /// The program's command line.
 pub fn program<'a>(alloc: Global) -> Result<Command<'a>, AllocError> {
-    let between = Command::new(alloc, "between")
+    Command::new(alloc, "speedate")
+        .version("1.0.0")
+        .bin_name("speedate")?
+        .about("Selects, orders, converts, checks and sums up lines by their date-times")
+        .subcommand_required(true)
+        .arg_required_else_help(true)
+        .subcommand(between(alloc)?)?
+        .subcommand(check(alloc)?)?
+        .subcommand(convert(alloc)?)?
+        .subcommand(order(alloc)?)?
+        .subcommand(summary(alloc)?)
+}
+
+/// The command `between`.
+fn between<'a>(alloc: Global) -> Result<Command<'a>, AllocError> {
+    let command = Command::new(alloc, "between")
         .about("Prints the entries with FROM <= instant < TO; a bound of .. is open")
         .arg(bound(alloc, "FROM"))?
         .arg(bound(alloc, "TO"))?;
-    let check = Command::new(alloc, "check").about(
+    with_common(alloc, command, Prints::Lines)
+}
+
+/// The command `check`.
+fn check<'a>(alloc: Global) -> Result<Command<'a>, AllocError> {
+    let command = Command::new(alloc, "check").about(
         "Prints FILE:LINE:COLUMN: expected .. for each bad value",
     );
-    let convert = Command::new(alloc, "convert")
+    with_common(alloc, command, Prints::Reports)
+}
+
+/// The command `convert`.
+fn convert<'a>(alloc: Global) -> Result<Command<'a>, AllocError> {
+    let command = Command::new(alloc, "convert")
         .about("Prints each line with its value written anew, the other bytes as they are")
         .arg(valued(alloc, "to", "WHAT").help(
             "How a value is written: text, utc, or an offset +HH:MM [default: text]",
@@ -57,23 +82,23 @@ pub fn program<'a>(alloc: Global) -> Result<Command<'a>, AllocError> {
         .arg(valued(alloc, "fraction", "N").help(
             "Exactly 0, 3 or 6 digits of a second, rounded down; implies --digits truncate",
         ))?;
-    let order = Command::new(alloc, "order").about(
+    with_common(alloc, command, Prints::Lines)
+}
+
+/// The command `order`.
+fn order<'a>(alloc: Global) -> Result<Command<'a>, AllocError> {
+    let command = Command::new(alloc, "order").about(
         "Prints each value that is earlier than the one before, and by how much",
     );
-    let summary = Command::new(alloc, "summary").about(
+    with_common(alloc, command, Prints::Reports)
+}
+
+/// The command `summary`.
+fn summary<'a>(alloc: Global) -> Result<Command<'a>, AllocError> {
+    let command = Command::new(alloc, "summary").about(
         "Prints how many lines and values there are, the first, the last and the longest gap",
     );
-    Command::new(alloc, "speedate")
-        .version("1.0.0")
-        .bin_name("speedate")?
-        .about("Selects, orders, converts, checks and sums up lines by their date-times")
-        .subcommand_required(true)
-        .arg_required_else_help(true)
-        .subcommand(with_common(alloc, between, Prints::Lines)?)?
-        .subcommand(with_common(alloc, check, Prints::Reports)?)?
-        .subcommand(with_common(alloc, convert, Prints::Lines)?)?
-        .subcommand(with_common(alloc, order, Prints::Reports)?)?
-        .subcommand(with_common(alloc, summary, Prints::Reports)?)
+    with_common(alloc, command, Prints::Reports)
 }
 
 /// A command with what every command takes.
