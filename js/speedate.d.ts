@@ -142,6 +142,9 @@ export type DateTimeColumnOptions = DateTimeOptions & ColumnOptions;
 export type DateTimePartColumnOptions = DateTimeFormOptions & ColumnOptions;
 export type TimeColumnOptions = StrictOptions & ColumnOptions;
 export type DurationColumnOptions = DurationOptions & ColumnOptions;
+export type FrontColumnOptions = OverflowOptions & MissingOffsetOptions & ColumnOptions;
+/** The number of each line and the size of its front. */
+export type FrontColumn<Numbers> = { readonly numbers: Numbers; readonly sizes: Int32Array };
 /** Reads a column in pieces, which may end anywhere: `read` gives the numbers of the lines that end in a piece, and keeps the line
  * that does not. `end` gives the numbers of the lines that are left, also in a last piece. Indices count from the first piece on. Once a call has
  * thrown for a line, or `end` was called, each further call is a TypeError. With a list of refusals, `refused` is how many lines were
@@ -168,6 +171,11 @@ export function dateTimeClockColumn(text: Text, options: DateTimePartColumnOptio
 /** The seconds of the offset of each date-time: 7200 of `1970-01-01T01:00+02:00`, and -2147483648 for a refused line, as one
  * without an offset is. A timestamp has `timestampOffset`. */
 export function dateTimeOffsetColumn(text: Text, options?: DateTimePartColumnOptions): Int32Array;
+/** The date-time at the front of each line, whatever follows it: its number, as `dateTimeColumn` has it, and its size in bytes, which is
+ * 0 for a refused line. */
+export function dateTimeFrontColumn(text: Text, options?: FrontColumnOptions & { unit?: "ms" }): FrontColumn<Float64Array>;
+export function dateTimeFrontColumn(text: Text, options: FrontColumnOptions & { unit: "us" }): FrontColumn<BigInt64Array>;
+export function dateTimeFrontColumn(text: Text, options: FrontColumnOptions & { unit?: "ms" | "us" }): FrontColumn<Float64Array | BigInt64Array>;
 /** The milliseconds after midnight that the clock of each time shows, as `dateTimeClockColumn` does for date-times. */
 export function timeColumn(text: Text, options?: TimeColumnOptions & { unit?: "ms" }): Float64Array;
 export function timeColumn(text: Text, options: TimeColumnOptions & { unit: "us" }): BigInt64Array;
@@ -190,6 +198,9 @@ export function dateTimeClockColumnReader(options?: DateTimePartColumnOptions & 
 export function dateTimeClockColumnReader(options: DateTimePartColumnOptions & { unit: "us" }): ColumnReader<BigInt64Array>;
 export function dateTimeClockColumnReader(options: DateTimePartColumnOptions & { unit?: "ms" | "us" }): ColumnReader<Float64Array | BigInt64Array>;
 export function dateTimeOffsetColumnReader(options?: DateTimePartColumnOptions): ColumnReader<Int32Array>;
+export function dateTimeFrontColumnReader(options?: FrontColumnOptions & { unit?: "ms" }): ColumnReader<FrontColumn<Float64Array>>;
+export function dateTimeFrontColumnReader(options: FrontColumnOptions & { unit: "us" }): ColumnReader<FrontColumn<BigInt64Array>>;
+export function dateTimeFrontColumnReader(options: FrontColumnOptions & { unit?: "ms" | "us" }): ColumnReader<FrontColumn<Float64Array | BigInt64Array>>;
 export function timeColumnReader(options?: TimeColumnOptions & { unit?: "ms" }): ColumnReader<Float64Array>;
 export function timeColumnReader(options: TimeColumnOptions & { unit: "us" }): ColumnReader<BigInt64Array>;
 export function timeColumnReader(options: TimeColumnOptions & { unit?: "ms" | "us" }): ColumnReader<Float64Array | BigInt64Array>;

@@ -19,7 +19,7 @@ const LINE_FEED = 10;
 const CARRIAGE_RETURN = 13;
 /** The addresses of a column, which is read in the place of a text. */
 const COLUMN = { config: PLACE.text, progress: PLACE.text + 8, numbers: PLACE.text + 32 };
-COLUMN.errors = COLUMN.numbers + 8 * LINES_AT_ONCE;
+COLUMN.errors = COLUMN.numbers + 16 * LINES_AT_ONCE;
 COLUMN.text = COLUMN.errors + LINES_AT_ONCE;
 /** The sizes of the strings that are copied unit by unit, as C takes them. */
 const SHORT_SIZES = Array.from({ length: 65 }, (_, size) => BigInt(size));
@@ -569,8 +569,13 @@ const callDateFront = ({ calls }, size) =>
   calls.speedate_date_parse_or_part_front(address.text, size, address.out, address.taken, address.part);
 const callTimeFront = (library, size, it) =>
   library.calls.speedate_time_parse_or_part_front(address.text, size, putConfig(library, it), address.out, address.taken, address.part);
-const callDateTimeFront = (library, size, it) =>
-  library.calls.speedate_datetime_parse_or_part_front(address.text, size, putConfig(library, it), address.out, address.taken, address.part);
+const callDateTimeFront = (library, size, it, text = address.text) =>
+  library.calls.speedate_datetime_parse_or_part_front(text, size, putConfig(library, it), address.out, address.taken, address.part);
+/** The code of a line of fronts that is refused, if only since its date-time has no offset. */
+function callFrontOfLine(library, size, it, text) {
+  const code = callDateTimeFront(library, size, it, text);
+  return code === 0 ? withOffset(library, library.view.getBigUint64(PLACE.taken, true), { missingOffset: MISSING.error }) : code;
+}
 
 // Options come first, since a getter among them may call this too.
 function codeOfDate(text, options) {
@@ -752,6 +757,16 @@ function millisecondsAt(view, at) {
 const INTEGERS = { Numbers: Int32Array, numberAt: (view, at) => view.getInt32(at, true) };
 const MILLISECONDS = { Numbers: Float64Array, numberAt: millisecondsAt };
 const MICROSECONDS = { Numbers: BigInt64Array, numberAt: (view, at) => view.getBigInt64(at, true) };
+/** A front has its number, and then its size in 8 bytes. */
+const FRONT_SIZE = 16;
+/** How the lines of a column are returned: `take` copies some of them out of the memory, and `join` makes one answer of such parts. */
+const asNumbers = (numbers) => ({ take: (view, lines) => numbersIn(view, lines, numbers), join: (parts) => concatenated(parts, numbers.Numbers) });
+const asFronts = (numbers) => ({
+  take: (view, lines) => ({
+    numbers: numbersIn(view, lines, numbers, COLUMN.numbers, FRONT_SIZE), sizes: numbersIn(view, lines, INTEGERS, COLUMN.numbers + 8, FRONT_SIZE),
+  }),
+  join: (parts) => ({ numbers: concatenated(parts.map((it) => it.numbers), numbers.Numbers), sizes: concatenated(parts.map((it) => it.sizes), Int32Array) }),
+});
 
 /** A column that comes in pieces. The first `size` bytes of `unfinished` are a line that has not ended, and `half` is half a pair that
  * ended a string. */
@@ -827,7 +842,7 @@ function readLines(column, isEnd, parts, refusals) {
       const index = column.lines + lines;
       throw Object.assign(new SpeedateError(faultOf(error, column.kind)), { ...partOfLine(library, next, end, column, error), index });
     }
-    parts.push(numbersIn(view, lines, column));
+    parts.push(column.take(view, lines));
     if (hasErrors) addRefusals(refusals, bytes.subarray(COLUMN.errors, COLUMN.errors + lines), column);
     column.lines += lines;
     at = next;
@@ -838,9 +853,9 @@ function readLines(column, isEnd, parts, refusals) {
   column.size = end - at;
 }
 
-function numbersIn(view, lines, { Numbers, numberAt }) {
+function numbersIn(view, lines, { Numbers, numberAt }, from = COLUMN.numbers, step = Numbers.BYTES_PER_ELEMENT) {
   const numbers = new Numbers(lines);
-  for (let i = 0; i < lines; i++) numbers[i] = numberAt(view, COLUMN.numbers + i * Numbers.BYTES_PER_ELEMENT);
+  for (let i = 0; i < lines; i++) numbers[i] = numberAt(view, from + i * step);
   return numbers;
 }
 
@@ -881,7 +896,7 @@ function readPiece(column, text, isEnd) {
   if (isEnd) readLines(column, true, parts, refusals);
   for (const it of refusals) column.numbers.refusals.push(it);
   column.hasEnded = isEnd;
-  return concatenated(parts, column.Numbers);
+  return column.join(parts);
 }
 
 /** Throws if the unfinished line is longer than `maxLineBytes`. */
@@ -906,14 +921,17 @@ const beginner = (name, callLine, kindsBy, names, handedOutBy) => (options) => {
   start();
   return columnOf(name, callLine, kindsBy(numbers), handedOutBy(numbers), numbers);
 };
-const asIntegers = () => INTEGERS;
-const inUnit = ({ unit }) => (unit === 1 ? MICROSECONDS : MILLISECONDS);
+const asIntegers = () => asNumbers(INTEGERS);
+const unitOf = ({ unit }) => (unit === 1 ? MICROSECONDS : MILLISECONDS);
+const inUnit = (options) => asNumbers(unitOf(options));
 const always = (it) => () => it;
 const instantOrUtc = ({ missingOffset }) => (missingOffset === MISSING.utc ? KINDS.dateTime : KINDS.instant);
 const newDateColumn = beginner("date_column", callDate, always(KINDS.date), OPTIONS_OF.date, asIntegers);
 const newDateTimeColumn = beginner("datetime_column", callDateTime, instantOrUtc, [...OPTIONS_OF.dateTime, "unit"], inUnit);
 const newDateTimeClockColumn = beginner("datetime_clock_column", callDateTime, always(KINDS.dateTime), [...OF_DATE_TIME, "unit"], inUnit);
 const newDateTimeOffsetColumn = beginner("datetime_offset_column", callDateTime, always(KINDS.instant), OF_DATE_TIME, asIntegers);
+const newDateTimeFrontColumn =
+  beginner("datetime_front_column", callFrontOfLine, instantOrUtc, [...OPTIONS_OF.front, "missingOffset", "unit"], (options) => asFronts(unitOf(options)));
 const newTimeColumn = beginner("time_column", callTime, always(KINDS.time), [...OPTIONS_OF.time, "unit"], inUnit);
 const newTimeOffsetColumn = beginner("time_offset_column", callTime, always(KINDS.offset), OPTIONS_OF.time, asIntegers);
 const newDurationColumn = beginner("duration_column", callDuration, always(KINDS.duration), [...OPTIONS_OF.duration, "unit"], inUnit);
@@ -937,6 +955,9 @@ export function dateTimeClockColumn(text, options) {
 export function dateTimeOffsetColumn(text, options) {
   return readPiece(newDateTimeOffsetColumn(options), text, true);
 }
+export function dateTimeFrontColumn(text, options) {
+  return readPiece(newDateTimeFrontColumn(options), text, true);
+}
 export function timeColumn(text, options) {
   return readPiece(newTimeColumn(options), text, true);
 }
@@ -957,6 +978,9 @@ export function dateTimeClockColumnReader(options) {
 }
 export function dateTimeOffsetColumnReader(options) {
   return readerOf(newDateTimeOffsetColumn(options));
+}
+export function dateTimeFrontColumnReader(options) {
+  return readerOf(newDateTimeFrontColumn(options));
 }
 export function timeColumnReader(options) {
   return readerOf(newTimeColumn(options));

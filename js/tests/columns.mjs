@@ -6,8 +6,9 @@ import { setTimeout as sleep } from "node:timers/promises";
 import { setFlagsFromString } from "node:v8";
 import { runInNewContext } from "node:vm";
 import {
-  addDays, dateColumn, dateColumnReader, dateTimeClockColumn, dateTimeClockColumnReader, dateTimeColumn, dateTimeColumnReader, dateTimeFromTimestamp, dateTimeOffsetColumn,
-  dateTimeOffsetColumnReader, daysBetween, durationColumn, durationColumnReader, durationFromMicroseconds, epochMilliseconds, format, inTimezone, parseDate, parseDateTime, safeParseDate, safeParseDateTime,
+  addDays, dateColumn, dateColumnReader, dateTimeClockColumn, dateTimeClockColumnReader, dateTimeColumn, dateTimeColumnReader, dateTimeFromTimestamp, dateTimeFrontColumn, dateTimeFrontColumnReader,
+  dateTimeOffsetColumn,
+  dateTimeOffsetColumnReader, daysBetween, durationColumn, durationColumnReader, durationFromMicroseconds, epochMilliseconds, format, inTimezone, parseDate, parseDateTime, safeParseDate, safeParseDateTime, safeParseDateTimeFront,
   safeParseDuration, safeParseTime, SpeedateError, textColumn, timeColumn,
   timeColumnReader, timeFromTimestamp, timeOffsetColumn, timeOffsetColumnReader, toDate,
 } from "speedate";
@@ -205,6 +206,36 @@ for (const [i, it] of dateTimeColumn(lines.join("\n"), { unit: "us" }).entries()
   const of = (call) => thrown(call)?.fault ?? call().getTime();
   assert.equal(of(() => dateOf(toDate, dateTimeFromTimestamp, it)), of(() => toDate(inTimezone(parseDateTime(lines[i]), 0))), lines[i]);
 }
+
+// ---- Fronts of lines: beside the front of each ----
+
+const fronts = { accepted: 0, refused: 0 };
+for (let i = 0; i < 2000; i++) {
+  const { overflow, missingOffset, unit } = anyOf({ missingOffset: [undefined, "error", "utc"], ...OVERFLOW, ...UNIT });
+  const text = Array.from({ length: below(8) }, () => digits(one(DATE_TIMES)) + one(["", " GET /", "x", "0", " \u{1f600}", ",Z"]) + one(LINE_ENDS)).join("");
+  const expected = linesOf(text).map((line, index) => {
+    const { ok, value: front, ...refusal } = safeParseDateTimeFront(Buffer.from(line), { overflow });
+    const refused = { number: unit === "us" ? TOO_FEW_MICROSECONDS : NaN, size: 0 };
+    if (!ok) return { ...refused, refusal: { index, fault: refusal.fault } };
+    if (front.value.offsetSeconds === null && missingOffset !== "utc") return { ...refused, refusal: { index, fault: "tz_required" } };
+    return { number: moment(Buffer.from(line).subarray(0, front.size).toString(), { overflow, missingOffset, unit }).number, size: front.size };
+  });
+  const numbers = byUnit({ unit }).from(expected, (it) => it.number);
+  const sizes = Int32Array.from(expected, (it) => it.size);
+  const faults = expected.flatMap(({ refusal }) => (refusal ? [refusal] : []));
+  fronts.refused += faults.length;
+  fronts.accepted += sizes.length - faults.length;
+  const refusals = [];
+  assert.deepEqual(dateTimeFrontColumn(text, { overflow, missingOffset, unit, refusals }), { numbers, sizes }, text);
+  assert.deepEqual(refusals.map((it) => [it.index, it.fault]), faults.map((it) => [it.index, it.fault]), text);
+  const [at, reader] = [below(text.length + 1), dateTimeFrontColumnReader({ overflow, missingOffset, unit, refusals: [] })];
+  const parts = [reader.read(text.slice(0, at)), reader.read(text.slice(at)), reader.end()];
+  assert.deepEqual(parts.flatMap((it) => [...it.numbers]), [...numbers], text);
+  assert.deepEqual(parts.flatMap((it) => [...it.sizes]), [...sizes], text);
+  const { fault, place, end, index } = thrown(() => dateTimeFrontColumn(text, { overflow, missingOffset, unit })) ?? {};
+  if (faults.length > 0) assert.deepEqual([index, fault, place <= end], [faults[0].index, faults[0].fault, true], text);
+}
+assert.ok(fronts.accepted > 1000 && fronts.refused > 1000, JSON.stringify(fronts));
 
 // ---- Columns in print: beside the text of each value, and read again ----
 

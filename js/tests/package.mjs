@@ -35,7 +35,7 @@ const ofDuration = [duration, [...noValue, date, time, dateTime]];
 const ofDateTime = [dateTime, [...noValue, date, time, duration]];
 const ofMove = [[dateTime, [...noValue, time, duration]], ofDuration];
 const ofColumn = [["", noText], [undefined, noOptions]];
-const columns = ["dateColumn", "dateTimeColumn", "dateTimeClockColumn", "dateTimeOffsetColumn", "timeColumn", "timeOffsetColumn", "durationColumn"];
+const columns = ["dateColumn", "dateTimeColumn", "dateTimeClockColumn", "dateTimeOffsetColumn", "dateTimeFrontColumn", "timeColumn", "timeOffsetColumn", "durationColumn"];
 const CALLS = {
   ...Object.fromEntries(readers.map((it) => [it, [["x", noText], [undefined, noOptions]]])),
   dateFromTimestamp: ofTimestamp, timeFromTimestamp: ofTimestamp, dateTimeFromTimestamp: ofTimestamp,
@@ -124,6 +124,7 @@ const OF_COLUMNS = { maxLineBytes: noSizes, maxRefusals: noSizes, missingOffset:
 const OF_DATE_TIMES = ["timestamps", "overflow", "strict", "timestampOffset"];
 const columnOptions = {
   dateColumn: ["timestamps"], dateTimeColumn: [...OF_DATE_TIMES, "missingOffset", "unit"], dateTimeClockColumn: [...OF_DATE_TIMES, "unit"], dateTimeOffsetColumn: OF_DATE_TIMES,
+  dateTimeFrontColumn: ["overflow", "missingOffset", "unit"],
   timeColumn: ["overflow", "strict", "unit"], timeOffsetColumn: ["overflow", "strict"], durationColumn: ["overflow", "isoOrder", "unit"],
 };
 assert.deepEqual(Object.keys(columnOptions), columns);
@@ -135,7 +136,8 @@ for (const [name, its] of Object.entries(columnOptions)) {
     const wrong = has.includes(option) ? (OF_COLUMNS[option] ?? OPTIONS[option][1]) : [true, "s", "error", 0];
     for (const it of wrong) for (const call of [speedate[name], (_, options) => speedate[`${name}Reader`](options)])
       assert.throws(() => call("", { ...besides, [option]: it }), isNamed);
-    assert.equal(speedate[name]("", { [option]: undefined }).length, 0);
+    const none = speedate[name]("", { [option]: undefined });
+    assert.equal((none.numbers ?? none).length, 0);
   }
 }
 assert.throws(() => speedate.dateTimeColumn("", { strict: true, timestamps: "s" }), /strict and timestamps/);

@@ -79,6 +79,15 @@ const uses: Record<keyof typeof speedate, unknown> = {
     ((it: BigInt64Array): bigint => it[0])(speedate.timeColumn("12:13:14Z", { strict: true, unit: "us", refusals })),
   ],
   timeOffsetColumn: same<Int32Array, ReturnType<typeof speedate.timeOffsetColumn>>(true, speedate.timeOffsetColumn("12:13Z", { overflow: "error", refusals })),
+  dateTimeFrontColumn: [
+    ((it: Float64Array): number => it[0])(speedate.dateTimeFrontColumn("1970-01-01T00:00 x", { missingOffset: "utc", overflow: "truncate", unit: "ms" }).numbers),
+    ((it: BigInt64Array): bigint => it[0])(speedate.dateTimeFrontColumn(bytes, { unit: "us", refusals, maxRefusals: 1 }).numbers),
+    ((it: Int32Array): number => it[0])(speedate.dateTimeFrontColumn("1970-01-01T00:00Z x").sizes),
+  ],
+  dateTimeFrontColumnReader: [
+    ((it: speedate.FrontColumn<Float64Array>): number => it.numbers.length)(speedate.dateTimeFrontColumnReader().read(new Uint8Array(0))),
+    ((it: speedate.FrontColumn<BigInt64Array>): bigint => it.numbers[0])(speedate.dateTimeFrontColumnReader({ unit: "us" }).end("1970-01-01T00:00Z x")),
+  ],
   dateTimeClockColumnReader: [
     ((it: Float64Array): number => it.length)(speedate.dateTimeClockColumnReader().read(new Uint8Array(0))),
     ((it: BigInt64Array): bigint => it[0])(speedate.dateTimeClockColumnReader({ unit: "us" }).end("1970-01-01T00:00")),
@@ -161,6 +170,8 @@ const refused = [
   () => speedate.dateTimeClockColumn("", { missingOffset: "utc" }),
   // @ts-expect-error
   () => speedate.dateTimeOffsetColumn("", { unit: "us" }),
+  // @ts-expect-error
+  () => speedate.dateTimeFrontColumn("", { strict: true }),
   // @ts-expect-error
   () => [time].map(speedate.format),
   // @ts-expect-error

@@ -2,7 +2,8 @@
 use Rattle.std.specs.Prelude.{ℕ, ℤ, pos, Option, Some, None, Result, if◌then◌else◌}
 use Rattle.std.specs.Ordering.{int_eq}
 use Rattle.speedate.specs.Base.{ParseError}
-use Rattle.speedate.specs.Time.{FractionDigits, new_time_answer, TimeOfDay}
+use Rattle.speedate.specs.Time.{new_time_answer, TimeOfDay}
+use Rattle.speedate.specs.declared.FractionDigits.{FractionDigits}
 use Rattle.speedate.specs.Requirement.{result_and_then, result_map}
 use Rattle.speedate_c.specs.Config.{offset_answer}
 use Rattle.speedate_c.specs.declared.time.SpeedateTime.{SpeedateTime}

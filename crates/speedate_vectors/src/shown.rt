@@ -20,13 +20,18 @@ duration   P364DT1H0.1205S
 duration   -P2739725Y1DT0.000001S";
 
 /// Times, and their texts with zero digits, three and six.
-const DIGITS: &str = "\
+const TIMES: &str = "\
 12:13:14.678901+01:30  12:13:14+01:30  12:13:14.678+01:30  12:13:14.678901+01:30
 12:13:14               12:13:14        12:13:14.000        12:13:14.000000
-12:13:14.5Z            12:13:14Z       12:13:14.500Z       12:13:14.500000Z
 23:59:59.999999-23:59  23:59:59-23:59  23:59:59.999-23:59  23:59:59.999999-23:59
 00:00:00.012003        00:00:00        00:00:00.012        00:00:00.012003
 00:00:00.000999        00:00:00        00:00:00.000        00:00:00.000999";
+
+/// The same of date-times.
+const DATE_TIMES: &str = "\
+2020-02-29T12:13:14.5Z      2020-02-29T12:13:14Z  2020-02-29T12:13:14.500Z  2020-02-29T12:13:14.500000Z
+0000-01-01T00:00            0000-01-01T00:00:00   0000-01-01T00:00:00.000   0000-01-01T00:00:00.000000
+9999-12-31T23:59:59.9996    9999-12-31T23:59:59   9999-12-31T23:59:59.999   9999-12-31T23:59:59.999600";
 
 /// What `{}` writes is to be the text, and an error where there is no room.
 pub fn expect_written<T: Display, R: AllocGlobal + Abort>(rt: &R, value: &T, want: &str) {
@@ -59,22 +64,30 @@ fn texts(rt: HostRuntime) {
 }
 
 #[test]
-fn digits(rt: HostRuntime) {
-    for row in DIGITS.lines() {
+fn digits_of_times(rt: HostRuntime) {
+    for row in TIMES.lines() {
         let [time, zero, three, six, ..] = words(row);
         let time: Time = parsed(&rt, time);
-        let date = parsed::<Date, _>(&rt, "2020-02-29");
-        let value = DateTime { date, time };
-        for (digits, want) in [
-            (FractionDigits::Zero, zero),
-            (FractionDigits::Three, three),
-            (FractionDigits::Six, six),
-        ] {
-            same(&rt, time.to_text_with_digits(digits).as_str(), want, row);
-            let text = value.to_text_with_digits(digits);
-            let (first, clock) = text.as_str().split_at(11);
-            same(&rt, (first, clock), ("2020-02-29T", want), row);
-        }
+        let text = time.to_text_with_digits(FractionDigits::Zero);
+        same(&rt, text.as_str(), zero, row);
+        let text = time.to_text_with_digits(FractionDigits::Three);
+        same(&rt, text.as_str(), three, row);
+        let text = time.to_text_with_digits(FractionDigits::Six);
+        same(&rt, text.as_str(), six, row);
+    }
+}
+
+#[test]
+fn digits_of_date_times(rt: HostRuntime) {
+    for row in DATE_TIMES.lines() {
+        let [value, zero, three, six, ..] = words(row);
+        let value: DateTime = parsed(&rt, value);
+        let text = value.to_text_with_digits(FractionDigits::Zero);
+        same(&rt, text.as_str(), zero, row);
+        let text = value.to_text_with_digits(FractionDigits::Three);
+        same(&rt, text.as_str(), three, row);
+        let text = value.to_text_with_digits(FractionDigits::Six);
+        same(&rt, text.as_str(), six, row);
     }
 }
 
