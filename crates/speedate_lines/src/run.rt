@@ -9,8 +9,8 @@ ghost use Rattle.speedate_stream.specs.Run.{EndsBy};
 ghost use Rattle.speedate_stream.specs.Watch.{one_more};
 
 use crate::answer::Answering;
-use speedate_stream::{NoObserver, Watched};
 use speedate_stream::run::RunError;
+use speedate_stream::{NoObserver, Watched};
 use std::io::{Read, Write};
 
 /// Answers each line of the input, up to its end.
