@@ -4,8 +4,8 @@ use speedate::{
     CallKind, ConfigError, Date, DateConfig, DateConfigBuilder, DatePrinter, DateReader, DateTime,
     DateTimeClockPrinter, DateTimeClockReader, DateTimeConfig, DateTimeConfigBuilder,
     DateTimeFront, DateTimeFrontReader, DateTimeOffsetReader, DateTimeParser, DateTimePrinter,
-    DateTimeReader, Decimal, Duration, DurationPrinter, DurationReader, DurationSum, FractionDigits,
-    IntFloat, IsoOrder, LineConfig, LineError, LinePrinter, LineReader,
+    DateTimeReader, Decimal, Duration, DurationPrinter, DurationReader, DurationSum,
+    FractionDigits, IntFloat, IsoOrder, LineConfig, LineError, LinePrinter, LineReader,
     MicrosecondsPrecisionOverflowBehavior, Moment, ParseError, Progress, Refused, Time, TimeConfig,
     TimeConfigBuilder, TimeOffsetReader, TimeParser, TimePrinter, TimeReader, TimestampUnit,
 };
@@ -48,7 +48,15 @@ fn each_type_has_its_traits() {
     is_printer::<DateTimeClockPrinter>();
     is_printer::<TimePrinter>();
     is_printer::<DurationPrinter>();
-    is_value::<(LineError, Refused, DurationSum, DateTimeFront, FractionDigits)>();
+    is_value::<
+        (
+            LineError,
+            Refused,
+            DurationSum,
+            DateTimeFront,
+            FractionDigits,
+        ),
+    >();
     is_value::<(Date, Time, DateTime, Duration, Moment)>();
     is_choice::<TimestampUnit>();
     is_choice::<MicrosecondsPrecisionOverflowBehavior>();
