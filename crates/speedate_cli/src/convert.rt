@@ -8,7 +8,7 @@ ghost use Rattle.speedate.specs.Requirement.{result_map};
 ghost use Rattle.speedate_cli.specs.Convert.{convert_line, convert_rest, convert_text, target_place};
 ghost use Rattle.speedate_cli.specs.Convert.{targeted, text_of, text_with, written_of, written_text};
 ghost use Rattle.speedate_cli.specs.Convert.{written_value};
-ghost use Rattle.speedate_cli.specs.Reading.{IsWithin, seen};
+ghost use Rattle.speedate_cli.specs.Reading.{IsWithin};
 ghost use Rattle.speedate_cli.specs.Scan.{IsFoundWithin};
 ghost use Rattle.speedate_cli.specs.Convert.{convert_lines, convert_machine};
 ghost use Rattle.speedate_cli.specs.Runs.{EndsWith};
