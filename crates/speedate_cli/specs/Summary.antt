@@ -136,8 +136,8 @@ clock_at offset instant = do
       (clock_microsecond offset instant)
   date_time_with_offset offset value
 
--- the date-time by which a microsecond is shown: in UTC if it has an offset, but at its own offset if
--- UTC is not in the years 0000 to 9999; without an offset, as a clock shows it
+-- the date-time by which a microsecond is shown: in UTC if it has an offset, but at its own offset
+-- if UTC is not in the years 0000 to 9999; without an offset, as a clock shows it
 unfoldable pub shown_at : Option ℤ → ℤ → Result DateAndTime ParseError
 shown_at None instant = clock_at None instant
 shown_at (Some offset) instant =

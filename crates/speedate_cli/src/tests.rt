@@ -8,8 +8,8 @@ use crate::{first_between, first_check, first_convert, first_order, first_summar
 use clap::ArgMatches;
 use ends::{Sink, Source};
 use rows::{CLOCKS, COMMANDS, LOG, OPTIONS};
-use speedate_stream::{NoObserver, Watched};
 use speedate_stream::run::RunError;
+use speedate_stream::{NoObserver, Watched};
 use std::alloc::AllocError;
 use std::process::Abort;
 
