@@ -1,11 +1,11 @@
 -- A column, line by line.
-use Rattle.std.proofs.Common.{Bool, ◌≡◌, ◌∙◌, ap, sym, refl, ℕ, zero, suc, ◌+◌, ◌-◌, ◌≤◌, List, [], ◌∷◌, ◌++◌, length, take, drop, set, add-one, append_assoc, arith, Option, Some, None, Result, Ok, Err}
+use Rattle.std.proofs.Common.{Bool, false, ◌≡◌, ◌∙◌, ap, sym, refl, ℕ, zero, suc, ◌+◌, ◌-◌, ◌≤◌, List, [], ◌∷◌, ◌++◌, length, take, drop, set, add-one, append_assoc, arith, Option, Some, None, Result, Ok, Err}
 use Rattle.std.proofs.Math.Seq.{take-nil}
-use Rattle.std.proofs.lemmas.List.{take-append-drop, drop-drop, drop-take, length-take, length-take-le}
+use Rattle.std.proofs.lemmas.List.{take-append-drop, drop-drop, drop-take, length-drop, length-take, length-take-le}
 use Rattle.speedate.specs.declared.column.Line.{Line}
-use Rattle.speedate.specs.Lines.{whole_lines}
-use Rattle.speedate.specs.Column.{Column, IsFirstLine, LineConfig, LineError, entry, onto_column}
-use Rattle.speedate.specs.Column.{column, line_answer, text_column, overwritten}
+use Rattle.speedate.specs.Lines.{unfinished_line, whole_lines}
+use Rattle.speedate.specs.Column.{Column, IsFirstLine, IsFirstLineOf, LineConfig, LineError, entry}
+use Rattle.speedate.specs.Column.{column, line_answer, onto_column, text_column, overwritten}
 
 -- nothing put over a list
 overwritten-nil : {N : Type 0} → (old : List N) → overwritten old [] ≡ old
@@ -65,6 +65,16 @@ pub record IsSoFar {N : Type 0} (whole left : Column N) (lines : ℕ) (out_old o
   pub errors : overwritten errors_old whole.errors
       ≡ take lines errors_new ++ overwritten (drop lines errors_new) left.errors
 
+-- before the first line
+pub IsSoFar-none : {N : Type 0} → (whole left : Column N) (out : List N) (errors : List ℕ)
+    → whole ≡ left → IsSoFar whole left 0 out out errors errors
+IsSoFar-none {N = N} whole left out errors same = record {
+  count = ap (λ (all : Column N). length all.numbers) same ∙ omega arith;
+  fault = ap (λ (all : Column N). all.fault) same;
+  numbers = ap (λ (all : Column N). overwritten out all.numbers) same;
+  errors = ap (λ (all : Column N). overwritten errors all.errors) same;
+}
+
 -- after one more line
 pub IsSoFar-more : {N : Type 0}
     → (whole left rest : Column N) (lines next : ℕ) (out_old out out_new : List N)
@@ -122,16 +132,16 @@ IsSoFar-whole {N = N} whole left fault lines out_old out errors_old errors befor
 
 -- The column of a text from its first line on.
 
--- with room for more lines than one, the first line is put before the column of the rest
+-- with room for more lines than one, what is held of the first line is put before the column of the
+-- rest
 pub text_column-first : {N : Type 0}
     → (answer : List ℕ → Result N LineError) (config : LineConfig) (refused : Option N)
-    (room more : ℕ) (text : List ℕ) (line : Line N)
-    → IsFirstLine answer config text line → room ≡ more + 1
+    (room more : ℕ) (text : List ℕ) (line : Line N) (held : Result (N × ℕ) LineError)
+    → IsFirstLine answer config text line → room ≡ more + 1 → held ≡ entry refused line.answer
     → text_column answer config refused room text
-    ≡ onto_column (entry refused line.answer)
-    (text_column answer config refused more (drop line.size text))
+    ≡ onto_column held (text_column answer config refused more (drop line.size text))
 unfolding text_column
-text_column-first {N = N} answer config refused room more text line found one =
+text_column-first {N = N} answer config refused room more text line held found one is =
     let rest = text_column answer config refused more (drop line.size text) in
     let of_line = line_answer answer config in
     let of_lines = λ (all : List (List ℕ)). column of_line refused (take (suc more) all) in
@@ -140,24 +150,9 @@ text_column-first {N = N} answer config refused room more text line found one =
     ∙ ap of_lines found.first.lines
     ∙ ap (λ (read : List ℕ). of_answer (answer read)) found.first.is_read
     ∙ ap of_answer (sym found.answered)
+    ∙ ap (λ (held : Result (N × ℕ) LineError). onto_column held rest) (sym is)
 
--- the same from a place on, where the column holds something of that line
-pub text_column-more : {N : Type 0}
-    → (answer : List ℕ → Result N LineError) (config : LineConfig) (refused : Option N)
-    (room more bytes : ℕ) (text : List ℕ) (line : Line N) (held : N × ℕ)
-    → IsFirstLine answer config (drop bytes text) line → room ≡ more + 1
-    → entry refused line.answer ≡ Ok held
-    → text_column answer config refused room (drop bytes text)
-    ≡ onto_column (Ok held) (text_column answer config refused more (drop (bytes + line.size) text))
-text_column-more {N = N} answer config refused room more bytes text line held found one is =
-    let column_of = text_column answer config refused more in
-    let rest = column_of (drop line.size (drop bytes text)) in
-    let after = drop-drop line.size bytes text in
-    text_column-first answer config refused room more (drop bytes text) line found one
-    ∙ ap (λ (kept : Result (N × ℕ) LineError). onto_column kept rest) is
-    ∙ ap (λ (left : List ℕ). onto_column (Ok held) (column_of left)) after
-
--- without room, without a whole line, or with an error that ends it, it is empty
+-- without room, or without a whole line, it is empty
 pub text_column-full : {N : Type 0}
     → (answer : List ℕ → Result N LineError) (config : LineConfig) (refused : Option N) (room : ℕ)
     (text : List ℕ)
@@ -178,17 +173,6 @@ unfolding text_column
 text_column-none answer config refused room text none =
     ap (λ (all : List (List ℕ)). column (line_answer answer config) refused (take room all)) none
     ∙ ap (column (line_answer answer config) refused) (take-nil room)
-
-pub text_column-ended : {N : Type 0}
-    → (answer : List ℕ → Result N LineError) (config : LineConfig) (refused : Option N)
-    (room more : ℕ) (text : List ℕ) (line : Line N) (fault : LineError)
-    → IsFirstLine answer config text line → room ≡ more + 1 → entry refused line.answer ≡ Err fault
-    → text_column answer config refused room text
-    ≡ record { numbers = []; errors = []; fault = Some fault }
-text_column-ended {N = N} answer config refused room more text line fault found one ended =
-    let rest = text_column answer config refused more (drop line.size text) in
-    text_column-first answer config refused room more text line found one
-    ∙ ap (λ (held : Result (N × ℕ) LineError). onto_column held rest) ended
 
 -- it has no more lines than there is room for
 onto_column-short : {N : Type 0} → (held : Result (N × ℕ) LineError) (rest : Column N) (room : ℕ)
@@ -274,16 +258,43 @@ text_column-written {N = N} answer config refused old text lines counted =
     let short = text_column-short answer config refused (length old) text in
     overwritten-rest old new short ∙ ap (λ (n : ℕ). new ++ drop n old) (sym counted)
 
--- the rest of a text after one more whole line
-pub rest-more : (at_end : Bool) (text first : List ℕ) (bytes size lines next : ℕ)
-    → whole_lines at_end (drop bytes text) ≡ drop lines (whole_lines at_end text)
-    → whole_lines at_end (drop bytes text)
-    ≡ first ∷ whole_lines at_end (drop size (drop bytes text))
-    → next ≡ lines + 1
-    → whole_lines at_end (drop (bytes + size) text) ≡ drop next (whole_lines at_end text)
-rest-more at_end text first bytes size lines next before is counted =
-    let all : List (List ℕ) = whole_lines at_end text in
-    ap (whole_lines at_end) (sym (drop-drop size bytes text))
-    ∙ ap (λ (list : List (List ℕ)). drop 1 list) (sym is ∙ before)
-    ∙ drop-drop 1 lines all
-    ∙ ap (λ (n : ℕ). drop n all) (sym counted)
+-- what is left of a text after so many of its whole lines
+pub record IsLeft (at_end : Bool) (text rest : List ℕ) (lines : ℕ) : Type 0 where
+  pub place : drop (length text - length rest) text ≡ rest
+  pub whole : whole_lines at_end (drop (length text - length rest) text)
+      ≡ drop lines (whole_lines at_end text)
+  pub unfinished : at_end ≡ false
+      → unfinished_line (drop (length text - length rest) text) ≡ unfinished_line text
+
+pub IsLeft-all : (at_end : Bool) (text : List ℕ) → IsLeft at_end text text 0
+IsLeft-all at_end text =
+    let none : length text - length text ≡ 0 = omega arith in
+    let place : drop (length text - length text) text ≡ text = ap (λ (n : ℕ). drop n text) none in
+    record {
+      place = place;
+      whole = ap (whole_lines at_end) place;
+      unfinished = λ goes_on. ap unfinished_line place;
+    }
+
+pub IsLeft-more : (config : LineConfig) (text rest read : List ℕ) (size lines : ℕ)
+    → length rest ≤ length text → IsLeft config.at_end text rest lines
+    → IsFirstLineOf config rest read size
+    → IsLeft config.at_end text (drop size rest) (lines + 1)
+IsLeft-more config text rest read size lines within before found =
+    let bytes : ℕ = length text - length rest in
+    let after : List ℕ = drop size rest in
+    let cut : length text - length after ≡ bytes + size =
+    omega (arith, length-drop size rest, within, found.within) in
+    let place : drop (length text - length after) text ≡ after =
+    ap (λ (n : ℕ). drop n text) cut
+    ∙ sym (drop-drop size bytes text)
+    ∙ ap (drop size) before.place in
+    let all = ap (whole_lines config.at_end) (sym before.place) ∙ before.whole in
+    record {
+      place = place;
+      whole = ap (whole_lines config.at_end) place
+          ∙ ap (λ (list : List (List ℕ)). drop 1 list) (sym found.lines ∙ all)
+          ∙ drop-drop 1 lines (whole_lines config.at_end text);
+      unfinished = λ goes_on. ap unfinished_line place ∙ found.unfinished goes_on
+          ∙ ap unfinished_line (sym before.place) ∙ before.unfinished goes_on;
+    }

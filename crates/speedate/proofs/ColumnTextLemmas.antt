@@ -1,13 +1,13 @@
 -- The text of a column, line by line.
-use Rattle.std.proofs.Common.{Bool, true, false, ◌≡◌, ◌≢◌, ◌∙◌, ap, sym, refl, ℕ, ◌+◌, ◌-◌, ◌<◌, ◌≤◌, List, [], ◌∷◌, ◌++◌, length, take, drop, get_or, map, append_assoc, append-nil, arith, Option, Some, None, Result, Ok, Err}
+use Rattle.std.proofs.Common.{Bool, true, false, ◌≡◌, ◌≢◌, ◌∙◌, ap, sym, refl, ℕ, ◌+◌, ◌-◌, ◌<◌, ◌≤◌, List, [], ◌∷◌, ◌++◌, length, take, drop, get_or, map, append_assoc, append-nil, arith, Some, Result, Ok, Err}
 use Rattle.std.proofs.Math.Seq.{take-append_seam, drop-append_seam}
-use Rattle.std.proofs.lemmas.List.{length-append, length-take-le, map-append, take_all, take-append-drop, drop-drop}
-use Rattle.std.proofs.lemmas.Bool.{lt-ltb, le-ltb}
+use Rattle.std.proofs.lemmas.List.{length-append, length-take-le, map-append, take_all, drop-drop}
+use Rattle.std.proofs.lemmas.Bool.{lt-ltb}
 use Rattle.std.proofs.lemmas.List.Elements.{All-from_get_or}
 use Rattle.speedate_base.specs.Ascii.{HasNoControl, carriage_return, line_feed}
 use Rattle.speedate.specs.Column.{Column, LineConfig, LineError, column, entry, line_answer}
 use Rattle.speedate.specs.Column.{onto_column, text_column}
-use Rattle.speedate.specs.ColumnText.{ColumnText, column_text, no_lines, number_or, onto_lines}
+use Rattle.speedate.specs.ColumnText.{ColumnText, column_text, number_or, onto_lines}
 use Rattle.speedate.specs.Lines.{Pieces, complete_lines, last_line, lines, pieces}
 use Rattle.speedate.specs.Lines.{unfinished_line, whole_lines}
 use Rattle.speedate.proofs.LineLemmas.{EndsNoLine, IsFree, pieces-append, pieces-line}
@@ -189,35 +189,3 @@ pub column_text-more : {N : Type 0} → (line_of : N → Result (List ℕ) LineE
     ≡ onto_lines line (column_text line_of (room - (length line + 1)) numbers)
 column_text-more line_of room number numbers line is fits =
     rw (is, lt-ltb (length line) room fits) refl
-
-pub column_text-full : {N : Type 0} → (line_of : N → Result (List ℕ) LineError) (room : ℕ)
-    (number : N) (numbers : List N) (line : List ℕ) → line_of number ≡ Ok line
-    → room ≤ length line → column_text line_of room (number ∷ numbers) ≡ no_lines None
-column_text-full line_of room number numbers line is full =
-    rw (is, le-ltb (length line) room full) refl
-
-pub column_text-ended : {N : Type 0} → (line_of : N → Result (List ℕ) LineError) (room : ℕ)
-    (number : N) (numbers : List N) (fault : LineError) → line_of number ≡ Err fault
-    → column_text line_of room (number ∷ numbers) ≡ no_lines (Some fault)
-column_text-ended line_of room number numbers fault is = rw is refl
-
--- the whole text, where the text of what is left has no line
-pub whole-printed : (whole left : ColumnText) (lines bytes : ℕ) (out_old out : List ℕ)
-    (fault : Option LineError)
-    → IsPrintedSoFar whole left lines bytes out_old out → left ≡ no_lines fault
-    → bytes ≤ length out
-    → (out ≡ whole.text ++ drop bytes out_old) × (bytes ≡ length whole.text)
-    × (lines ≡ whole.lines) × (fault ≡ whole.fault)
-whole-printed whole left lines bytes out_old out fault so_far none within =
-    let front : List ℕ = take bytes out in
-    let text : whole.text ≡ front =
-    so_far.text
-    ∙ ap (λ (all : ColumnText). front ++ all.text) none
-    ∙ append-nil front in (
-      sym (take-append-drop bytes out)
-          ∙ ap (λ (list : List ℕ). list ++ drop bytes out) (sym text)
-          ∙ ap (λ (list : List ℕ). whole.text ++ list) so_far.kept,
-      sym (length-take-le bytes out within) ∙ ap length (sym text),
-      omega (arith, so_far.count, ap (λ (all : ColumnText). all.lines) none),
-      sym (so_far.fault ∙ ap (λ (all : ColumnText). all.fault) none),
-    )

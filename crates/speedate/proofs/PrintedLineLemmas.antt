@@ -10,24 +10,22 @@ use Rattle.speedate_base.specs.Ascii.{HasNoControl, space}
 use Rattle.speedate_base.specs.Requirement.{result_and_then}
 use Rattle.speedate_base.specs.Offset.{IsWholeMinutes}
 use Rattle.speedate_civil.specs.Calendar.{Ymd, IsDate, days_between}
-use Rattle.speedate_civil.specs.Date.{date_front, date_text}
+use Rattle.speedate_civil.specs.Date.{date_text}
 use Rattle.speedate_civil.specs.DateTime.{DateAndTime, IsDateAndTime, date_time_front}
 use Rattle.speedate_civil.specs.DateTime.{date_time_text, local_microsecond, local_second}
 use Rattle.speedate_civil.specs.DateTime.{utc_microsecond}
-use Rattle.speedate_civil.specs.Time.{IsTime, TimeOfDay, microsecond_of_day, time_front, time_text}
+use Rattle.speedate_civil.specs.Time.{IsTime, TimeOfDay, microsecond_of_day, time_text}
 use Rattle.speedate_civil.specs.Time.{timestamp_answer}
-use Rattle.speedate_civil.proofs.DateLemmas.{date_text-front, date_text-reads}
+use Rattle.speedate_civil.proofs.DateLemmas.{date_text-reads}
 use Rattle.speedate_civil.proofs.DateTimeLemmas.{date_time_text-front, date_time_text-reads}
-use Rattle.speedate_civil.proofs.NoControlLemmas.{date_front-no_control, time_front-no_control}
 use Rattle.speedate_civil.proofs.NoControlLemmas.{date_time_front-no_control}
-use Rattle.speedate_civil.proofs.TimeLemmas.{nothing-after, time_text-front, time_text-reads}
-use Rattle.speedate.specs.declared.column.date.DateReader.{DateReader}
+use Rattle.speedate_civil.proofs.TimeLemmas.{nothing-after, time_text-reads}
 use Rattle.speedate.specs.declared.column.date_time.DateTimeParser.{DateTimeParser}
-use Rattle.speedate.specs.Column.{LineError, as_number, clock_number, date_number}
+use Rattle.speedate.specs.Column.{LineError, as_number, clock_number}
 use Rattle.speedate.specs.Column.{date_time_number, date_time_of_line, epoch, taken_answer}
 use Rattle.speedate.specs.Column.{with_offset}
 use Rattle.speedate.specs.ColumnText.{IsRelaxed, IsShownLine, ReadsClocks, ReadsDates}
-use Rattle.speedate.specs.ColumnText.{ReadsDateTimes, ReadsTimes, least_of_32_bits}
+use Rattle.speedate.specs.ColumnText.{ReadsDateTimes, ReadsTimes}
 use Rattle.speedate.specs.ColumnText.{least_of_64_bits, number_or}
 use Rattle.speedate_base.specs.Ascii.{capital_d, capital_h, capital_m, capital_p, capital_s}
 use Rattle.speedate_base.specs.Ascii.{capital_t, capital_y, digit_zero, full_stop, hyphen}
@@ -53,13 +51,6 @@ whole-no_control {A = A} answer text value is printed =
 
 -- Dates.
 
-pub date_text-no_control : (date : Ymd) → IsDate date
-    → HasNoControl (length (date_text date)) (date_text date)
-date_text-no_control date valid =
-    let text = date_text date in
-    let front = sym (ap date_front (append-nil text)) ∙ date_text-front date [] valid in
-    whole-no_control (date_front text) text date front (date_front-no_control text)
-
 pub date-reads : (answer : List ℕ → Result ℤ LineError) (refused number : ℤ) (date : Ymd)
     → ReadsDates answer refused → IsDate date → days_between epoch date ≡ number
     → number_or refused (answer (date_text date)) ≡ number
@@ -70,17 +61,6 @@ date-reads answer refused number date reads valid counted =
     ∙ ap (number_or refused)
     (date_number-of_date reader line date (date_text-reads date valid))
     ∙ counted
-
-no_date : (reader : DateReader) (refused : ℤ) → number_or refused (date_number reader []) ≡ refused
-no_date DateReader.Text refused = refl
-no_date (DateReader.OrTimestamp config) refused = refl
-
-pub no_date-reads : (answer : List ℕ → Result ℤ LineError) (refused number : ℤ)
-    → ReadsDates answer refused → number ≡ least_of_32_bits
-    → number_or refused (answer []) ≡ number
-no_date-reads answer refused number reads least =
-    ap (λ (answer : List ℕ → Result ℤ LineError). number_or refused (answer [])) reads.1
-    ∙ no_date reads.0 refused ∙ reads.2 ∙ sym least
 
 -- Date-times.
 
@@ -199,15 +179,6 @@ clock-reads answer refused number line reads shown =
 
 -- Times.
 
-pub time_text-no_control : (time : TimeOfDay) → IsTime time → IsWholeMinutes time.offset
-    → HasNoControl (length (time_text time)) (time_text time)
-time_text-no_control time valid whole =
-    let text = time_text time in
-    let front = sym (ap (time_front Behavior.Error) (append-nil text))
-    ∙ time_text-front Behavior.Error time [] valid whole (nothing-after time) in
-    whole-no_control (time_front Behavior.Error text) text time front
-    (time_front-no_control Behavior.Error text)
-
 pub time-reads : (answer : List ℕ → Result ℤ LineError) (refused number : ℤ) (time : TimeOfDay)
     → ReadsTimes answer refused → IsTime time → IsWholeMinutes time.offset
     → pos (microsecond_of_day time) ≡ number
@@ -220,13 +191,6 @@ time-reads answer refused number time reads valid whole counted =
     (as_number (λ time. pos (microsecond_of_day time)) read))
     (time_text-reads behavior time valid whole)
     ∙ counted
-
-pub no_time-reads : (answer : List ℕ → Result ℤ LineError) (refused number : ℤ)
-    → ReadsTimes answer refused → number ≡ least_of_64_bits
-    → number_or refused (answer []) ≡ number
-no_time-reads answer refused number reads least =
-    ap (λ (answer : List ℕ → Result ℤ LineError). number_or refused (answer [])) reads.1
-    ∙ reads.2 ∙ sym least
 
 -- Durations.
 

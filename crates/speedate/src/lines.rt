@@ -55,8 +55,11 @@ fn line_feeds(lanes: u8x16) -> u64
 pub(crate) fn without_return(line: &[u8], drops: bool) -> &[u8]
     ensures line { result.now ≡ without_return drops line.now }
 {
+    if !drops {
+        return line;
+    }
     let last = line.len().saturating_sub(1);
-    if drops && byte_at(line, last) == b'\r' {
+    if byte_at(line, last) == b'\r' {
         &line[..last]
     } else {
         line

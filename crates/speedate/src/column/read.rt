@@ -109,12 +109,12 @@ fn fill<R: LineReader>(
         → unfinished_line (drop result.bytes text.now) ≡ unfinished_line text.now }
 {
     let mut lines = 0;
-    let mut bytes = 0;
+    let mut rest = text;
     while lines < out.len() {
-        let Some(line) = first_line(&text[bytes..], config, reader) else {
+        let Some(line) = first_line(rest, config, reader) else {
             return Progress {
                 lines,
-                bytes,
+                bytes: text.len() - rest.len(),
                 error: None,
             };
         };
@@ -122,18 +122,18 @@ fn fill<R: LineReader>(
             Ok(entry) => entry,
             Err(error) => return Progress {
                 lines,
-                bytes,
+                bytes: text.len() - rest.len(),
                 error: Some(error),
             },
         };
         out[lines] = number;
         put(errors, lines, code);
         lines += 1;
-        bytes += line.size;
+        rest = &rest[line.size..];
     }
     Progress {
         lines,
-        bytes,
+        bytes: text.len() - rest.len(),
         error: None,
     }
 }
@@ -224,9 +224,11 @@ fn size_with_end(text: &[u8], size: usize, config: LineConfig) -> Option<usize>
     if size == text.len() {
         return config.at_end.then_some(size);
     }
-    match text[size] {
-        b'\n' => Some(size + 1),
-        b'\r' if config.drops_returns && byte_at(text, size + 1) == b'\n' => Some(size + 2),
-        _ => None,
+    if text[size] == b'\n' {
+        return Some(size + 1);
     }
+    if config.drops_returns && text[size] == b'\r' && byte_at(text, size + 1) == b'\n' {
+        return Some(size + 2);
+    }
+    None
 }

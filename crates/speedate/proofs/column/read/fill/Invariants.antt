@@ -1,7 +1,6 @@
-use Rattle.std.proofs.Common.{◌≡◌, ◌-◌, ◌≤◌, false, length, drop}
+use Rattle.std.proofs.Common.{◌≤◌, ◌-◌, length}
 use Rattle.speedate.specs.Column.{text_column}
-use Rattle.speedate.specs.Lines.{unfinished_line, whole_lines}
-use Rattle.speedate.proofs.ColumnLemmas.{IsSoFar}
+use Rattle.speedate.proofs.ColumnLemmas.{IsLeft, IsSoFar}
 use Rattle.speedate.proofs.column.read.fill.Given as goal
 
 -- what is written so far and the column of the lines that are left make the whole column
@@ -10,13 +9,10 @@ invariant-loop-lines g l =
     let answer = g.R.LineReader.answer l.reader in
     record {
       room : l.lines ≤ length l.out;
-      within : l.bytes ≤ length l.text;
-      rest : whole_lines l.config.at_end (drop l.bytes l.text) ≡ drop l.lines
-          (whole_lines l.config.at_end l.text);
-      unfinished : l.config.at_end ≡ false
-          → unfinished_line (drop l.bytes l.text) ≡ unfinished_line l.text;
+      within : length l.rest ≤ length l.text;
+      left : IsLeft l.config.at_end l.text l.rest l.lines;
       so_far : IsSoFar (text_column answer l.config l.refused (length l.initial.out) l.text)
-          (text_column answer l.config l.refused (length l.out - l.lines) (drop l.bytes l.text))
+          (text_column answer l.config l.refused (length l.out - l.lines) l.rest)
           l.lines l.initial.out l.out l.initial.errors l.errors;
     }
 
