@@ -9,7 +9,7 @@ use Rattle.speedate.specs.declared.FractionDigits.{FractionDigits}
 use Rattle.speedate_stream.specs.Machine.{Machine, head, rest_of}
 use Rattle.speedate_stream.specs.Watch.{one_more}
 use Rattle.speedate_cli.specs.Print.{prefix_text}
-use Rattle.speedate_cli.specs.Reading.{Bad, Form, Found, Why, value_at}
+use Rattle.speedate_cli.specs.Reading.{Bad, Form, Found, Why, value_of}
 use Rattle.speedate_cli.specs.Scan.{Line, is_stopped, keeps, line_of, passed}
 pub use Rattle.speedate_cli.specs.declared.convert.Target.{Target}
 pub use Rattle.speedate_cli.specs.declared.convert.Convert.{Convert}
@@ -37,7 +37,7 @@ written_from target found (Err bad) = Err bad
 -- the value of a line as it is written, or what is bad about it
 unfoldable pub written_value : Convert → List ℕ → Found → Result DateAndTime Bad
 written_value convert head found =
-    written_from convert.target found (value_at convert.scan.reader head found.from)
+    written_from convert.target found (value_of convert.scan.reader head found)
 
 -- the text of a date-time, with so many digits of a second, or with all that are not 0
 abbrev pub text_with : Option FractionDigits → DateAndTime → List ℕ
