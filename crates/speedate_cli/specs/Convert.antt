@@ -134,7 +134,8 @@ line_prefix convert =
 abbrev pub converted : Convert → List ℕ → Line → List ℕ
 converted convert line (Line.Value found) =
     line_prefix convert ++ take found.from (head line)
-    ++ text_of convert.scan.reader.form convert.digits (written_of convert (head line) (Line.Value found))
+    ++ text_of convert.scan.reader.form convert.digits
+    (written_of convert (head line) (Line.Value found))
     ++ rest_of (Some found.to) line
 converted convert line Line.Header = line_prefix convert ++ rest_of (Some 0) line
 converted convert line (Line.Bad bad) =
