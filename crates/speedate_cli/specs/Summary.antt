@@ -176,7 +176,7 @@ gap_length name from to = name ++ duration_between from to
 unfoldable pub gap_end : Gap → List ℕ
 gap_end gap = codes " before " ++ line_place gap.to.name.now gap.to.number ++ line_feed ∷ []
 
-unfoldable pub gap_text : Gap → List ℕ
+abbrev pub gap_text : Gap → List ℕ
 gap_text gap =
     gap_length (codes "longest gap ") gap.from gap.to.instant ++ gap_end gap
 

@@ -263,7 +263,6 @@ fn push_longest(longest: &Option<Gap<'_>>, pending: &mut Pending)
 }
 
 /// Appends how long a gap is, and where it ends: `longest gap PT10S before app.log:7`, and a line feed.
-#[tactic(auto, unfolding(crate::specs::Summary::gap_text), using(std::proofs::Common::append_assoc))]
 fn push_gap(gap: &Gap<'_>, pending: &mut Pending)
     requires room { array_vec_len pending.old + 4169 ≤ PENDING_MAX }
     ensures pushed { pending.new.items ≡ pending.old.items ++ gap_text gap.now }
