@@ -170,15 +170,14 @@ named_text name (Some value) =
     name ++ instant_text value.offset value.instant ++ line_feed ∷ []
 
 -- a line with how long a gap is, and where its second value stands
-unfoldable pub gap_length : List ℕ → ℤ → ℤ → List ℕ
-gap_length name from to = name ++ duration_between from to
+unfoldable pub gap_length : List ℕ → Gap → List ℕ
+gap_length name gap = name ++ duration_between gap.from gap.to.instant
 
 unfoldable pub gap_end : Gap → List ℕ
 gap_end gap = codes " before " ++ line_place gap.to.name.now gap.to.number ++ line_feed ∷ []
 
 abbrev pub gap_text : Gap → List ℕ
-gap_text gap =
-    gap_length (codes "longest gap ") gap.from gap.to.instant ++ gap_end gap
+gap_text gap = gap_length (codes "longest gap ") gap ++ gap_end gap
 
 unfoldable pub longest_text : Option Gap → List ℕ
 longest_text None = []

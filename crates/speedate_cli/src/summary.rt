@@ -268,19 +268,19 @@ fn push_gap(gap: &Gap<'_>, pending: &mut Pending)
     ensures pushed { pending.new.items ≡ pending.old.items ++ gap_text gap.now }
     ensures length { array_vec_len pending.new ≤ array_vec_len pending.old + 4169 }
 {
-    push_gap_length(b"longest gap ", gap.from, gap.to.instant, pending);
+    push_gap_length(b"longest gap ", gap, pending);
     push_gap_end(gap, pending);
 }
 
 /// Appends how long a gap is, after a name: `longest gap PT10S`.
 #[tactic(auto, unfolding(crate::specs::Summary::gap_length), using(std::proofs::Common::append_assoc))]
-fn push_gap_length(name: &[u8], from: i64, to: i64, pending: &mut Pending)
+fn push_gap_length(name: &[u8], gap: &Gap<'_>, pending: &mut Pending)
     requires room { array_vec_len pending.old + length name.now + 31 ≤ PENDING_MAX }
-    ensures pushed { pending.new.items ≡ pending.old.items ++ gap_length name.now from to }
+    ensures pushed { pending.new.items ≡ pending.old.items ++ gap_length name.now gap.now }
     ensures length { array_vec_len pending.new ≤ array_vec_len pending.old + length name.now + 31 }
 {
     push_bytes(name, pending);
-    push_duration_text(from, to, pending);
+    push_duration_text(gap.from, gap.to.instant, pending);
 }
 
 /// Appends where a gap ends: ` before app.log:7`, and a line feed.
