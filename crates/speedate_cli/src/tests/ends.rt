@@ -27,20 +27,20 @@ impl<'a> Source<'a> {
             calls: 0,
         }
     }
+}
 
-    /// How many bytes the next call gives of some that there is room for.
-    fn part(&mut self, room: usize) -> usize {
-        let most = self.step.min(room);
-        for count in 1..most {
-            let is_cut = self.cuts % 2 == 1;
-            self.cuts /= 2;
-            if is_cut {
-                return count;
-            }
+/// How many bytes a call gives of some that there is room for, and of at most `step`.
+fn part(step: usize, room: usize, cuts: &mut u32) -> usize {
+    let most = step.min(room);
+    for count in 1..most {
+        let is_cut = *cuts % 2 == 1;
+        *cuts /= 2;
+        if is_cut {
+            return count;
         }
-        self.cuts /= 2;
-        most
     }
+    *cuts /= 2;
+    most
 }
 
 impl Read for Source<'_> {
@@ -51,7 +51,7 @@ impl Read for Source<'_> {
             return Err(io::Error::from(ErrorKind::Interrupted));
         }
         let room = self.rest.len().min(buffer.len());
-        let count = self.part(room).min(room);
+        let count = part(self.step, room, &mut self.cuts).min(room);
         buffer[..count].copy_from_slice(&self.rest[..count]);
         self.rest = &self.rest[count..];
         Ok(count)
