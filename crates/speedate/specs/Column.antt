@@ -6,7 +6,7 @@ use Rattle.speedate_base.specs.Ascii.{carriage_return}
 use Rattle.speedate_base.specs.Config.{time_choices}
 use Rattle.speedate_base.specs.Fault.{fault_number}
 use Rattle.speedate_base.specs.Part.{part_end}
-use Rattle.speedate_base.specs.Refused.{Refused, placed, refused_place}
+use Rattle.speedate_base.specs.Refused.{placed, refused_place}
 use Rattle.speedate_base.specs.Requirement.{◌else_fault◌, ◌>>=◌, first_fault_or, result_and_then}
 use Rattle.speedate_civil.specs.Calendar.{Ymd, days_between}
 use Rattle.speedate_civil.specs.Date.{date_answer, date_answer_or, date_or_timestamp}
@@ -254,31 +254,26 @@ duration_number reader line =
     let chosen = time_choices reader.config in
     number_of_duration (duration_answer chosen.order chosen.behavior line)
 
--- Readers: the place for which a line is refused.
-
--- the place of a text that is refused, or another one, where the text is accepted and its number
--- is refused
-abbrev pub refused_place_or : {A : Type 0} → ℕ → Result A Refused → ℕ
-refused_place_or other answer = unwrap_or (refused_place answer) other
+-- Readers: the place for which a line is refused: the place of a text that is refused. If the text
+-- is accepted, its number is refused.
 
 -- the place of a line in a column of dates
 abbrev pub date_place : DateReader → List ℕ → ℕ
-date_place DateReader.Text line = refused_place_or (length line) (date_answer_or placed line)
+date_place DateReader.Text line =
+    unwrap_or (refused_place (date_answer_or placed line)) (length line)
 date_place (DateReader.OrTimestamp config) line =
-    refused_place_or (length line) (date_or_timestamp_or placed config.timestamp_unit line)
+    unwrap_or (refused_place (date_or_timestamp_or placed config.timestamp_unit line))
+    (length line)
 
--- the date-time of a line, or the error with its place
-abbrev pub date_time_or_refused : DateTimeParser → List ℕ → Result DateAndTime Refused
-date_time_or_refused (DateTimeParser.Text config) line =
-    date_time_answer_or placed (time_choices config).behavior line
-date_time_or_refused (DateTimeParser.OrTimestamp config) line =
-    date_time_by_config_or placed config line
-date_time_or_refused (DateTimeParser.Strict behavior) line =
-    strict_date_time_answer_or placed behavior line
-
--- the place of a line in a column of date-times: its end, where an offset is missing
+-- the place of a line in a column of date-times: its end, if an offset is missing
 abbrev pub date_time_place : DateTimeParser → List ℕ → ℕ
-date_time_place parser line = refused_place_or (length line) (date_time_or_refused parser line)
+date_time_place (DateTimeParser.Text config) line =
+    unwrap_or (refused_place (date_time_answer_or placed (time_choices config).behavior line))
+    (length line)
+date_time_place (DateTimeParser.OrTimestamp config) line =
+    unwrap_or (refused_place (date_time_by_config_or placed config line)) (length line)
+date_time_place (DateTimeParser.Strict behavior) line =
+    unwrap_or (refused_place (strict_date_time_answer_or placed behavior line)) (length line)
 
 -- how many bytes the value at the front of a text takes; 0 if there is none
 abbrev pub front_size : {A E : Type 0} → Result (A × ℕ) E → ℕ
@@ -286,27 +281,25 @@ front_size (Ok front) = front.1
 front_size (Err refusal) = 0
 
 -- the place of a line in a column of date-times at the front of lines: the end of the date-time,
--- where an offset is missing
+-- if an offset is missing
 abbrev pub front_place : Behavior → List ℕ → ℕ
 front_place behavior line =
-    refused_place_or (front_size (date_time_front behavior line))
-    (date_time_front_or placed behavior line)
+    unwrap_or (refused_place (date_time_front_or placed behavior line))
+    (front_size (date_time_front behavior line))
 
 abbrev pub date_time_front_place : DateTimeFrontReader → List ℕ → ℕ
 date_time_front_place reader line = front_place (time_choices reader.config).behavior line
 
--- the time of a line, or the error with its place
-abbrev pub time_or_refused : TimeParser → List ℕ → Result TimeOfDay Refused
-time_or_refused (TimeParser.Text config) line =
-    time_answer_or placed (time_choices config).behavior line
-time_or_refused (TimeParser.Strict behavior) line = strict_time_answer_or placed behavior line
-
--- the place of a line in a column of times: its end, where an offset is missing
+-- the place of a line in a column of times: its end, if an offset is missing
 abbrev pub time_place : TimeParser → List ℕ → ℕ
-time_place parser line = refused_place_or (length line) (time_or_refused parser line)
+time_place (TimeParser.Text config) line =
+    unwrap_or (refused_place (time_answer_or placed (time_choices config).behavior line))
+    (length line)
+time_place (TimeParser.Strict behavior) line =
+    unwrap_or (refused_place (strict_time_answer_or placed behavior line)) (length line)
 
--- the place of a line in a column of durations: its beginning, where the number is too large
+-- the place of a line in a column of durations: its beginning, if the number is too large
 abbrev pub duration_place : DurationReader → List ℕ → ℕ
 duration_place reader line =
     let chosen = time_choices reader.config in
-    refused_place_or 0 (duration_answer_or placed chosen.order chosen.behavior line)
+    unwrap_or (refused_place (duration_answer_or placed chosen.order chosen.behavior line)) 0

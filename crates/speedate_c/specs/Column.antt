@@ -1,7 +1,7 @@
 -- Columns from outside: what their configuration says, which number a line has, and what a call
 -- leaves.
 use Rattle.std.specs.Prelude.{◌≡◌, ◌≢◌, ℕ, ◌≤◌, ◌++◌, ℤ, pos, Bool, false, List, [], ◌∷◌, length, min, drop, slice_get, Option, Some, None, Result, if◌then◌else◌}
-use Rattle.std.specs.Option.{option_and_then, option_map}
+use Rattle.std.specs.Option.{option_and_then, option_map, unwrap_or}
 use Rattle.speedate.specs.Base.{Behavior, CallKind, ParseError, TimestampUnit}
 use Rattle.speedate.specs.Config.{Choices}
 use Rattle.speedate.specs.DateTime.{DateAndTime, date_time_answer, date_time_answer_or}
@@ -10,13 +10,12 @@ use Rattle.speedate.specs.DateTime.{local_microsecond, utc_microsecond}
 use Rattle.speedate.specs.Strict.{strict_date_time_answer, strict_date_time_answer_or}
 use Rattle.speedate.specs.Strict.{strict_time_answer, strict_time_answer_or}
 use Rattle.speedate.specs.Time.{TimeOfDay, microsecond_of_day, time_answer, time_answer_or}
-use Rattle.speedate.specs.Refused.{Refused, placed}
+use Rattle.speedate.specs.Refused.{placed, refused_place}
 use Rattle.speedate.specs.Requirement.{result_and_then}
 use Rattle.speedate.specs.Duration.{duration_answer, duration_answer_or}
 use Rattle.speedate.specs.Column.{as_number, date_number, date_place, date_time_front_number}
 use Rattle.speedate.specs.Column.{date_time_front_place, ended_part, front_number, front_place}
-use Rattle.speedate.specs.Column.{number_of_duration, offset_as_number, refused_place_or}
-use Rattle.speedate.specs.Column.{text_column, with_offset}
+use Rattle.speedate.specs.Column.{number_of_duration, offset_as_number, text_column, with_offset}
 use Rattle.speedate.specs.ColumnText.{column_text, least_of_64_bits}
 use Rattle.speedate.specs.declared.column.date.DateReader.{DateReader}
 use Rattle.speedate.specs.declared.column.front.DateTimeFront.{DateTimeFront}
@@ -75,19 +74,17 @@ date_time_by_parser LineParser.OrTimestamp chosen line =
     date_time_or_timestamp chosen.unit chosen.behavior chosen.offset line
 date_time_by_parser LineParser.Strict chosen line = strict_date_time_answer chosen.behavior line
 
--- the same, with the place of the error
-abbrev pub date_time_or_refused_by : LineParser → Choices → List ℕ → Result DateAndTime Refused
-date_time_or_refused_by LineParser.Text chosen line =
-    date_time_answer_or placed chosen.behavior line
-date_time_or_refused_by LineParser.OrTimestamp chosen line =
-    date_time_or_timestamp_or placed chosen.unit chosen.behavior chosen.offset line
-date_time_or_refused_by LineParser.Strict chosen line =
-    strict_date_time_answer_or placed chosen.behavior line
-
--- the place of a line in a column of date-times: its end, where an offset is missing
+-- the place of a line in a column of date-times: its end, if an offset is missing
 abbrev pub date_time_place_by : Choices → LineParser → List ℕ → ℕ
-date_time_place_by chosen parser line =
-    refused_place_or (length line) (date_time_or_refused_by parser chosen line)
+date_time_place_by chosen LineParser.Text line =
+    unwrap_or (refused_place (date_time_answer_or placed chosen.behavior line)) (length line)
+date_time_place_by chosen LineParser.OrTimestamp line =
+    unwrap_or (refused_place
+    (date_time_or_timestamp_or placed chosen.unit chosen.behavior chosen.offset line))
+    (length line)
+date_time_place_by chosen LineParser.Strict line =
+    unwrap_or (refused_place (strict_date_time_answer_or placed chosen.behavior line))
+    (length line)
 
 -- the kind of calls that parse date-times as a parser does
 abbrev pub date_time_kind : LineParser → CallKind
@@ -150,12 +147,13 @@ abbrev pub time_by_parser : LineParser → Choices
     → Option ((List ℕ → Result TimeOfDay ParseError) × (List ℕ → ℕ))
 time_by_parser LineParser.Text chosen = Some (
   (λ line. time_answer chosen.behavior line),
-  (λ line. refused_place_or (length line) (time_answer_or placed chosen.behavior line)),
+  (λ line. unwrap_or (refused_place (time_answer_or placed chosen.behavior line)) (length line)),
 )
 time_by_parser LineParser.OrTimestamp chosen = None
 time_by_parser LineParser.Strict chosen = Some (
   (λ line. strict_time_answer chosen.behavior line),
-  (λ line. refused_place_or (length line) (strict_time_answer_or placed chosen.behavior line)),
+  (λ line. unwrap_or (refused_place (strict_time_answer_or placed chosen.behavior line))
+      (length line)),
 )
 
 -- the kind of calls that parse times as a parser does
@@ -212,7 +210,7 @@ duration_number_by chosen line =
 -- the place of a line in a column of durations: its beginning, where the number is too large
 abbrev pub duration_place_by : Choices → List ℕ → ℕ
 duration_place_by chosen line =
-    refused_place_or 0 (duration_answer_or placed chosen.order chosen.behavior line)
+    unwrap_or (refused_place (duration_answer_or placed chosen.order chosen.behavior line)) 0
 
 -- a column of durations
 abbrev pub duration_call : Choices → LineCall ℤ

@@ -29,7 +29,7 @@ pub fn print_column<P: LinePrinter>(numbers: &[P::Number], printer: &P, out: &mu
         ≡ (column_text (P.line printer.now) (length out.old) numbers.now).lines }
     ensures error { result.error
         ≡ (column_text (P.line printer.now) (length out.old) numbers.now).fault }
-    ensures part { (result.place, result.end) ≡ (0, 0) }
+    ensures part { (result.place ≡ 0) × (result.end ≡ 0) }
     ensures within { result.lines ≤ length numbers.now }
     ensures reads_back { (answer : List ℕ → Result P.Number LineError) (refused : P.Number)
         (config : LineConfig) → P.leads_back printer.now answer refused

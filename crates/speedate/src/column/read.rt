@@ -68,7 +68,7 @@ pub fn read_column_with_errors<R: LineReader>(
     ensures lines { result.lines ≡ length (text_column (R.answer reader.now) config (Some refused)
         (min (length out.old) (length errors.old)) text.now).numbers }
     ensures error { result.error ≡ None }
-    ensures part { (result.place, result.end) ≡ (0, 0) }
+    ensures part { (result.place ≡ 0) × (result.end ≡ 0) }
     ensures within { result.bytes ≤ length text.now }
     ensures rest { whole_lines config.at_end (drop result.bytes text.now)
         ≡ drop result.lines (whole_lines config.at_end text.now) }

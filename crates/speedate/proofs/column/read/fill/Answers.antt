@@ -79,7 +79,7 @@ returns-in-Err g c =
       lines = all.count;
       error = all.ends;
       within = omega arith;
-      part = c.refused_part.ensures.part ∙ ap part_of lines_left;
+      part = c.refused_part-place.ensures.part ∙ ap part_of lines_left;
       rest = before.left.whole;
       unfinished = before.left.unfinished;
     }

@@ -24,6 +24,8 @@ returns g c =
     let none = c.fill.ensures.error ∙ text_column-goes_on answer config number _ text in
     let place = g.R.LineReader.place c.args.reader.now in
     let left = drop c.fill.result.lines (whole_lines config.at_end text) in
+    let unended = c.fill.ensures.part
+    ∙ ap (λ (fault : Option LineError). ended_part place config fault left) none in
     let few : c.fill.result.lines ≤ room =
     omega (
       arith,
@@ -40,8 +42,7 @@ returns g c =
           (lines ∙ sym (text_column-errors answer config (Some number) most text)) codes;
       lines = lines;
       error = none;
-      part = c.fill.ensures.part
-          ∙ ap (λ (fault : Option LineError). ended_part place config fault left) none;
+      part = (ap (λ (part : ℕ × ℕ). part.0) unended, ap (λ (part : ℕ × ℕ). part.1) unended);
       within = c.fill.ensures.within;
       rest = c.fill.ensures.rest;
       unfinished = c.fill.ensures.unfinished;
