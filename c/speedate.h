@@ -241,8 +241,8 @@ typedef struct SpeedatePart {
 /* No part, which a call writes that refuses no text: SpeedatePart part = SPEEDATE_PART_NONE; */
 #define SPEEDATE_PART_NONE {0, 0, SPEEDATE_KIND_NONE}
 
-/* The kinds of calls, on which it depends what a call expects. A call with _parse_or_part writes its own. A column is
- * of the kind of the call that parses its lines, and a call that takes no text is of none. */
+/* The kinds of calls, on which it depends what a call expects. A call with _parse_or_part writes its own. A column that a
+ * line ends writes the kind of the call that parses its lines, and a call that takes no text is of none. */
 #define SPEEDATE_KIND_NONE 0
 #define SPEEDATE_KIND_DATE 1
 #define SPEEDATE_KIND_DATE_OR_TIMESTAMP 2
@@ -667,6 +667,7 @@ typedef struct SpeedateProgress {
     size_t lines;  /* how many lines have a number in the column */
     size_t bytes;  /* how many bytes of the text these lines take, with their ends: the next line begins after them */
     int32_t error; /* the code of the next line, if it is refused and ends the column; otherwise SPEEDATE_OK */
+    SpeedatePart part; /* the part of that line, from its beginning on; otherwise SPEEDATE_PART_NONE */
 } SpeedateProgress;
 
 /* Each call below reads the lines of a text in order, as many as there is room for, writes the number of each to its
@@ -674,6 +675,11 @@ typedef struct SpeedateProgress {
  * SPEEDATE_CONFIG_OUT_OF_RANGE if a field of either configuration is out of range, and otherwise SPEEDATE_OK: a line
  * that is refused does not make a call fail. What follows progress->bytes is left for a further call. If
  * progress->error is SPEEDATE_OK and there is room left, these bytes have no whole line.
+ *
+ * If a line ends the column, progress->part is the part of the line that the error is about, as the _parse_or_part call
+ * of its parser writes it: for "2020-13-01" it begins at 5 and ends at 7. A missing offset has its place where it would
+ * begin, at the end of the date-time or the time. A duration that is too large is the whole line. With progress->error
+ * the part gives speedate_code_expected what was expected.
  *
  * `errors` is NULL, with an error_room of 0, if only numbers are wanted. Otherwise the code of each line goes to the
  * same place in `errors`, 0 if it is not refused, and no line ends the column: one that is refused gets the smallest
@@ -741,7 +747,8 @@ SPEEDATE_NODISCARD int speedate_duration_column(const char *text, size_t size, S
 /* Each call below prints `count` numbers as lines, in order, each with a line feed, as many as there is room for, and
  * writes to *progress how many they are, and how many bytes they take; the bytes after these stay as they are, and no
  * zero byte is written. It returns SPEEDATE_OK. The smallest number, which a column has of a refused line, is an empty
- * line. A number without a line ends the text, and progress->error is its code. If that is SPEEDATE_OK and
+ * line. A number without a line ends the text, and progress->error is its code; progress->part is none. If that is
+ * SPEEDATE_OK and
  * progress->lines is below `count`, the next line does not fit: empty the buffer, and go on with that number. 33 bytes
  * are room for any line.
  *

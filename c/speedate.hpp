@@ -72,8 +72,8 @@ class Error {
     /* "day value is outside expected range". */
     std::string documentation() const { return printed("unknown code", speedate_code_documentation); }
 
-    /* What the call expected that refused a text for it, and wrote the part: "month, 01 to 12". For a line of a column
-     * the part has the kind alone: {0, 0, SPEEDATE_KIND_DATE}. */
+    /* What the call expected that refused a text for it, and wrote the part: "month, 01 to 12". For a code that a column
+     * has written for a line, the part has just the kind: {0, 0, SPEEDATE_KIND_DATE}. */
     std::string expected(const SpeedatePart &part) const {
         return printed("unknown code or kind", [&](int code, auto... out) {
             return speedate_code_expected(code, &part, out...);
@@ -777,15 +777,17 @@ class Duration : public detail::Ordered<Duration> {
 /* ---- Columns ---- */
 
 /* How far a column has come: how many lines have a number in it, how many bytes they take, and the error of the next
- * line, if that is refused and ends the column. */
+ * line, if that is refused and ends the column, with the part of the line that it is about:
+ * if (read.error) underline(read.part.place, read.part.end), say(read.error->expected(read.part)); */
 struct Progress {
     explicit Progress(const SpeedateProgress &from)
         : lines(from.lines), bytes(from.bytes),
-          error(from.error == SPEEDATE_OK ? std::nullopt : std::optional<Error>(Error(from.error))) {}
+          error(from.error == SPEEDATE_OK ? std::nullopt : std::optional<Error>(Error(from.error))), part(from.part) {}
 
     std::size_t lines;
     std::size_t bytes;
     std::optional<Error> error;
+    SpeedatePart part;
 };
 
 namespace detail {

@@ -16,9 +16,8 @@ const PART = { place: PLACE.part, end: PLACE.part + 8, kind: PLACE.part + 16 };
 const LINES_AT_ONCE = 2 ** 12;
 const BLOCK_SIZE = 2 ** 16;
 const LINE_FEED = 10;
-const CARRIAGE_RETURN = 13;
 /** The addresses of a column, which is read in the place of a text. */
-const COLUMN = { config: PLACE.text, progress: PLACE.text + 8, numbers: PLACE.text + 32 };
+const COLUMN = { config: PLACE.text, progress: PLACE.text + 8, numbers: PLACE.text + 56 };
 COLUMN.errors = COLUMN.numbers + 16 * LINES_AT_ONCE;
 COLUMN.text = COLUMN.errors + LINES_AT_ONCE;
 /** The sizes of the strings that are copied unit by unit, as C takes them. */
@@ -531,21 +530,21 @@ const OPTIONS_OF = {
   dateFront: [], front: ["overflow"], column: ["refusals", "maxRefusals", "maxLineBytes"],
 };
 
-// Each writes the value, or the part for which the text is refused. A column's line is a text at another address.
-function callDate(library, size, it, text = address.text) {
+// Each writes the value, or the part for which the text is refused.
+function callDate(library, size, it) {
   const { speedate_date_parse_or_part: all, speedate_date_parse_or_part_text: lax } = library.calls;
-  if (it.timestamps === undefined) return lax(text, size, address.out, address.part);
-  return all(text, size, putConfig(library, it), address.out, address.part);
+  if (it.timestamps === undefined) return lax(address.text, size, address.out, address.part);
+  return all(address.text, size, putConfig(library, it), address.out, address.part);
 }
-function callTime(library, size, it, text = address.text) {
+function callTime(library, size, it) {
   const { speedate_time_parse_or_part: lax, speedate_time_parse_or_part_strict: strict } = library.calls;
-  return (it.strict === 1 ? strict : lax)(text, size, putConfig(library, it), address.out, address.part);
+  return (it.strict === 1 ? strict : lax)(address.text, size, putConfig(library, it), address.out, address.part);
 }
-function callDateTime(library, size, it, text = address.text) {
+function callDateTime(library, size, it) {
   const { calls: inC } = library;
   const lax = it.strict === 1 ? inC.speedate_datetime_parse_or_part_strict : inC.speedate_datetime_parse_or_part_text;
   const parse = it.timestamps !== undefined ? inC.speedate_datetime_parse_or_part : lax;
-  const code = parse(text, size, putConfig(library, it), address.out, address.part);
+  const code = parse(address.text, size, putConfig(library, it), address.out, address.part);
   if (it.missingOffset === undefined) return code;
   if (it.missingOffset === MISSING.error) library.view.setInt32(PART.kind, kindOf(KINDS.instant, it), true);
   return code === 0 ? withOffset(library, size, it) : code;
@@ -563,19 +562,14 @@ function withOffset({ view }, size, { missingOffset }) {
   view.setInt32(at + 8, 0, true);
   return 0;
 }
-const callDuration = (library, size, it, text = address.text) =>
-  library.calls.speedate_duration_parse_or_part(text, size, putConfig(library, it), address.out, address.part);
+const callDuration = (library, size, it) =>
+  library.calls.speedate_duration_parse_or_part(address.text, size, putConfig(library, it), address.out, address.part);
 const callDateFront = ({ calls }, size) =>
   calls.speedate_date_parse_or_part_front(address.text, size, address.out, address.taken, address.part);
 const callTimeFront = (library, size, it) =>
   library.calls.speedate_time_parse_or_part_front(address.text, size, putConfig(library, it), address.out, address.taken, address.part);
-const callDateTimeFront = (library, size, it, text = address.text) =>
-  library.calls.speedate_datetime_parse_or_part_front(text, size, putConfig(library, it), address.out, address.taken, address.part);
-/** The code of a line of fronts that is refused, if only since its date-time has no offset. */
-function callFrontOfLine(library, size, it, text) {
-  const code = callDateTimeFront(library, size, it, text);
-  return code === 0 ? withOffset(library, library.view.getBigUint64(PLACE.taken, true), { missingOffset: MISSING.error }) : code;
-}
+const callDateTimeFront = (library, size, it) =>
+  library.calls.speedate_datetime_parse_or_part_front(address.text, size, putConfig(library, it), address.out, address.taken, address.part);
 
 // Options come first, since a getter among them may call this too.
 function codeOfDate(text, options) {
@@ -770,8 +764,8 @@ const asFronts = (numbers) => ({
 
 /** A column that comes in pieces. The first `size` bytes of `unfinished` are a line that has not ended, and `half` is half a pair that
  * ended a string. */
-const columnOf = (name, callLine, kinds, handedOut, numbers) =>
-  ({ name, callLine, kind: kindOf(kinds, numbers), ...handedOut, numbers, lines: 0, refused: 0, unfinished: new Uint8Array(0), size: 0, half: "", hasEnded: false });
+const columnOf = (name, kinds, handedOut, numbers) =>
+  ({ name, kind: kindOf(kinds, numbers), ...handedOut, numbers, lines: 0, refused: 0, unfinished: new Uint8Array(0), size: 0, half: "", hasEnded: false });
 
 /** Adds bytes to the unfinished line. The array doubles, so that many small pieces need no more room than a large one. */
 function addUnfinished(column, bytes) {
@@ -840,7 +834,8 @@ function readLines(column, isEnd, parts, refusals) {
     const error = view.getInt32(COLUMN.progress + 16, true);
     if (error !== 0) {
       const index = column.lines + lines;
-      throw Object.assign(new SpeedateError(faultOf(error, column.kind)), { ...partOfLine(library, next, end, column, error), index });
+      const [place, end] = [24, 32].map((at) => view.getUint32(COLUMN.progress + at, true));
+      throw Object.assign(new SpeedateError(faultOf(error, column.kind)), { place, end, index });
     }
     parts.push(column.take(view, lines));
     if (hasErrors) addRefusals(refusals, bytes.subarray(COLUMN.errors, COLUMN.errors + lines), column);
@@ -866,17 +861,6 @@ function addRefusals(refusals, errors, column) {
     if (errors[i] === 0 || ++column.refused > maxRefusals) continue;
     refusals.push({ index: lines + i, ...faultOf(errors[i], kind) });
   }
-}
-
-/** The part, in bytes, for which a line ends a column. If only the column refuses the line, it lacks an offset, at its end, or is too
- * long a duration. */
-function partOfLine(library, at, textEnd, { callLine, numbers }, error) {
-  const { bytes, view } = library;
-  const feed = bytes.subarray(at, textEnd).indexOf(LINE_FEED);
-  const end = feed < 0 ? textEnd : at + feed;
-  const size = (end > at && bytes[end - 1] === CARRIAGE_RETURN ? end - 1 : end) - at;
-  if (callLine(library, BigInt(size), numbers, BigInt(library.start + at)) === 0) return { place: error === CODE.tzRequired ? size : 0, end: size };
-  return { place: view.getUint32(PART.place, true), end: view.getUint32(PART.end, true) };
 }
 
 /** The numbers of the lines that end in a piece. If this throws, the column has ended. */
@@ -915,26 +899,26 @@ function concatenated(parts, Numbers) {
   return all;
 }
 
-/** Makes the function that begins a column with its options. `callLine` reads one line of it, and `names` are its options. */
-const beginner = (name, callLine, kindsBy, names, handedOutBy) => (options) => {
+/** Makes the function that begins a column with its options, of which `names` are its own. */
+const beginner = (name, kindsBy, names, handedOutBy) => (options) => {
   const numbers = numbersOf(options, [...names, ...OPTIONS_OF.column]);
   start();
-  return columnOf(name, callLine, kindsBy(numbers), handedOutBy(numbers), numbers);
+  return columnOf(name, kindsBy(numbers), handedOutBy(numbers), numbers);
 };
 const asIntegers = () => asNumbers(INTEGERS);
 const unitOf = ({ unit }) => (unit === 1 ? MICROSECONDS : MILLISECONDS);
 const inUnit = (options) => asNumbers(unitOf(options));
 const always = (it) => () => it;
 const instantOrUtc = ({ missingOffset }) => (missingOffset === MISSING.utc ? KINDS.dateTime : KINDS.instant);
-const newDateColumn = beginner("date_column", callDate, always(KINDS.date), OPTIONS_OF.date, asIntegers);
-const newDateTimeColumn = beginner("datetime_column", callDateTime, instantOrUtc, [...OPTIONS_OF.dateTime, "unit"], inUnit);
-const newDateTimeClockColumn = beginner("datetime_clock_column", callDateTime, always(KINDS.dateTime), [...OF_DATE_TIME, "unit"], inUnit);
-const newDateTimeOffsetColumn = beginner("datetime_offset_column", callDateTime, always(KINDS.instant), OF_DATE_TIME, asIntegers);
+const newDateColumn = beginner("date_column", always(KINDS.date), OPTIONS_OF.date, asIntegers);
+const newDateTimeColumn = beginner("datetime_column", instantOrUtc, [...OPTIONS_OF.dateTime, "unit"], inUnit);
+const newDateTimeClockColumn = beginner("datetime_clock_column", always(KINDS.dateTime), [...OF_DATE_TIME, "unit"], inUnit);
+const newDateTimeOffsetColumn = beginner("datetime_offset_column", always(KINDS.instant), OF_DATE_TIME, asIntegers);
 const newDateTimeFrontColumn =
-  beginner("datetime_front_column", callFrontOfLine, instantOrUtc, [...OPTIONS_OF.front, "missingOffset", "unit"], (options) => asFronts(unitOf(options)));
-const newTimeColumn = beginner("time_column", callTime, always(KINDS.time), [...OPTIONS_OF.time, "unit"], inUnit);
-const newTimeOffsetColumn = beginner("time_offset_column", callTime, always(KINDS.offset), OPTIONS_OF.time, asIntegers);
-const newDurationColumn = beginner("duration_column", callDuration, always(KINDS.duration), [...OPTIONS_OF.duration, "unit"], inUnit);
+  beginner("datetime_front_column", instantOrUtc, [...OPTIONS_OF.front, "missingOffset", "unit"], (options) => asFronts(unitOf(options)));
+const newTimeColumn = beginner("time_column", always(KINDS.time), [...OPTIONS_OF.time, "unit"], inUnit);
+const newTimeOffsetColumn = beginner("time_offset_column", always(KINDS.offset), OPTIONS_OF.time, asIntegers);
+const newDurationColumn = beginner("duration_column", always(KINDS.duration), [...OPTIONS_OF.duration, "unit"], inUnit);
 const readerOf = (column) => ({
   read: (text) => readPiece(column, text, false),
   end: (text = "") => readPiece(column, text, true),

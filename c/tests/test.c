@@ -227,6 +227,13 @@ static void say_progress(SpeedateProgress it) {
     say("%lld ", (long long)it.lines);
     say("%lld ", (long long)it.bytes);
     strcat(answer, speedate_code_string(it.error));
+    if (it.part.kind != SPEEDATE_KIND_NONE) {
+        say(" %lld ", (long long)it.part.place);
+        say("%lld ", (long long)it.part.end);
+        say("%lld", it.part.kind);
+    } else if (it.part.place != 0 || it.part.end != 0) {
+        strcat(answer, " with a part");
+    }
 }
 
 /* ---- The calls ---- */

@@ -239,10 +239,11 @@ static void columns() {
     const std::string_view moments = "1970-01-01T00:00:01Z\n1970-01-01T01:00+01:00\nago\n";
     Progress read = datetime_column(moments, numbers).value();
     CHECK(read.lines == 2 && read.bytes == moments.size() - 4 && read.error == Error(SPEEDATE_TOO_SHORT));
+    CHECK(read.part.place == 3 && read.part.end == 3 && read.error->expected(read.part) == "more");
     CHECK(numbers == std::vector<std::int64_t>({1000000, 0, 7}));
     column.goes_on = true;
     read = datetime_column(moments, numbers, {}, column).value();
-    CHECK(read.lines == 3 && !read.error && numbers[2] == INT64_MIN);
+    CHECK(read.lines == 3 && !read.error && numbers[2] == INT64_MIN && read.part.kind == SPEEDATE_KIND_NONE);
     column = ColumnConfig();
     column.at_end = false;
     column.drops_returns = true;

@@ -392,7 +392,7 @@ static int read_refused(const Column *column, Text *rest, SpeedateColumnConfig l
  * as they are. */
 static int read_lines(const Column *column, Text *rest, SpeedateColumnConfig lines, Read *read) {
     const ColumnReader *reader = &column->reader;
-    SpeedateProgress progress = {0, 0, SPEEDATE_OK};
+    SpeedateProgress progress = {0, 0, SPEEDATE_OK, SPEEDATE_PART_NONE};
     size_t most = reader->lines.goes_on ? REFUSED : 1;
     int code;
     /* The library ends at each line that is refused, if anyone wants to know of it. */

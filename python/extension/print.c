@@ -225,7 +225,7 @@ static int make_room(PrintedColumn *column) {
 
 /* Prints the numbers. Signals are heard. */
 static int print_numbers(PrintedColumn *column) {
-    SpeedateProgress progress = {0, 0, SPEEDATE_OK};
+    SpeedateProgress progress = {0, 0, SPEEDATE_OK, SPEEDATE_PART_NONE};
     if (make_room(column) < 0)
         return -1;
     char *lines = PyBytes_AS_STRING(column->lines);

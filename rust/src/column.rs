@@ -82,6 +82,11 @@ pub struct Progress {
     pub bytes: usize,
     /// The error of the next line, if it ends the column.
     pub error: Option<LineError>,
+    /// The byte of that line at which the part begins that the error is about, or would begin if it is missing. It is 0 if
+    /// no line ends the column, and for a column that is printed.
+    pub place: usize,
+    /// The byte of that line at which the part ends: at its place if it is missing.
+    pub end: usize,
 }
 
 mod sealed {
@@ -120,8 +125,8 @@ pub trait LineReader: sealed::Sealed {
 /// Reads the whole lines of a text as numbers, in order, as many as `out` has room for, and returns how far it came.
 ///
 /// A line is ended by a line feed, or by the end of the text if `config` says so. An empty line is a line. One that is
-/// refused ends the column, and the progress has its error. What follows the bytes that the progress counts is left for a
-/// further call. The other places of `out` stay as they are.
+/// refused ends the column, and the progress has its error, with the part of the line that it is about. What follows the
+/// bytes that the progress counts is left for a further call. The other places of `out` stay as they are.
 ///
 /// ```
 /// use speedate::{read_column, DateReader, LineConfig, LineError, ParseError, Progress};
@@ -129,7 +134,7 @@ pub trait LineReader: sealed::Sealed {
 /// let (config, mut out) = (LineConfig { at_end: true, drops_returns: false }, [0; 8]);
 /// let progress = read_column(b"1970-01-02\n1969-12-31\n2021-02-29\n", config, &DateReader::Text, &mut out)?;
 /// let error = Some(LineError::Parse(ParseError::OutOfRangeDay));
-/// assert_eq!(progress, Progress { lines: 2, bytes: 22, error });
+/// assert_eq!(progress, Progress { lines: 2, bytes: 22, error, place: 8, end: 10 });
 /// assert_eq!(out[..progress.lines], [1, -1]);
 /// # Ok::<(), ParseError>(())
 /// ```

@@ -109,7 +109,7 @@ structs! {
         at_end: u8 = 0, drops_returns: u8 = 1, parser: u8 = 2, assumes_utc: u8 = 3, goes_on: u8 = 4
     }
     struct CPart is 24 { place: usize = 0, end: usize = 8, kind: i32 = 16 }
-    struct CProgress is 24 { lines: usize = 0, bytes: usize = 8, error: i32 = 16 }
+    struct CProgress is 48 { lines: usize = 0, bytes: usize = 8, error: i32 = 16, part: CPart = 24 }
 }
 
 /// The default has 0 in each field.
@@ -219,8 +219,8 @@ impl CPart {
 }
 
 impl From<CProgress> for Progress {
-    fn from(CProgress { lines, bytes, error }: CProgress) -> Self {
-        Self { lines, bytes, error: Code(error).into() }
+    fn from(CProgress { lines, bytes, error, part }: CProgress) -> Self {
+        Self { lines, bytes, error: Code(error).into(), place: part.place, end: part.end }
     }
 }
 

@@ -5,11 +5,23 @@ use std::fmt::Debug;
 use speedate::{
     read_column, read_column_with_errors, Date, DateConfig, DateReader, DateTime, DateTimeClockReader, DateTimeConfig,
     DateTimeOffsetReader, DateTimeParser, DateTimeReader, Duration, DurationReader, LineConfig, LineError, LineReader,
-    MicrosecondsPrecisionOverflowBehavior, ParseError, Progress, Time, TimeConfig, TimeOffsetReader, TimeParser,
-    TimeReader, TimestampUnit,
+    MicrosecondsPrecisionOverflowBehavior, ParseError, Progress, Refused, Time, TimeConfig, TimeOffsetReader,
+    TimeParser, TimeReader, TimestampUnit,
 };
 
 const TEXTS: usize = 120_000;
+
+/// The error of a line, and where its part begins and ends.
+type Refusal = (LineError, usize, usize);
+
+fn parse_refusal(refused: Refused) -> Refusal {
+    (LineError::Parse(refused.fault), refused.place, refused.end)
+}
+
+/// The refusal of a line that ends where an offset would begin.
+fn without_offset(line: &[u8]) -> Refusal {
+    (LineError::Parse(ParseError::TzRequired), line.len(), line.len())
+}
 
 #[test]
 fn dates() {
@@ -23,10 +35,10 @@ fn dates() {
         };
         draws.compare(&lines, &reader, i32::MIN, |line| {
             let date = match &reader {
-                DateReader::Text => Date::parse_bytes_rfc3339(line),
-                DateReader::OrTimestamp(config) => Date::parse_bytes_with_config(line, config),
+                DateReader::Text => Date::parse_or_place_rfc3339(line),
+                DateReader::OrTimestamp(config) => Date::parse_or_place(line, config),
             };
-            Ok(date.map_err(LineError::Parse)?.days_since(&epoch))
+            Ok(date.map_err(parse_refusal)?.days_since(&epoch))
         });
     }
 }
@@ -43,13 +55,13 @@ const DATE_TIMES: [&str; 8] = [
 ];
 
 /// The date-time of a line.
-fn date_time(line: &[u8], parser: &DateTimeParser) -> Result<DateTime, LineError> {
+fn date_time(line: &[u8], parser: &DateTimeParser) -> Result<DateTime, Refusal> {
     let value = match parser {
-        DateTimeParser::Text(config) => DateTime::parse_bytes_rfc3339_with_config(line, config),
-        DateTimeParser::OrTimestamp(config) => DateTime::parse_bytes_with_config(line, config),
-        DateTimeParser::Strict(behavior) => DateTime::parse_bytes_strict(line, *behavior),
+        DateTimeParser::Text(config) => DateTime::parse_or_place_rfc3339(line, config),
+        DateTimeParser::OrTimestamp(config) => DateTime::parse_or_place(line, config),
+        DateTimeParser::Strict(behavior) => DateTime::parse_or_place_strict(line, *behavior),
     };
-    value.map_err(LineError::Parse)
+    value.map_err(parse_refusal)
 }
 
 #[test]
@@ -60,7 +72,7 @@ fn date_times() {
         draws.compare(&DATE_TIMES, &reader, i64::MIN, |line| {
             let value = date_time(line, &reader.parser)?;
             if value.time.tz_offset.is_none() && !reader.assumes_utc {
-                return Err(LineError::Parse(ParseError::TzRequired));
+                return Err(without_offset(line));
             }
             Ok(value.timestamp_tz_us())
         });
@@ -86,7 +98,7 @@ fn date_time_offsets() {
         let reader = DateTimeOffsetReader { parser: draws.parser() };
         draws.compare(&DATE_TIMES, &reader, i32::MIN, |line| {
             let offset = date_time(line, &reader.parser)?.time.tz_offset;
-            offset.ok_or(LineError::Parse(ParseError::TzRequired))
+            offset.ok_or(without_offset(line))
         });
     }
 }
@@ -95,12 +107,12 @@ const TIMES: [&str; 7] =
     ["12:13:14Z", "12:13:14.123456+01:30", "23:59:59.1234567-00:30", "00:00+23:59", "12:13", "24:00", ""];
 
 /// The time of a line.
-fn time(line: &[u8], parser: &TimeParser) -> Result<Time, LineError> {
+fn time(line: &[u8], parser: &TimeParser) -> Result<Time, Refusal> {
     let value = match parser {
-        TimeParser::Text(config) => Time::parse_bytes_with_config(line, config),
-        TimeParser::Strict(behavior) => Time::parse_bytes_strict(line, *behavior),
+        TimeParser::Text(config) => Time::parse_or_place(line, config),
+        TimeParser::Strict(behavior) => Time::parse_or_place_strict(line, *behavior),
     };
-    value.map_err(LineError::Parse)
+    value.map_err(parse_refusal)
 }
 
 #[test]
@@ -121,7 +133,7 @@ fn time_offsets() {
         let mut draws = Draws::new(seed);
         let reader = TimeOffsetReader { parser: draws.time_parser() };
         draws.compare(&TIMES, &reader, i32::MIN, |line| {
-            time(line, &reader.parser)?.tz_offset.ok_or(LineError::Parse(ParseError::TzRequired))
+            time(line, &reader.parser)?.tz_offset.ok_or(without_offset(line))
         });
     }
 }
@@ -142,10 +154,11 @@ fn durations() {
         let mut draws = Draws::new(seed);
         let reader = DurationReader { config: draws.time_config() };
         draws.compare(&lines, &reader, i64::MIN, |line| {
-            let duration = Duration::parse_bytes_with_config(line, &reader.config).map_err(LineError::Parse)?;
+            let duration = Duration::parse_or_place(line, &reader.config).map_err(parse_refusal)?;
             let seconds = i128::from(duration.signed_total_seconds());
             let amount = seconds * 1_000_000 + i128::from(duration.signed_microseconds());
-            i64::try_from(amount).ok().filter(|amount| *amount != i64::MIN).ok_or(LineError::NumberTooLarge)
+            let number = i64::try_from(amount).ok().filter(|amount| *amount != i64::MIN);
+            number.ok_or((LineError::NumberTooLarge, 0, line.len()))
         });
     }
 }
@@ -228,7 +241,7 @@ impl Draws {
         lines: &[&str],
         reader: &R,
         least: R::Number,
-        answer: impl Fn(&[u8]) -> Result<R::Number, LineError>,
+        answer: impl Fn(&[u8]) -> Result<R::Number, Refusal>,
     ) {
         let text = self.text(lines);
         let config = LineConfig { at_end: self.flag(), drops_returns: self.flag() };
@@ -236,30 +249,31 @@ impl Draws {
         let kept = R::Number::from(77);
         let room = self.below(6);
 
-        let mut wanted = Progress { lines: 0, bytes: 0, error: None };
+        let none = Progress { lines: 0, bytes: 0, error: None, place: 0, end: 0 };
+        let mut wanted = none.clone();
         let mut numbers = vec![kept; room];
         for (line, end) in cut(&text, config).take(room) {
             match answer(line) {
                 Ok(number) => numbers[wanted.lines] = number,
-                Err(error) => {
-                    wanted.error = Some(error);
+                Err((error, place, end)) => {
+                    wanted = Progress { error: Some(error), place, end, ..wanted };
                     break;
                 }
             }
-            wanted = Progress { lines: wanted.lines + 1, bytes: end, error: None };
+            wanted = Progress { lines: wanted.lines + 1, bytes: end, ..wanted };
         }
         let mut out = vec![kept; room];
         assert_eq!(read_column(&text, config, reader, &mut out), Ok(wanted), "{about}");
         assert_eq!(out, numbers, "{about}");
 
         let error_room = self.below(6);
-        let mut wanted = Progress { lines: 0, bytes: 0, error: None };
+        let mut wanted = none;
         let (mut numbers, mut codes) = (vec![kept; room], vec![77; error_room]);
         for (line, end) in cut(&text, config).take(room.min(error_room)) {
             let answer = answer(line);
-            codes[wanted.lines] = answer.as_ref().map_or_else(LineError::number, |_| 0);
+            codes[wanted.lines] = answer.as_ref().map_or_else(|refusal| refusal.0.number(), |_| 0);
             numbers[wanted.lines] = answer.unwrap_or(least);
-            wanted = Progress { lines: wanted.lines + 1, bytes: end, error: None };
+            wanted = Progress { lines: wanted.lines + 1, bytes: end, ..wanted };
         }
         let (mut out, mut errors) = (vec![kept; room], vec![77; error_room]);
         let progress = read_column_with_errors(&text, config, reader, &mut out, &mut errors);

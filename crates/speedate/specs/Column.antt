@@ -1,17 +1,24 @@
 -- Columns: the lines of a text as numbers.
 use Rattle.std.specs.Prelude.{◌≡◌, ◌≢◌, ℕ, ◌-◌, ◌^◌, ◌<◌, ◌≤◌, Bool, false, ◌||◌, List, [], ◌∷◌, length, slice_index, take, drop, nat_lt, Option, Some, None, is_some, Result, Ok, Err, ℤ, pos, unsigned_abs, if◌then◌else◌}
+use Rattle.std.specs.Option.{unwrap_or}
 use Rattle.speedate_civil.specs.Base.{Behavior, ParseError}
 use Rattle.speedate_base.specs.Ascii.{carriage_return}
 use Rattle.speedate_base.specs.Config.{time_choices}
 use Rattle.speedate_base.specs.Fault.{fault_number}
+use Rattle.speedate_base.specs.Part.{part_end}
+use Rattle.speedate_base.specs.Refused.{placed, refused_place}
 use Rattle.speedate_base.specs.Requirement.{◌else_fault◌, ◌>>=◌, first_fault_or, result_and_then}
 use Rattle.speedate_civil.specs.Calendar.{Ymd, days_between}
-use Rattle.speedate_civil.specs.Date.{date_answer, date_or_timestamp}
+use Rattle.speedate_civil.specs.Date.{date_answer, date_answer_or, date_or_timestamp}
+use Rattle.speedate_civil.specs.Date.{date_or_timestamp_or}
 use Rattle.speedate_civil.specs.DateTime.{DateAndTime, date_time_answer, date_time_by_config}
-use Rattle.speedate_civil.specs.DateTime.{date_time_front, local_microsecond, utc_microsecond}
+use Rattle.speedate_civil.specs.DateTime.{date_time_answer_or, date_time_by_config_or}
+use Rattle.speedate_civil.specs.DateTime.{date_time_front, date_time_front_or}
+use Rattle.speedate_civil.specs.DateTime.{local_microsecond, utc_microsecond}
 use Rattle.speedate_civil.specs.Strict.{strict_date_time, strict_date_time_answer}
-use Rattle.speedate_civil.specs.Strict.{strict_time_answer}
-use Rattle.speedate_civil.specs.Time.{TimeOfDay, microsecond_of_day, time_answer}
+use Rattle.speedate_civil.specs.Strict.{strict_date_time_answer_or}
+use Rattle.speedate_civil.specs.Strict.{strict_time_answer, strict_time_answer_or}
+use Rattle.speedate_civil.specs.Time.{TimeOfDay, microsecond_of_day, time_answer, time_answer_or}
 pub use Rattle.speedate.specs.declared.column.LineConfig.{LineConfig}
 pub use Rattle.speedate.specs.declared.column.LineError.{LineError}
 use Rattle.speedate.specs.declared.column.Line.{Line}
@@ -26,7 +33,7 @@ use Rattle.speedate.specs.declared.column.front.DateTimeFrontReader.{DateTimeFro
 use Rattle.speedate.specs.declared.column.time.TimeOffsetReader.{TimeOffsetReader}
 use Rattle.speedate.specs.declared.column.time.TimeParser.{TimeParser}
 use Rattle.speedate.specs.declared.column.time.TimeReader.{TimeReader}
-use Rattle.speedate.specs.Duration.{duration_answer, signed_amount}
+use Rattle.speedate.specs.Duration.{duration_answer, duration_answer_or, signed_amount}
 use Rattle.speedate.specs.DurationNumbers.{DurationNumbers}
 use Rattle.speedate.specs.Lines.{IsOneLine, unfinished_line, whole_lines, without_return}
 
@@ -75,6 +82,23 @@ unfoldable pub text_column : {N : Type 0} → (List ℕ → Result N LineError) 
     → ℕ → List ℕ → Column N
 text_column answer config refused room text =
     column (line_answer answer config) refused (take room (whole_lines config.at_end text))
+
+-- where the part of a line ends that its error is about, which begins at this place
+abbrev pub line_part_end : LineError → List ℕ → ℕ → ℕ
+line_part_end (LineError.Parse fault) line place = part_end fault line place
+line_part_end LineError.NumberTooLarge line place = length line
+
+-- the part of a line that its error is about, by the place for which a line is refused
+abbrev pub line_part : (List ℕ → ℕ) → LineError → List ℕ → ℕ × ℕ
+line_part place error line = (place line, line_part_end error line (place line))
+
+-- the part of the line that ends a column, which is the first of the lines that are left; 0 and 0
+-- if none ends it
+abbrev pub ended_part : (List ℕ → ℕ) → LineConfig → Option LineError → List (List ℕ) → ℕ × ℕ
+ended_part place config None left = (0, 0)
+ended_part place config (Some error) [] = (0, 0)
+ended_part place config (Some error) (line ∷ left) =
+    line_part place error (without_return config.drops_returns line)
 
 -- there are bytes at the front of a text among which is no line feed, and which no carriage return
 -- ends
@@ -229,3 +253,53 @@ abbrev pub duration_number : DurationReader → List ℕ → Result ℤ LineErro
 duration_number reader line =
     let chosen = time_choices reader.config in
     number_of_duration (duration_answer chosen.order chosen.behavior line)
+
+-- Readers: the place for which a line is refused: the place of a text that is refused. If the text
+-- is accepted, its number is refused.
+
+-- the place of a line in a column of dates
+abbrev pub date_place : DateReader → List ℕ → ℕ
+date_place DateReader.Text line =
+    unwrap_or (refused_place (date_answer_or placed line)) (length line)
+date_place (DateReader.OrTimestamp config) line =
+    unwrap_or (refused_place (date_or_timestamp_or placed config.timestamp_unit line))
+    (length line)
+
+-- the place of a line in a column of date-times: its end, if an offset is missing
+abbrev pub date_time_place : DateTimeParser → List ℕ → ℕ
+date_time_place (DateTimeParser.Text config) line =
+    unwrap_or (refused_place (date_time_answer_or placed (time_choices config).behavior line))
+    (length line)
+date_time_place (DateTimeParser.OrTimestamp config) line =
+    unwrap_or (refused_place (date_time_by_config_or placed config line)) (length line)
+date_time_place (DateTimeParser.Strict behavior) line =
+    unwrap_or (refused_place (strict_date_time_answer_or placed behavior line)) (length line)
+
+-- how many bytes the value at the front of a text takes; 0 if there is none
+abbrev pub front_size : {A E : Type 0} → Result (A × ℕ) E → ℕ
+front_size (Ok front) = front.1
+front_size (Err refusal) = 0
+
+-- the place of a line in a column of date-times at the front of lines: the end of the date-time,
+-- if an offset is missing
+abbrev pub front_place : Behavior → List ℕ → ℕ
+front_place behavior line =
+    unwrap_or (refused_place (date_time_front_or placed behavior line))
+    (front_size (date_time_front behavior line))
+
+abbrev pub date_time_front_place : DateTimeFrontReader → List ℕ → ℕ
+date_time_front_place reader line = front_place (time_choices reader.config).behavior line
+
+-- the place of a line in a column of times: its end, if an offset is missing
+abbrev pub time_place : TimeParser → List ℕ → ℕ
+time_place (TimeParser.Text config) line =
+    unwrap_or (refused_place (time_answer_or placed (time_choices config).behavior line))
+    (length line)
+time_place (TimeParser.Strict behavior) line =
+    unwrap_or (refused_place (strict_time_answer_or placed behavior line)) (length line)
+
+-- the place of a line in a column of durations: its beginning, if the number is too large
+abbrev pub duration_place : DurationReader → List ℕ → ℕ
+duration_place reader line =
+    let chosen = time_choices reader.config in
+    unwrap_or (refused_place (duration_answer_or placed chosen.order chosen.behavior line)) 0

@@ -44,7 +44,7 @@ pub enum LineError {
 
 impl LineError {
     ghost use Rattle.std.specs.Prelude.{◌≡◌};
-    ghost use Rattle.speedate.specs.Column.{error_number};
+    ghost use Rattle.speedate.specs.Column.{error_number, line_part_end};
 
     /// The number of the error: of a refused text [`ParseError::number`], 1 to 42, and 97 for
     /// `LineError::NumberTooLarge`.
@@ -55,6 +55,17 @@ impl LineError {
         match self {
             LineError::Parse(fault) => fault.number(),
             LineError::NumberTooLarge => 97,
+        }
+    }
+
+    /// Where the part of a line ends that this error is about, which begins at this place: 7 for
+    /// `OutOfRangeMonth`, `b"2020-13-01"` and place 5.
+    fn part_end(&self, line: &[u8], place: usize) -> usize
+        ensures end { result ≡ line_part_end self.now line.now place }
+    {
+        match self {
+            LineError::Parse(fault) => fault.part_end(line, place),
+            LineError::NumberTooLarge => line.len(),
         }
     }
 }
@@ -69,6 +80,12 @@ pub struct Progress {
     pub bytes: usize,
     /// The error of the next line, or of the next number, if it ends the column.
     pub error: Option<LineError>,
+    /// The byte of the line that ends the column at which the part begins that the error is about: 5 for
+    /// `2020-13-01`. It is 0 if no line ends the column, and for a column that is printed.
+    pub place: usize,
+    /// The byte of that line at which the part ends, the place itself if the part is missing: 7 for
+    /// `2020-13-01`.
+    pub end: usize,
 }
 
 /// Reads a line as a number, as [`DateReader`] reads `1970-01-02` as 1.
@@ -82,6 +99,9 @@ pub trait LineReader {
 
     // The number of a line, or its error.
     ghost answer: { Self → List ℕ → Result Self.Number LineError };
+
+    // The place for which a line is refused.
+    ghost place: { Self → List ℕ → ℕ };
 
     /// The number of a line, which is given without its end: 1 for `b"1970-01-02"`.
     ///
@@ -101,6 +121,14 @@ pub trait LineReader {
     {
         None
     }
+
+    /// The byte at which the error lies for which a line is refused: 5, the month's, for `b"1970-13-01"`.
+    ///
+    /// It is the place of the error of a text that the reader does not take. If an offset is missing, it is
+    /// the end of the date-time or the time, where the offset would begin; if the number does not fit, it is
+    /// 0. For a line that is accepted it means nothing.
+    fn error_place(&self, line: &[u8]) -> usize
+        ensures place { result ≡ place self.now line.now };
 }
 
 /// The answer to a line, and how many bytes it takes with its end.

@@ -1,26 +1,33 @@
 -- Columns from outside: what their configuration says, which number a line has, and what a call
 -- leaves.
 use Rattle.std.specs.Prelude.{◌≡◌, ◌≢◌, ℕ, ◌≤◌, ◌++◌, ℤ, pos, Bool, false, List, [], ◌∷◌, length, min, drop, slice_get, Option, Some, None, Result, if◌then◌else◌}
-use Rattle.std.specs.Option.{option_and_then, option_map}
-use Rattle.speedate.specs.Base.{Behavior, ParseError, TimestampUnit}
+use Rattle.std.specs.Option.{option_and_then, option_map, unwrap_or}
+use Rattle.speedate.specs.Base.{Behavior, CallKind, ParseError, TimestampUnit}
 use Rattle.speedate.specs.Config.{Choices}
-use Rattle.speedate.specs.DateTime.{DateAndTime, date_time_answer, date_time_or_timestamp}
+use Rattle.speedate.specs.DateTime.{DateAndTime, date_time_answer, date_time_answer_or}
+use Rattle.speedate.specs.DateTime.{date_time_or_timestamp, date_time_or_timestamp_or}
 use Rattle.speedate.specs.DateTime.{local_microsecond, utc_microsecond}
-use Rattle.speedate.specs.Strict.{strict_date_time_answer, strict_time_answer}
-use Rattle.speedate.specs.Time.{TimeOfDay, microsecond_of_day, time_answer}
+use Rattle.speedate.specs.Strict.{strict_date_time_answer, strict_date_time_answer_or}
+use Rattle.speedate.specs.Strict.{strict_time_answer, strict_time_answer_or}
+use Rattle.speedate.specs.Time.{TimeOfDay, microsecond_of_day, time_answer, time_answer_or}
+use Rattle.speedate.specs.Refused.{placed, refused_place}
 use Rattle.speedate.specs.Requirement.{result_and_then}
-use Rattle.speedate.specs.Duration.{duration_answer}
-use Rattle.speedate.specs.Column.{as_number, date_number, front_number, number_of_duration}
-use Rattle.speedate.specs.Column.{offset_as_number, text_column, with_offset}
+use Rattle.speedate.specs.Duration.{duration_answer, duration_answer_or}
+use Rattle.speedate.specs.Column.{as_number, date_number, date_place, date_time_front_number}
+use Rattle.speedate.specs.Column.{date_time_front_place, ended_part, front_number, front_place}
+use Rattle.speedate.specs.Column.{number_of_duration, offset_as_number, text_column, with_offset}
 use Rattle.speedate.specs.ColumnText.{column_text, least_of_64_bits}
 use Rattle.speedate.specs.declared.column.date.DateReader.{DateReader}
 use Rattle.speedate.specs.declared.column.front.DateTimeFront.{DateTimeFront}
+use Rattle.speedate.specs.declared.column.front.DateTimeFrontReader.{DateTimeFrontReader}
 use Rattle.speedate.specs.declared.LineConfig.{LineConfig}
 use Rattle.speedate.specs.declared.LineError.{LineError}
 use Rattle.speedate.specs.Lines.{unfinished_line, whole_lines}
-use Rattle.speedate_c.specs.Code.{line_error_code, success}
+use Rattle.speedate_c.specs.Code.{kind_number, line_error_code, success}
 use Rattle.speedate_c.specs.Config.{choices_of, flags}
 use Rattle.speedate_c.specs.declared.config.SpeedateConfig.{SpeedateConfig}
+use Rattle.speedate_c.specs.Written.{no_part}
+use Rattle.speedate_c.specs.declared.part.SpeedatePart.{SpeedatePart}
 use Rattle.speedate_c.specs.declared.column.LineParser.{LineParser}
 use Rattle.speedate_c.specs.declared.column.ColumnChoices.{ColumnChoices}
 use Rattle.speedate_c.specs.declared.column.SpeedateColumnConfig.{SpeedateColumnConfig}
@@ -53,12 +60,45 @@ column_choices_of config =
 abbrev pub on_refusal : {N : Type 0} → Bool → N → Option N
 on_refusal goes_on least = if goes_on then Some least else None
 
+-- what a column reads a line as, or its error, the place for which it refuses a line, and the kind
+-- of calls that parse a text as it does
+pub record LineCall (N : Type 0) : Type 0 where
+  pub answer : List ℕ → Result N LineError
+  pub place : List ℕ → ℕ
+  pub kind : CallKind
+
 -- the date-time of a line, or the error
 abbrev pub date_time_by_parser : LineParser → Choices → List ℕ → Result DateAndTime ParseError
 date_time_by_parser LineParser.Text chosen line = date_time_answer chosen.behavior line
 date_time_by_parser LineParser.OrTimestamp chosen line =
     date_time_or_timestamp chosen.unit chosen.behavior chosen.offset line
 date_time_by_parser LineParser.Strict chosen line = strict_date_time_answer chosen.behavior line
+
+-- the place of a line in a column of date-times: its end, if an offset is missing
+abbrev pub date_time_place_by : Choices → LineParser → List ℕ → ℕ
+date_time_place_by chosen LineParser.Text line =
+    unwrap_or (refused_place (date_time_answer_or placed chosen.behavior line)) (length line)
+date_time_place_by chosen LineParser.OrTimestamp line =
+    unwrap_or (refused_place
+    (date_time_or_timestamp_or placed chosen.unit chosen.behavior chosen.offset line))
+    (length line)
+date_time_place_by chosen LineParser.Strict line =
+    unwrap_or (refused_place (strict_date_time_answer_or placed chosen.behavior line))
+    (length line)
+
+-- the kind of calls that parse date-times as a parser does
+abbrev pub date_time_kind : LineParser → CallKind
+date_time_kind LineParser.Text = CallKind.DateTime
+date_time_kind LineParser.OrTimestamp = CallKind.DateTimeOrTimestamp
+date_time_kind LineParser.Strict = CallKind.DateTimeStrict
+
+-- a column that reads date-times as numbers
+abbrev pub date_time_call : (List ℕ → Result ℤ LineError) → Choices → LineParser → LineCall ℤ
+date_time_call answer chosen parser = record {
+  answer = answer;
+  place = date_time_place_by chosen parser;
+  kind = date_time_kind parser;
+}
 
 -- the number of a line in a column of date-times: the microseconds since 1970-01-01T00:00:00 in UTC
 abbrev pub date_time_number_by : Choices → ColumnChoices → List ℕ → Result ℤ LineError
@@ -78,38 +118,68 @@ abbrev pub date_time_offset_number_by : Choices → LineParser → List ℕ → 
 date_time_offset_number_by chosen parser line =
     offset_as_number (λ value. value.time.offset) (date_time_by_parser parser chosen line)
 
--- the number of a line in a column of date-times at the front of lines, where the parser is one of
--- these: the microseconds since 1970-01-01T00:00:00 in UTC, and how many bytes the date-time takes
-abbrev pub front_number_by : Behavior → Bool → LineParser
-    → Option (List ℕ → Result DateTimeFront LineError)
-front_number_by behavior assumes_utc LineParser.Text = Some (front_number behavior assumes_utc)
-front_number_by behavior assumes_utc LineParser.OrTimestamp = None
-front_number_by behavior assumes_utc LineParser.Strict = None
+-- a column of date-times at the front of lines, where the parser is one of these: it reads the
+-- microseconds since 1970-01-01T00:00:00 in UTC, and how many bytes the date-time takes
+abbrev pub front_call_by : Behavior → Bool → LineParser → Option (LineCall DateTimeFront)
+front_call_by behavior assumes_utc LineParser.Text = Some (record {
+  answer = front_number behavior assumes_utc;
+  place = front_place behavior;
+  kind = CallKind.DateTime;
+})
+front_call_by behavior assumes_utc LineParser.OrTimestamp = None
+front_call_by behavior assumes_utc LineParser.Strict = None
+
+-- the same for a reader
+abbrev pub front_call : DateTimeFrontReader → LineCall DateTimeFront
+front_call reader = record {
+  answer = date_time_front_number reader;
+  place = date_time_front_place reader;
+  kind = CallKind.DateTime;
+}
 
 -- what a refused line has in such a column
 abbrev pub no_front : DateTimeFront
 no_front = record { microseconds = least_of_64_bits; size = 0 }
 
--- the time of a line, or the error, where the parser is one of times
-abbrev pub time_by_parser : LineParser → Choices → Option (List ℕ → Result TimeOfDay ParseError)
-time_by_parser LineParser.Text chosen = Some (λ line. time_answer chosen.behavior line)
+-- the time of a line, or the error, and the place of a line, which is its end where an offset is
+-- missing, if the parser is one of times
+abbrev pub time_by_parser : LineParser → Choices
+    → Option ((List ℕ → Result TimeOfDay ParseError) × (List ℕ → ℕ))
+time_by_parser LineParser.Text chosen = Some (
+  (λ line. time_answer chosen.behavior line),
+  (λ line. unwrap_or (refused_place (time_answer_or placed chosen.behavior line)) (length line)),
+)
 time_by_parser LineParser.OrTimestamp chosen = None
-time_by_parser LineParser.Strict chosen = Some (λ line. strict_time_answer chosen.behavior line)
+time_by_parser LineParser.Strict chosen = Some (
+  (λ line. strict_time_answer chosen.behavior line),
+  (λ line. unwrap_or (refused_place (strict_time_answer_or placed chosen.behavior line))
+      (length line)),
+)
 
--- the number of a line in a column of times, where the parser is one of times: the microseconds
--- after midnight that its clock shows, whatever the offset
-abbrev pub time_number_by : Choices → LineParser → Option (List ℕ → Result ℤ LineError)
-time_number_by chosen parser =
-    option_map (λ time_of_line line.
-    as_number (λ time. pos (microsecond_of_day time)) (time_of_line line))
+-- the kind of calls that parse times as a parser does
+abbrev pub time_kind : LineParser → CallKind
+time_kind LineParser.Text = CallKind.Time
+time_kind LineParser.OrTimestamp = CallKind.Time
+time_kind LineParser.Strict = CallKind.TimeStrict
+
+-- a column that reads times as numbers, where the parser is one of times
+abbrev pub time_call : (Result TimeOfDay ParseError → Result ℤ LineError) → Choices → LineParser
+    → Option (LineCall ℤ)
+time_call number chosen parser =
+    option_map (λ time. record {
+      answer = λ line. number (time.0 line);
+      place = time.1;
+      kind = time_kind parser;
+    })
     (time_by_parser parser chosen)
 
--- the number of a line in a column of the offsets of times, where the parser is one of times: its
--- seconds
-abbrev pub time_offset_number_by : Choices → LineParser → Option (List ℕ → Result ℤ LineError)
-time_offset_number_by chosen parser =
-    option_map (λ time_of_line line. offset_as_number (λ time. time.offset) (time_of_line line))
-    (time_by_parser parser chosen)
+-- the number of a time: the microseconds after midnight that its clock shows, whatever the offset
+abbrev pub number_of_time : Result TimeOfDay ParseError → Result ℤ LineError
+number_of_time time = as_number (λ time. pos (microsecond_of_day time)) time
+
+-- the number of the offset of a time: its seconds
+abbrev pub number_of_offset : Result TimeOfDay ParseError → Result ℤ LineError
+number_of_offset time = offset_as_number (λ time. time.offset) time
 
 -- the reader of a column of dates, where the parser is one of dates
 abbrev pub date_reader : TimestampUnit → LineParser → Option DateReader
@@ -118,80 +188,124 @@ date_reader unit LineParser.OrTimestamp =
     Some (DateReader.OrTimestamp (record { timestamp_unit = unit }))
 date_reader unit LineParser.Strict = None
 
+-- the kind of calls that parse dates as a parser does
+abbrev pub date_kind : LineParser → CallKind
+date_kind LineParser.Text = CallKind.Date
+date_kind LineParser.OrTimestamp = CallKind.DateOrTimestamp
+date_kind LineParser.Strict = CallKind.Date
+
+-- a column of dates: it reads the days since 1970-01-01
+abbrev pub date_call : LineParser → DateReader → LineCall ℤ
+date_call parser reader = record {
+  answer = date_number reader;
+  place = date_place reader;
+  kind = date_kind parser;
+}
+
 -- the number of a line in a column of durations: its microseconds, with the sign
 abbrev pub duration_number_by : Choices → List ℕ → Result ℤ LineError
 duration_number_by chosen line =
     number_of_duration (duration_answer chosen.order chosen.behavior line)
 
+-- the place of a line in a column of durations: its beginning, where the number is too large
+abbrev pub duration_place_by : Choices → List ℕ → ℕ
+duration_place_by chosen line =
+    unwrap_or (refused_place (duration_answer_or placed chosen.order chosen.behavior line)) 0
+
+-- a column of durations
+abbrev pub duration_call : Choices → LineCall ℤ
+duration_call chosen = record {
+  answer = duration_number_by chosen;
+  place = duration_place_by chosen;
+  kind = CallKind.Duration;
+}
+
 -- what both configurations choose, where each of their numbers has a value, and the parser is one
--- of the column: how it is read, and the number of a line
-abbrev pub chosen_by : {N : Type 0}
-    → (Choices → ColumnChoices → Option (List ℕ → Result N LineError))
-    → SpeedateConfig → SpeedateColumnConfig
-    → Option (ColumnChoices × (List ℕ → Result N LineError))
-chosen_by number config column =
+-- of the column: how it is read, and what a line is read as
+abbrev pub chosen_by : {N : Type 0} → (Choices → ColumnChoices → Option (LineCall N))
+    → SpeedateConfig → SpeedateColumnConfig → Option (ColumnChoices × LineCall N)
+chosen_by call config column =
     option_and_then (λ chosen.
     option_and_then (λ column.
-    option_map (λ number. (column, number)) (number chosen column))
+    option_map (λ call. (column, call)) (call chosen column))
     (column_choices_of column))
     (choices_of config)
 
 -- the same for a column of date-times
 abbrev pub chosen_for_date_times : SpeedateConfig → SpeedateColumnConfig
-    → Option (ColumnChoices × (List ℕ → Result ℤ LineError))
-chosen_for_date_times = chosen_by (λ chosen column. Some (date_time_number_by chosen column))
+    → Option (ColumnChoices × LineCall ℤ)
+chosen_for_date_times =
+    chosen_by (λ chosen column.
+    Some (date_time_call (date_time_number_by chosen column) chosen column.parser))
 
 -- for a column of date-times as their clocks show them
 abbrev pub chosen_for_clocks : SpeedateConfig → SpeedateColumnConfig
-    → Option (ColumnChoices × (List ℕ → Result ℤ LineError))
-chosen_for_clocks = chosen_by (λ chosen column. Some (clock_number_by chosen column.parser))
+    → Option (ColumnChoices × LineCall ℤ)
+chosen_for_clocks =
+    chosen_by (λ chosen column.
+    Some (date_time_call (clock_number_by chosen column.parser) chosen column.parser))
 
 -- for a column of the offsets of date-times
 abbrev pub chosen_for_date_time_offsets : SpeedateConfig → SpeedateColumnConfig
-    → Option (ColumnChoices × (List ℕ → Result ℤ LineError))
+    → Option (ColumnChoices × LineCall ℤ)
 chosen_for_date_time_offsets =
-    chosen_by (λ chosen column. Some (date_time_offset_number_by chosen column.parser))
+    chosen_by (λ chosen column.
+    Some (date_time_call (date_time_offset_number_by chosen column.parser) chosen column.parser))
 
 -- for a column of date-times at the front of lines
 abbrev pub chosen_for_fronts : SpeedateConfig → SpeedateColumnConfig
-    → Option (ColumnChoices × (List ℕ → Result DateTimeFront LineError))
+    → Option (ColumnChoices × LineCall DateTimeFront)
 chosen_for_fronts =
-    chosen_by (λ chosen column.
-    front_number_by chosen.behavior column.assumes_utc column.parser)
+    chosen_by (λ chosen column. front_call_by chosen.behavior column.assumes_utc column.parser)
 
 -- for a column of dates
 abbrev pub chosen_for_dates : SpeedateConfig → SpeedateColumnConfig
-    → Option (ColumnChoices × (List ℕ → Result ℤ LineError))
+    → Option (ColumnChoices × LineCall ℤ)
 chosen_for_dates =
-    chosen_by (λ chosen column. option_map date_number (date_reader chosen.unit column.parser))
+    chosen_by (λ chosen column.
+    option_map (date_call column.parser) (date_reader chosen.unit column.parser))
 
 -- for a column of times
 abbrev pub chosen_for_times : SpeedateConfig → SpeedateColumnConfig
-    → Option (ColumnChoices × (List ℕ → Result ℤ LineError))
-chosen_for_times = chosen_by (λ chosen column. time_number_by chosen column.parser)
+    → Option (ColumnChoices × LineCall ℤ)
+chosen_for_times = chosen_by (λ chosen column. time_call number_of_time chosen column.parser)
 
 -- for a column of the offsets of times
 abbrev pub chosen_for_time_offsets : SpeedateConfig → SpeedateColumnConfig
-    → Option (ColumnChoices × (List ℕ → Result ℤ LineError))
-chosen_for_time_offsets = chosen_by (λ chosen column. time_offset_number_by chosen column.parser)
+    → Option (ColumnChoices × LineCall ℤ)
+chosen_for_time_offsets =
+    chosen_by (λ chosen column. time_call number_of_offset chosen column.parser)
 
 -- for a column of durations
 abbrev pub chosen_for_durations : SpeedateConfig → SpeedateColumnConfig
-    → Option (ColumnChoices × (List ℕ → Result ℤ LineError))
-chosen_for_durations = chosen_by (λ chosen column. Some (duration_number_by chosen))
+    → Option (ColumnChoices × LineCall ℤ)
+chosen_for_durations = chosen_by (λ chosen column. Some (duration_call chosen))
 
 -- the code of the error that ends a column, if one does
 abbrev pub ended_code : Option LineError → ℤ
 ended_code None = success
 ended_code (Some error) = line_error_code error
 
--- how far a column has come, by the numbers of its lines and the code of the error that ends it;
--- after these bytes stand the lines that have no number yet and, where the text may go on, its
--- unfinished line
+-- the part of the line that ends a column, from a parser of a kind: none if no line ends it
+abbrev pub progress_part : CallKind → Option LineError → ℕ × ℕ → SpeedatePart
+progress_part kind None part = no_part
+progress_part kind (Some error) part =
+    record { place = part.0; end = part.1; kind = kind_number kind }
+
+-- the part of the first of the lines that are left, if it ends a column
+abbrev pub left_part : {N : Type 0} → LineCall N → LineConfig → Option LineError → List (List ℕ)
+    → SpeedatePart
+left_part call config fault left =
+    progress_part call.kind fault (ended_part call.place config fault left)
+
+-- how far a column has come, by the numbers of its lines, and the code of the error that ends it,
+-- with its part; after these bytes stand the lines that have no number yet and, where the text may
+-- go on, its unfinished line
 pub record IsProgress {N : Type 0} (config : LineConfig) (text : List ℕ) (entries : List N)
-    (code : ℤ) (progress : SpeedateProgress) : Type 0 where
+    (code : ℤ) (part : SpeedatePart) (progress : SpeedateProgress) : Type 0 where
   pub lines : progress.lines ≡ length entries
   pub error : progress.error ≡ code
+  pub part : progress.part ≡ part
   pub within : progress.bytes ≤ length text
   pub rest : whole_lines config.at_end (drop progress.bytes text)
       ≡ drop progress.lines (whole_lines config.at_end text)
@@ -200,15 +314,18 @@ pub record IsProgress {N : Type 0} (config : LineConfig) (text : List ℕ) (entr
 
 -- what a call without errors leaves: the numbers of the first lines, of as many as there is room
 -- for, before what stood after them, and how far the column has come
-pub record IsNumberColumn {N : Type 0} (answer : List ℕ → Result N LineError) (config : LineConfig)
+pub record IsNumberColumn {N : Type 0} (call : LineCall N) (config : LineConfig)
     (refused : Option N) (text : List ℕ) (before after : List N) (progress : SpeedateProgress)
     : Type 0 where
   pub numbers : after
-      ≡ (text_column answer config refused (length before) text).numbers
+      ≡ (text_column call.answer config refused (length before) text).numbers
       ++ drop progress.lines before
   pub reached : IsProgress config text
-      (text_column answer config refused (length before) text).numbers
-      (ended_code (text_column answer config refused (length before) text).fault) progress
+      (text_column call.answer config refused (length before) text).numbers
+      (ended_code (text_column call.answer config refused (length before) text).fault)
+      (left_part call config
+      (text_column call.answer config refused (length before) text).fault
+      (drop progress.lines (whole_lines config.at_end text))) progress
 
 -- what a call with errors leaves, which no line ends: as many lines are read as there is room
 -- for in both
@@ -223,16 +340,16 @@ pub record IsColumnWithErrors {N : Type 0} (answer : List ℕ → Result N LineE
       text).errors ++ drop progress.lines errors_before
   pub reached : IsProgress config text
       (text_column answer config (Some least) (min (length before) (length errors_before))
-      text).numbers success progress
+      text).numbers success no_part progress
 
 -- what a call leaves: it writes errors too where there is a place for one
-pub record IsColumn {N : Type 0} (answer : List ℕ → Result N LineError) (column : ColumnChoices)
-    (least : N) (text : List ℕ) (before after : List N) (errors_before errors_after : List ℕ)
+pub record IsColumn {N : Type 0} (call : LineCall N) (column : ColumnChoices) (least : N)
+    (text : List ℕ) (before after : List N) (errors_before errors_after : List ℕ)
     (progress : SpeedateProgress) : Type 0 where
-  pub numbers : length errors_before ≡ 0 → IsNumberColumn answer column.lines
+  pub numbers : length errors_before ≡ 0 → IsNumberColumn call column.lines
       (on_refusal column.goes_on least) text before after progress
-  pub errors : length errors_before ≢ 0 → IsColumnWithErrors answer column.lines least text before
-      after errors_before errors_after progress
+  pub errors : length errors_before ≢ 0 → IsColumnWithErrors call.answer column.lines least text
+      before after errors_before errors_after progress
 
 -- written of numbers that are printed: their text over the front of the buffer, and how far it has
 -- come
@@ -247,5 +364,6 @@ written_lines line numbers before =
         lines = printed.lines;
         bytes = size;
         error = ended_code printed.fault;
+        part = no_part;
       },
     )

@@ -3,7 +3,7 @@
 ghost use Rattle.std.specs.Prelude.{◌≡◌, slice_get};
 ghost use Rattle.speedate_c.specs.Code.{success};
 ghost use Rattle.speedate_c.specs.Column.{IsColumn, column_choices_of, ended_code, parsers};
-ghost use Rattle.speedate_c.specs.Column.{written_lines};
+ghost use Rattle.speedate_c.specs.Column.{progress_part, written_lines};
 
 mod date;
 mod date_time;
@@ -11,10 +11,11 @@ mod duration;
 mod front;
 mod time;
 
-use crate::code::{SUCCESS, line_error_code};
+use crate::code::{SUCCESS, kind_number, line_error_code};
 use crate::config::flag;
+use crate::part::{NO_PART, SpeedatePart};
 use speedate::{
-    LineConfig, LinePrinter, LineReader, Progress, print_column, read_column,
+    CallKind, LineConfig, LinePrinter, LineReader, Progress, print_column, read_column,
     read_column_with_errors,
 };
 
@@ -48,6 +49,9 @@ pub struct SpeedateProgress {
     pub bytes: usize,
     /// The code of the error of the next line, if it ends the column, otherwise 0.
     pub error: i32,
+    /// The part of that line that the error is about, from the line's beginning on: none if no line ends the
+    /// column, and for numbers that are printed.
+    pub part: SpeedatePart,
 }
 
 /// Which dates, times and date-times a line may be.
@@ -105,11 +109,12 @@ fn parser(number: u8) -> Option<LineParser>
 }
 
 impl SpeedateProgress {
-    /// The numbers of a progress.
-    fn from_progress(progress: Progress) -> Self
+    /// The numbers of a progress, and a part.
+    fn from_progress(progress: Progress, part: SpeedatePart) -> Self
         ensures lines { result.lines ≡ progress.lines }
         ensures bytes { result.bytes ≡ progress.bytes }
         ensures error { result.error ≡ ended_code progress.error }
+        ensures part { result.part ≡ part }
     {
         SpeedateProgress {
             lines: progress.lines,
@@ -118,25 +123,44 @@ impl SpeedateProgress {
                 Some(error) => line_error_code(error),
                 None => SUCCESS,
             },
+            part,
         }
     }
 }
 
+/// The part of the line that ends a column of a kind, if one does.
+fn ended_part(progress: &Progress, kind: CallKind) -> SpeedatePart
+    ensures part { result ≡ progress_part kind progress.now.error
+        (progress.now.place, progress.now.end) }
+{
+    match progress.error {
+        Some(_) => SpeedatePart {
+            place: progress.place,
+            end: progress.end,
+            kind: kind_number(kind),
+        },
+        None => NO_PART,
+    }
+}
+
 /// Reads a column, and writes how far it has come, and the number of each line's error too if there is a
-/// place for one, and gives the code. A refused line has the number `refused_number`.
+/// place for one, and gives the code. A refused line has the number `refused_number`, and the parser is of
+/// a kind.
 #[inline(always)]
 fn write_column<R: LineReader>(
     text: &[u8],
     choices: &ColumnChoices,
     reader: &R,
+    kind: CallKind,
     refused_number: R::Number,
     out: &mut [R::Number],
     errors: &mut [u8],
     progress: &mut SpeedateProgress,
 ) -> i32
     ensures success { result ≡ success }
-    ensures column { IsColumn (R.answer reader.now) choices.now refused_number text.now
-        out.old out.new errors.old errors.new progress.new }
+    ensures column { IsColumn
+        (record { answer = R.answer reader.now; place = R.place reader.now; kind = kind })
+        choices.now refused_number text.now out.old out.new errors.old errors.new progress.new }
 {
     let read = if errors.is_empty() {
         let refused = choices.goes_on.then_some(refused_number);
@@ -144,7 +168,8 @@ fn write_column<R: LineReader>(
     } else {
         read_column_with_errors(text, choices.lines, reader, refused_number, out, errors)
     };
-    *progress = SpeedateProgress::from_progress(read);
+    let part = ended_part(&read, kind);
+    *progress = SpeedateProgress::from_progress(read, part);
     SUCCESS
 }
 
@@ -159,6 +184,6 @@ fn write_lines<P: LinePrinter>(
     ensures written { (result, buffer.new, progress.new)
         ≡ written_lines (P.line printer.now) numbers.now buffer.old }
 {
-    *progress = SpeedateProgress::from_progress(print_column(numbers, printer, buffer));
+    *progress = SpeedateProgress::from_progress(print_column(numbers, printer, buffer), NO_PART);
     SUCCESS
 }

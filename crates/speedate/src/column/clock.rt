@@ -31,11 +31,13 @@ pub struct DateTimeOffsetReader {
 }
 
 impl LineReader for DateTimeClockReader {
-    ghost use Rattle.speedate.specs.Column.{clock_number};
+    ghost use Rattle.speedate.specs.Column.{clock_number, date_time_place};
 
     type Number = i64;
 
     ghost answer = { clock_number };
+
+    ghost place = { λ reader line. date_time_place reader.parser line };
 
     fn number(&self, line: &[u8]) -> Result<i64, LineError> {
         match self.parser.parse(line) {
@@ -43,20 +45,30 @@ impl LineReader for DateTimeClockReader {
             Err(fault) => Err(LineError::Parse(fault)),
         }
     }
+
+    fn error_place(&self, line: &[u8]) -> usize {
+        self.parser.error_place(line)
+    }
 }
 
 impl LineReader for DateTimeOffsetReader {
-    ghost use Rattle.speedate.specs.Column.{date_time_offset_number};
+    ghost use Rattle.speedate.specs.Column.{date_time_offset_number, date_time_place};
 
     type Number = i32;
 
     ghost answer = { date_time_offset_number };
+
+    ghost place = { λ reader line. date_time_place reader.parser line };
 
     fn number(&self, line: &[u8]) -> Result<i32, LineError> {
         match self.parser.parse(line) {
             Ok(value) => offset_number(value.time.tz_offset),
             Err(fault) => Err(LineError::Parse(fault)),
         }
+    }
+
+    fn error_place(&self, line: &[u8]) -> usize {
+        self.parser.error_place(line)
     }
 }
 

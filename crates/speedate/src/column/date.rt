@@ -24,11 +24,13 @@ const EPOCH: Date = Date {
 };
 
 impl LineReader for DateReader {
-    ghost use Rattle.speedate.specs.Column.{date_number};
+    ghost use Rattle.speedate.specs.Column.{date_number, date_place};
 
     type Number = i32;
 
     ghost answer = { date_number };
+
+    ghost place = { date_place };
 
     #[inline(always)]
     fn number(&self, line: &[u8]) -> Result<i32, LineError> {
@@ -48,6 +50,14 @@ impl LineReader for DateReader {
             Ok((date, size)) => Some((date.days_since(&EPOCH), size)),
             Err(_) => None,
         }
+    }
+
+    fn error_place(&self, line: &[u8]) -> usize {
+        let place = match self {
+            DateReader::Text => Date::error_place_rfc3339(line),
+            DateReader::OrTimestamp(config) => Date::error_place(line, config),
+        };
+        place.unwrap_or(line.len())
     }
 }
 

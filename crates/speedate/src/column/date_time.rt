@@ -35,7 +35,7 @@ pub enum DateTimeParser {
 impl DateTimeParser {
     ghost use Rattle.std.specs.Prelude.{◌≡◌, IsTrue, Ok};
     ghost use Rattle.speedate_civil.specs.DateTime.{◌gives◌};
-    ghost use Rattle.speedate.specs.Column.{date_time_of_line, taken_answer};
+    ghost use Rattle.speedate.specs.Column.{date_time_of_line, date_time_place, taken_answer};
 
     /// Parses a line as a date-time.
     pub(super) fn parse(&self, line: &[u8]) -> Result<DateTime, ParseError>
@@ -48,6 +48,19 @@ impl DateTimeParser {
             DateTimeParser::OrTimestamp(config) => DateTime::parse_bytes_with_config(line, config),
             DateTimeParser::Strict(behavior) => DateTime::parse_bytes_strict(line, *behavior),
         }
+    }
+
+    /// The byte at which the error of a line lies: where the line ends if it is a date-time, which then
+    /// misses an offset.
+    pub(super) fn error_place(&self, line: &[u8]) -> usize
+        ensures place { result ≡ date_time_place self.now line.now }
+    {
+        let place = match self {
+            DateTimeParser::Text(config) => DateTime::error_place_rfc3339(line, config),
+            DateTimeParser::OrTimestamp(config) => DateTime::error_place(line, config),
+            DateTimeParser::Strict(behavior) => DateTime::error_place_strict(line, *behavior),
+        };
+        place.unwrap_or(line.len())
     }
 
     /// Whether a line that is a date-time is one for this parser: for `Strict` only if it is of RFC 3339.
@@ -130,11 +143,13 @@ impl DateTimeReader {
 }
 
 impl LineReader for DateTimeReader {
-    ghost use Rattle.speedate.specs.Column.{date_time_number};
+    ghost use Rattle.speedate.specs.Column.{date_time_number, date_time_place};
 
     type Number = i64;
 
     ghost answer = { date_time_number };
+
+    ghost place = { λ reader line. date_time_place reader.parser line };
 
     fn number(&self, line: &[u8]) -> Result<i64, LineError> {
         match &self.parser {
@@ -155,6 +170,10 @@ impl LineReader for DateTimeReader {
             return None;
         }
         Some((number, size))
+    }
+
+    fn error_place(&self, line: &[u8]) -> usize {
+        self.parser.error_place(line)
     }
 }
 

@@ -19,11 +19,13 @@ pub struct DurationReader {
 }
 
 impl LineReader for DurationReader {
-    ghost use Rattle.speedate.specs.Column.{duration_number};
+    ghost use Rattle.speedate.specs.Column.{duration_number, duration_place};
 
     type Number = i64;
 
     ghost answer = { duration_number };
+
+    ghost place = { duration_place };
 
     fn number(&self, line: &[u8]) -> Result<i64, LineError> {
         let behavior = self.config.microseconds_precision_overflow_behavior;
@@ -31,6 +33,10 @@ impl LineReader for DurationReader {
             Ok(duration) => duration_microseconds(&duration),
             Err(fault) => Err(LineError::Parse(fault)),
         }
+    }
+
+    fn error_place(&self, line: &[u8]) -> usize {
+        Duration::error_place(line, &self.config).unwrap_or(0)
     }
 }
 

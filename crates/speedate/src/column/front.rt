@@ -29,11 +29,14 @@ pub struct DateTimeFrontReader {
 
 impl LineReader for DateTimeFrontReader {
     ghost use Rattle.std.specs.Prelude.{◌≡◌, ◌≤◌, IfOk, Ok, length, take};
-    ghost use Rattle.speedate.specs.Column.{date_time_front_number, date_time_number, whole_reader};
+    ghost use Rattle.speedate.specs.Column.{date_time_front_number, date_time_front_place};
+    ghost use Rattle.speedate.specs.Column.{date_time_number, whole_reader};
 
     type Number = DateTimeFront;
 
     ghost answer = { date_time_front_number };
+
+    ghost place = { date_time_front_place };
 
     fn number(&self, line: &[u8]) -> Result<DateTimeFront, LineError>
         ensures answer { result ≡ date_time_front_number self.now line.now }
@@ -47,6 +50,13 @@ impl LineReader for DateTimeFrontReader {
                 Err(error) => Err(error),
             },
             Err(fault) => Err(LineError::Parse(fault)),
+        }
+    }
+
+    fn error_place(&self, line: &[u8]) -> usize {
+        match DateTime::parse_or_place_front(line, &self.config) {
+            Ok((_, size)) => size,
+            Err(refused) => refused.place,
         }
     }
 }

@@ -29,6 +29,7 @@ pub fn print_column<P: LinePrinter>(numbers: &[P::Number], printer: &P, out: &mu
         ≡ (column_text (P.line printer.now) (length out.old) numbers.now).lines }
     ensures error { result.error
         ≡ (column_text (P.line printer.now) (length out.old) numbers.now).fault }
+    ensures part { (result.place ≡ 0) × (result.end ≡ 0) }
     ensures within { result.lines ≤ length numbers.now }
     ensures reads_back { (answer : List ℕ → Result P.Number LineError) (refused : P.Number)
         (config : LineConfig) → P.leads_back printer.now answer refused
@@ -45,6 +46,8 @@ pub fn print_column<P: LinePrinter>(numbers: &[P::Number], printer: &P, out: &mu
                 lines,
                 bytes,
                 error: Some(error),
+                place: 0,
+                end: 0,
             },
         }
         let size = line.len();
@@ -53,6 +56,8 @@ pub fn print_column<P: LinePrinter>(numbers: &[P::Number], printer: &P, out: &mu
                 lines,
                 bytes,
                 error: None,
+                place: 0,
+                end: 0,
             };
         }
         put_line(line.as_str(), bytes, out);
@@ -63,6 +68,8 @@ pub fn print_column<P: LinePrinter>(numbers: &[P::Number], printer: &P, out: &mu
         lines,
         bytes,
         error: None,
+        place: 0,
+        end: 0,
     }
 }
 

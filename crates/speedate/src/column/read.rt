@@ -3,7 +3,7 @@
 ghost use Rattle.std.specs.Prelude.{◌≡◌, ◌≤◌, ◌++◌, [], IfSome, MatchOption, None, Some, drop, false, length, min, slice_set, take};
 ghost use Rattle.speedate.specs.Lines.{unfinished_line, whole_lines};
 ghost use Rattle.speedate.specs.Column.{HasNoEnd, IsFirstLine, IsFirstLineOf, entry, overwritten};
-ghost use Rattle.speedate.specs.Column.{text_column};
+ghost use Rattle.speedate.specs.Column.{ended_part, text_column};
 
 use super::{Line, LineConfig, LineError, LineReader, Progress};
 use crate::lines::{line_end, without_return};
@@ -14,7 +14,8 @@ use speedate_base::numbers::byte_at;
 /// [`DateReader::Text`](crate::DateReader).
 ///
 /// The [lines](docs/GRAMMAR.md#columns) are those that `config` cuts. If `refused` is a number, a refused
-/// line gets it, and the column goes on; otherwise it ends the column, and the progress has its error.
+/// line gets it, and the column goes on; otherwise it ends the column, and the progress has its error, and
+/// the part of the line that the error is about.
 /// What follows the bytes that the progress counts is left for a further call. The other places of
 /// `out` stay as they are.
 #[inline(always)]
@@ -32,6 +33,8 @@ pub fn read_column<R: LineReader>(
         (length out.old) text.now).numbers }
     ensures error { result.error ≡ (text_column (R.answer reader.now) config refused
         (length out.old) text.now).fault }
+    ensures part { (result.place, result.end) ≡ ended_part (R.place reader.now) config
+        result.error (drop result.lines (whole_lines config.at_end text.now)) }
     ensures within { result.bytes ≤ length text.now }
     ensures rest { whole_lines config.at_end (drop result.bytes text.now)
         ≡ drop result.lines (whole_lines config.at_end text.now) }
@@ -65,6 +68,7 @@ pub fn read_column_with_errors<R: LineReader>(
     ensures lines { result.lines ≡ length (text_column (R.answer reader.now) config (Some refused)
         (min (length out.old) (length errors.old)) text.now).numbers }
     ensures error { result.error ≡ None }
+    ensures part { (result.place ≡ 0) × (result.end ≡ 0) }
     ensures within { result.bytes ≤ length text.now }
     ensures rest { whole_lines config.at_end (drop result.bytes text.now)
         ≡ drop result.lines (whole_lines config.at_end text.now) }
@@ -102,6 +106,8 @@ fn fill<R: LineReader>(
         (length out.old) text.now).numbers }
     ensures error { result.error ≡ (text_column (R.answer reader.now) config refused
         (length out.old) text.now).fault }
+    ensures part { (result.place, result.end) ≡ ended_part (R.place reader.now) config
+        result.error (drop result.lines (whole_lines config.at_end text.now)) }
     ensures within { result.bytes ≤ length text.now }
     ensures rest { whole_lines config.at_end (drop result.bytes text.now)
         ≡ drop result.lines (whole_lines config.at_end text.now) }
@@ -116,15 +122,22 @@ fn fill<R: LineReader>(
                 lines,
                 bytes: text.len() - rest.len(),
                 error: None,
+                place: 0,
+                end: 0,
             };
         };
         let (number, code) = match entry(line.answer, refused) {
             Ok(entry) => entry,
-            Err(error) => return Progress {
-                lines,
-                bytes: text.len() - rest.len(),
-                error: Some(error),
-            },
+            Err(error) => {
+                let (place, end) = refused_part(rest, config, reader, error);
+                return Progress {
+                    lines,
+                    bytes: text.len() - rest.len(),
+                    error: Some(error),
+                    place,
+                    end,
+                };
+            }
         };
         out[lines] = number;
         put(errors, lines, code);
@@ -135,6 +148,31 @@ fn fill<R: LineReader>(
         lines,
         bytes: text.len() - rest.len(),
         error: None,
+        place: 0,
+        end: 0,
+    }
+}
+
+/// The part of the first line of a text for which it is refused with an error. It is not inlined, so that
+/// a reader's loop does not have the parser of places in it.
+#[cold]
+#[inline(never)]
+fn refused_part<R: LineReader>(
+    text: &[u8],
+    config: LineConfig,
+    reader: &R,
+    error: LineError,
+) -> (usize, usize)
+    ensures part { result ≡ ended_part (R.place reader.now) config (Some error)
+        (whole_lines config.at_end text.now) }
+{
+    match first_size(text, config) {
+        Some((read, _)) => {
+            let line = &text[..read];
+            let place = reader.error_place(line);
+            (place, error.part_end(line, place))
+        }
+        None => (0, 0),
     }
 }
 

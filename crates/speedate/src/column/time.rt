@@ -24,7 +24,7 @@ pub enum TimeParser {
 
 impl TimeParser {
     ghost use Rattle.speedate_civil.specs.Time.{◌gives◌};
-    ghost use Rattle.speedate.specs.Column.{time_of_line};
+    ghost use Rattle.speedate.specs.Column.{time_of_line, time_place};
 
     /// Parses a line as a time.
     fn parse(&self, line: &[u8]) -> Result<Time, ParseError>
@@ -34,6 +34,18 @@ impl TimeParser {
             TimeParser::Text(config) => Time::parse_bytes_with_config(line, config),
             TimeParser::Strict(behavior) => Time::parse_bytes_strict(line, *behavior),
         }
+    }
+
+    /// The byte at which the error of a line lies: where the line ends if it is a time, which then misses
+    /// an offset.
+    fn error_place(&self, line: &[u8]) -> usize
+        ensures place { result ≡ time_place self.now line.now }
+    {
+        let place = match self {
+            TimeParser::Text(config) => Time::error_place(line, config),
+            TimeParser::Strict(behavior) => Time::error_place_strict(line, *behavior),
+        };
+        place.unwrap_or(line.len())
     }
 }
 
@@ -54,11 +66,13 @@ pub struct TimeOffsetReader {
 }
 
 impl LineReader for TimeReader {
-    ghost use Rattle.speedate.specs.Column.{time_number};
+    ghost use Rattle.speedate.specs.Column.{time_number, time_place};
 
     type Number = i64;
 
     ghost answer = { time_number };
+
+    ghost place = { λ reader line. time_place reader.parser line };
 
     fn number(&self, line: &[u8]) -> Result<i64, LineError> {
         match self.parser.parse(line) {
@@ -66,20 +80,30 @@ impl LineReader for TimeReader {
             Err(fault) => Err(LineError::Parse(fault)),
         }
     }
+
+    fn error_place(&self, line: &[u8]) -> usize {
+        self.parser.error_place(line)
+    }
 }
 
 impl LineReader for TimeOffsetReader {
-    ghost use Rattle.speedate.specs.Column.{time_offset_number};
+    ghost use Rattle.speedate.specs.Column.{time_offset_number, time_place};
 
     type Number = i32;
 
     ghost answer = { time_offset_number };
+
+    ghost place = { λ reader line. time_place reader.parser line };
 
     fn number(&self, line: &[u8]) -> Result<i32, LineError> {
         match self.parser.parse(line) {
             Ok(time) => offset_number(time.tz_offset),
             Err(fault) => Err(LineError::Parse(fault)),
         }
+    }
+
+    fn error_place(&self, line: &[u8]) -> usize {
+        self.parser.error_place(line)
     }
 }
 

@@ -3,14 +3,14 @@
 ghost use Rattle.std.specs.Prelude.{◌≡◌, MatchOption};
 ghost use Rattle.speedate_c.specs.Code.{config_out_of_range, success};
 ghost use Rattle.speedate_c.specs.Column.{IsColumn, chosen_for_dates};
-ghost use Rattle.speedate_c.specs.Column.{date_reader, written_lines};
+ghost use Rattle.speedate_c.specs.Column.{date_kind, date_reader, written_lines};
 ghost use Rattle.speedate.specs.ColumnText.{date_line, least_of_32_bits};
 
 use super::{
     ColumnChoices, LineParser, SpeedateColumnConfig, SpeedateProgress, write_column, write_lines,
 };
 use crate::config::SpeedateConfig;
-use speedate::{DateConfig, DatePrinter, DateReader};
+use speedate::{CallKind, DateConfig, DatePrinter, DateReader};
 
 impl ColumnChoices {
     /// The reader of dates, if the parser is one of dates.
@@ -22,6 +22,18 @@ impl ColumnChoices {
             LineParser::Text => Some(DateReader::Text),
             LineParser::OrTimestamp => Some(DateReader::OrTimestamp(config)),
             LineParser::Strict => None,
+        }
+    }
+}
+
+impl LineParser {
+    /// The kind of calls that parse a date as this parser does.
+    fn date_kind(self) -> CallKind
+        ensures kind { result ≡ date_kind self }
+    {
+        match self {
+            LineParser::OrTimestamp => CallKind::DateOrTimestamp,
+            LineParser::Text | LineParser::Strict => CallKind::Date,
         }
     }
 }
@@ -49,7 +61,17 @@ pub extern "C" fn speedate_date_column(
     let config = config_or_return!(config.to_date_config());
     let choices = config_or_return!(column.to_choices());
     let reader = config_or_return!(choices.date_reader(config));
-    write_column(text, &choices, &reader, i32::MIN, out, errors, progress)
+    let kind = choices.parser.date_kind();
+    write_column(
+        text,
+        &choices,
+        &reader,
+        kind,
+        i32::MIN,
+        out,
+        errors,
+        progress,
+    )
 }
 
 /// Prints days since 1970-01-01 as dates, a line for each, as [`print_column`] does by a

@@ -2,12 +2,14 @@
 
 ghost use Rattle.std.specs.Prelude.{◌≡◌, MatchOption, None, Some, pos};
 ghost use Rattle.speedate.specs.Column.{clock_number, date_time_number, date_time_offset_number};
+ghost use Rattle.speedate.specs.Column.{date_time_place};
 ghost use Rattle.speedate.specs.Config.{choices};
 ghost use Rattle.speedate_c.specs.Code.{config_out_of_range, success};
 ghost use Rattle.speedate_c.specs.Column.{IsColumn, chosen_for_clocks};
 ghost use Rattle.speedate_c.specs.Column.{chosen_for_date_time_offsets, chosen_for_date_times};
 ghost use Rattle.speedate_c.specs.Column.{clock_number_by, date_time_number_by};
-ghost use Rattle.speedate_c.specs.Column.{date_time_offset_number_by};
+ghost use Rattle.speedate_c.specs.Column.{date_time_kind, date_time_offset_number_by};
+ghost use Rattle.speedate_c.specs.Column.{date_time_place_by};
 ghost use Rattle.speedate_c.specs.Column.{written_lines};
 ghost use Rattle.speedate.specs.ColumnText.{date_time_line, least_of_32_bits};
 ghost use Rattle.speedate.specs.ColumnText.{least_of_64_bits};
@@ -17,7 +19,7 @@ use super::{
 };
 use crate::config::SpeedateConfig;
 use speedate::{
-    DateTimeClockPrinter, DateTimeClockReader, DateTimeConfig, DateTimeOffsetReader,
+    CallKind, DateTimeClockPrinter, DateTimeClockReader, DateTimeConfig, DateTimeOffsetReader,
     DateTimeParser, DateTimePrinter, DateTimeReader,
 };
 
@@ -32,6 +34,8 @@ impl ColumnChoices {
             ≡ clock_number_by (choices config.now) self.now.parser }
         ensures offsets { date_time_offset_number (record { parser = result })
             ≡ date_time_offset_number_by (choices config.now) self.now.parser }
+        ensures places { date_time_place result
+            ≡ date_time_place_by (choices config.now) self.now.parser }
     {
         let time_config = config.time_config;
         match self.parser {
@@ -48,6 +52,8 @@ impl ColumnChoices {
     fn date_time_reader(&self, config: &DateTimeConfig) -> DateTimeReader
         ensures reads { date_time_number result
             ≡ date_time_number_by (choices config.now) self.now }
+        ensures places { date_time_place result.parser
+            ≡ date_time_place_by (choices config.now) self.now.parser }
     {
         DateTimeReader {
             parser: self.date_time_parser(config),
@@ -56,11 +62,25 @@ impl ColumnChoices {
     }
 }
 
+impl LineParser {
+    /// The kind of calls that parse a date-time as this parser does.
+    fn date_time_kind(self) -> CallKind
+        ensures kind { result ≡ date_time_kind self }
+    {
+        match self {
+            LineParser::Text => CallKind::DateTime,
+            LineParser::OrTimestamp => CallKind::DateTimeOrTimestamp,
+            LineParser::Strict => CallKind::DateTimeStrict,
+        }
+    }
+}
+
 /// Reads the lines of a text as date-times, and writes their microseconds since 1970-01-01T00:00:00 in
 /// UTC, as [`read_column`] does by a [`DateTimeReader`]: 1,000,000 for `1970-01-01T00:00:01Z`.
 ///
 /// `CONFIG_OUT_OF_RANGE` if a number of either configuration is out of range. A refused line is not
-/// a failure of the call: if it ends the column, the progress has the code of its error.
+/// a failure of the call: if it ends the column, the progress has the code of its error, and the part of the
+/// line that the error is about.
 #[unsafe(no_mangle)]
 pub extern "C" fn speedate_datetime_column(
     text: &[u8],
@@ -79,7 +99,17 @@ pub extern "C" fn speedate_datetime_column(
     let config = config_or_return!(config.to_config());
     let choices = config_or_return!(column.to_choices());
     let reader = choices.date_time_reader(&config);
-    write_column(text, &choices, &reader, i64::MIN, out, errors, progress)
+    let kind = choices.parser.date_time_kind();
+    write_column(
+        text,
+        &choices,
+        &reader,
+        kind,
+        i64::MIN,
+        out,
+        errors,
+        progress,
+    )
 }
 
 /// Reads the lines of a text as date-times, and writes the microseconds since 1970-01-01T00:00:00 that
@@ -106,7 +136,17 @@ pub extern "C" fn speedate_datetime_clock_column(
     let choices = config_or_return!(column.to_choices());
     let parser = choices.date_time_parser(&config);
     let reader = DateTimeClockReader { parser };
-    write_column(text, &choices, &reader, i64::MIN, out, errors, progress)
+    let kind = choices.parser.date_time_kind();
+    write_column(
+        text,
+        &choices,
+        &reader,
+        kind,
+        i64::MIN,
+        out,
+        errors,
+        progress,
+    )
 }
 
 /// Reads the lines of a text as date-times, and writes the seconds of their offsets, as [`read_column`] does
@@ -133,7 +173,17 @@ pub extern "C" fn speedate_datetime_offset_column(
     let choices = config_or_return!(column.to_choices());
     let parser = choices.date_time_parser(&config);
     let reader = DateTimeOffsetReader { parser };
-    write_column(text, &choices, &reader, i32::MIN, out, errors, progress)
+    let kind = choices.parser.date_time_kind();
+    write_column(
+        text,
+        &choices,
+        &reader,
+        kind,
+        i32::MIN,
+        out,
+        errors,
+        progress,
+    )
 }
 
 /// Prints microseconds since 1970-01-01T00:00:00 in UTC as date-times with `Z`, a line for each, as

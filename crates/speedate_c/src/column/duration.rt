@@ -1,21 +1,22 @@
 //! Columns of durations as C sees them.
 
 ghost use Rattle.std.specs.Prelude.{◌≡◌, MatchOption};
-ghost use Rattle.speedate.specs.Column.{duration_number};
+ghost use Rattle.speedate.specs.Column.{duration_number, duration_place};
 ghost use Rattle.speedate.specs.Config.{choices};
 ghost use Rattle.speedate_c.specs.Code.{config_out_of_range, success};
 ghost use Rattle.speedate_c.specs.Column.{IsColumn, chosen_for_durations};
-ghost use Rattle.speedate_c.specs.Column.{duration_number_by, written_lines};
+ghost use Rattle.speedate_c.specs.Column.{duration_number_by, duration_place_by, written_lines};
 ghost use Rattle.speedate.specs.ColumnText.{duration_line, least_of_64_bits};
 
 use super::{SpeedateColumnConfig, SpeedateProgress, write_column, write_lines};
 use crate::config::SpeedateConfig;
-use speedate::{DateTimeConfig, DurationPrinter, DurationReader};
+use speedate::{CallKind, DateTimeConfig, DurationPrinter, DurationReader};
 
 /// The reader of durations.
 #[inline(always)]
 fn duration_reader(config: &DateTimeConfig) -> DurationReader
     ensures reads { duration_number result ≡ duration_number_by (choices config.now) }
+    ensures places { duration_place result ≡ duration_place_by (choices config.now) }
 {
     DurationReader {
         config: config.time_config,
@@ -44,7 +45,16 @@ pub extern "C" fn speedate_duration_column(
     let config = config_or_return!(config.to_config());
     let choices = config_or_return!(column.to_choices());
     let reader = duration_reader(&config);
-    write_column(text, &choices, &reader, i64::MIN, out, errors, progress)
+    write_column(
+        text,
+        &choices,
+        &reader,
+        CallKind::Duration,
+        i64::MIN,
+        out,
+        errors,
+        progress,
+    )
 }
 
 /// Prints microseconds as durations, a line for each, as [`print_column`] does by a

@@ -2,14 +2,16 @@
 
 ghost use Rattle.std.specs.Option.{option_map};
 ghost use Rattle.std.specs.Prelude.{◌≡◌, MatchOption};
-ghost use Rattle.speedate.specs.Column.{date_time_front_number};
 ghost use Rattle.speedate.specs.Config.{choices};
 ghost use Rattle.speedate_c.specs.Code.{config_out_of_range, success};
-ghost use Rattle.speedate_c.specs.Column.{IsColumn, chosen_for_fronts, front_number_by, no_front};
+ghost use Rattle.speedate_c.specs.Column.{IsColumn, chosen_for_fronts, front_call, front_call_by};
+ghost use Rattle.speedate_c.specs.Column.{no_front};
 
 use super::{ColumnChoices, LineParser, SpeedateColumnConfig, SpeedateProgress, write_column};
 use crate::config::SpeedateConfig;
-use speedate::{DateTimeConfig, DateTimeFront as SpeedateDateTimeFront, DateTimeFrontReader};
+use speedate::{
+    CallKind, DateTimeConfig, DateTimeFront as SpeedateDateTimeFront, DateTimeFrontReader,
+};
 
 /// What a refused line has in the column.
 const NO_FRONT: SpeedateDateTimeFront = SpeedateDateTimeFront {
@@ -21,8 +23,8 @@ impl ColumnChoices {
     /// The reader of the date-times at the front of lines, if the parser is one of these.
     #[inline(always)]
     fn front_reader(&self, config: &DateTimeConfig) -> Option<DateTimeFrontReader>
-        ensures reads { option_map date_time_front_number result
-            ≡ front_number_by (choices config.now).behavior self.now.assumes_utc self.now.parser }
+        ensures reads { option_map front_call result
+            ≡ front_call_by (choices config.now).behavior self.now.assumes_utc self.now.parser }
     {
         match self.parser {
             LineParser::Text => Some(DateTimeFrontReader {
@@ -58,5 +60,14 @@ pub extern "C" fn speedate_datetime_front_column(
     let config = config_or_return!(config.to_config());
     let choices = config_or_return!(column.to_choices());
     let reader = config_or_return!(choices.front_reader(&config));
-    write_column(text, &choices, &reader, NO_FRONT, out, errors, progress)
+    write_column(
+        text,
+        &choices,
+        &reader,
+        CallKind::DateTime,
+        NO_FRONT,
+        out,
+        errors,
+        progress,
+    )
 }

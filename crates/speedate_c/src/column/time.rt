@@ -2,25 +2,25 @@
 
 ghost use Rattle.std.specs.Option.{option_map};
 ghost use Rattle.std.specs.Prelude.{◌≡◌, MatchOption};
-ghost use Rattle.speedate.specs.Column.{time_of_line};
+ghost use Rattle.speedate.specs.Column.{time_of_line, time_place};
 ghost use Rattle.speedate.specs.Config.{choices};
 ghost use Rattle.speedate_c.specs.Code.{config_out_of_range, success};
 ghost use Rattle.speedate_c.specs.Column.{IsColumn, chosen_for_time_offsets};
 ghost use Rattle.speedate_c.specs.Column.{chosen_for_times};
-ghost use Rattle.speedate_c.specs.Column.{time_by_parser, written_lines};
+ghost use Rattle.speedate_c.specs.Column.{time_by_parser, time_kind, written_lines};
 ghost use Rattle.speedate.specs.ColumnText.{least_of_32_bits, least_of_64_bits, time_line};
 
 use super::{
     ColumnChoices, LineParser, SpeedateColumnConfig, SpeedateProgress, write_column, write_lines,
 };
 use crate::config::SpeedateConfig;
-use speedate::{DateTimeConfig, TimeOffsetReader, TimeParser, TimePrinter, TimeReader};
+use speedate::{CallKind, DateTimeConfig, TimeOffsetReader, TimeParser, TimePrinter, TimeReader};
 
 impl ColumnChoices {
     /// The parser of times, if the column has one.
     #[inline(always)]
     fn time_parser(&self, config: &DateTimeConfig) -> Option<TimeParser>
-        ensures parses { option_map time_of_line result
+        ensures parses { option_map (λ parser. (time_of_line parser, time_place parser)) result
             ≡ time_by_parser self.now.parser (choices config.now) }
     {
         let time_config = config.time_config;
@@ -31,6 +31,18 @@ impl ColumnChoices {
                 let behavior = time_config.microseconds_precision_overflow_behavior;
                 Some(TimeParser::Strict(behavior))
             }
+        }
+    }
+}
+
+impl LineParser {
+    /// The kind of calls that parse a time as this parser does.
+    fn time_kind(self) -> CallKind
+        ensures kind { result ≡ time_kind self }
+    {
+        match self {
+            LineParser::Strict => CallKind::TimeStrict,
+            LineParser::Text | LineParser::OrTimestamp => CallKind::Time,
         }
     }
 }
@@ -59,7 +71,17 @@ pub extern "C" fn speedate_time_column(
     let choices = config_or_return!(column.to_choices());
     let parser = config_or_return!(choices.time_parser(&config));
     let reader = TimeReader { parser };
-    write_column(text, &choices, &reader, i64::MIN, out, errors, progress)
+    let kind = choices.parser.time_kind();
+    write_column(
+        text,
+        &choices,
+        &reader,
+        kind,
+        i64::MIN,
+        out,
+        errors,
+        progress,
+    )
 }
 
 /// Reads the lines of a text as times, and writes the seconds of their offsets, as [`read_column`] does by a
@@ -87,7 +109,17 @@ pub extern "C" fn speedate_time_offset_column(
     let choices = config_or_return!(column.to_choices());
     let parser = config_or_return!(choices.time_parser(&config));
     let reader = TimeOffsetReader { parser };
-    write_column(text, &choices, &reader, i32::MIN, out, errors, progress)
+    let kind = choices.parser.time_kind();
+    write_column(
+        text,
+        &choices,
+        &reader,
+        kind,
+        i32::MIN,
+        out,
+        errors,
+        progress,
+    )
 }
 
 /// Prints microseconds after midnight as times, a line for each, as [`print_column`] does

@@ -1,6 +1,7 @@
-use Rattle.std.proofs.Common.{◌+◌, ◌-◌, ◌≡◌, ℕ, List, length, set, None, Some, Ok, Err, ap, arith, refl}
+use Rattle.std.proofs.Common.{◌+◌, ◌-◌, ◌≡◌, ◌∙◌, ℕ, List, length, set, None, Some, Ok, Err, ap, sym, arith, refl}
 use Rattle.std.proofs.lemmas.List.{take_rest, length-drop, length-set}
-use Rattle.speedate.specs.Column.{text_column}
+use Rattle.speedate.specs.Column.{ended_part, text_column}
+use Rattle.speedate.specs.Lines.{whole_lines}
 use Rattle.speedate.proofs.ColumnLemmas.{IsLeft-all, IsLeft-more, IsSoFar-more}
 use Rattle.speedate.proofs.ColumnLemmas.{IsSoFar-none, IsSoFar-whole, text_column-first}
 use Rattle.speedate.proofs.ColumnLemmas.{text_column-full, text_column-none}
@@ -55,6 +56,7 @@ returns-in_default g c =
       lines = all.count;
       error = all.ends;
       within = omega arith;
+      part = refl;
       rest = before.left.whole;
       unfinished = before.left.unfinished;
     }
@@ -67,12 +69,17 @@ returns-in-Err g c =
     let ended = text_column-first _ _ c.args.refused _ _ _ c.in-Some.line (Err c.in-Err.error)
     c.in-Some.ensures.line more c.in-Err.ensures.entry in
     let all = IsSoFar-whole _ _ (Some c.in-Err.error) _ _ _ _ _ before.so_far ended in
+    let config = c.args.config in
+    let part_of = λ (lines : List (List ℕ)). ended_part
+    (g.R.LineReader.place c.args.reader.now) config (Some c.in-Err.error) lines in
+    let lines_left = ap (whole_lines config.at_end) (sym before.left.place) ∙ before.left.whole in
     record {
       numbers = all.numbers;
       errors = all.errors;
       lines = all.count;
       error = all.ends;
       within = omega arith;
+      part = c.refused_part-place.ensures.part ∙ ap part_of lines_left;
       rest = before.left.whole;
       unfinished = before.left.unfinished;
     }
@@ -89,6 +96,7 @@ returns g c =
       lines = all.count;
       error = all.ends;
       within = omega arith;
+      part = refl;
       rest = before.left.whole;
       unfinished = before.left.unfinished;
     }
