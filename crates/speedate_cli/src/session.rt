@@ -8,6 +8,7 @@ use crate::check::{Check, print_reports};
 use crate::convert::{Convert, print_converted};
 use crate::order::{Order, print_late};
 use crate::print::{push_line_place, push_report};
+use crate::reading::Form;
 use crate::scan::{Offsets, Report, Scan, Stop};
 use crate::sum::{Sum, add_durations};
 use crate::summary::{SUMMARY_MAX, Summary, add_lines};
@@ -35,6 +36,11 @@ pub trait Closing {
     /// Whether bad values are reported on standard error.
     fn reports_bad(&self) -> bool {
         true
+    }
+
+    /// What kind of call reads the values, by their form.
+    fn call_kind(&self, form: Form) -> CallKind {
+        form.call_kind()
     }
 
     /// How many lines before the first value were not printed.
@@ -73,11 +79,6 @@ pub trait Session<'a>: LineMachine + Closing + Sized {
 
     /// What is known of the lines so far.
     fn scan(&self) -> Scan<'a>;
-
-    /// What kind of call reads its values.
-    fn call_kind(&self) -> CallKind {
-        self.scan().reader.form.call_kind()
-    }
 }
 
 impl Closing for Between<'_> {
@@ -206,6 +207,10 @@ impl<'a> Session<'a> for Summary<'a> {
 }
 
 impl Closing for Sum<'_> {
+    fn call_kind(&self, _form: Form) -> CallKind {
+        CallKind::Duration
+    }
+
     fn is_too_large(&self) -> bool {
         Sum::is_too_large(self)
     }
@@ -231,10 +236,6 @@ impl<'a> Session<'a> for Sum<'a> {
 
     fn scan(&self) -> Scan<'a> {
         self.scan
-    }
-
-    fn call_kind(&self) -> CallKind {
-        CallKind::Duration
     }
 }
 
@@ -358,7 +359,7 @@ impl<'a, M: Session<'a>> Observer<M> for Reports<'_, 'a> {
     fn before_read(&mut self, machine: &M) {
         let scan = machine.scan();
         if machine.reports_bad() {
-            self.tell(&scan, machine.call_kind());
+            self.tell(&scan, machine.call_kind(scan.reader.form));
         }
         self.told = scan.bad;
     }

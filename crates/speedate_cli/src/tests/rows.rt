@@ -417,7 +417,11 @@ d;\"PT1S\"x\n\
         "PT1H30S\n",
     ),
     ("sum --field 2 --undated drop", "a,PT1H\nb,\n", "PT1H\n"),
-    ("sum --digits truncate", "00:00:01.1234567\n", "PT1.123456S\n"),
+    (
+        "sum --digits truncate",
+        "00:00:01.1234567\n",
+        "PT1.123456S\n",
+    ),
     ("sum --digits refuse", "00:00:01.1234567\n", "PT0S\n"),
     ("sum --bad stop", "PT1H\nP1M\nPT1H\n", ""),
     (
