@@ -6,3 +6,4 @@ mod EntryLemmas
 mod RunLemmas
 mod LineLemmas
 mod SummaryLemmas
+mod SumLemmas

@@ -2,14 +2,14 @@
 use Rattle.std.specs.Prelude.{ℕ, List, [], ◌∷◌, ◌++◌, Option, None}
 use Rattle.speedate_stream.specs.Machine.{Machine, head}
 use Rattle.speedate_stream.specs.Watch.{one_more}
-use Rattle.speedate_cli.specs.Print.{report_text}
+use Rattle.speedate_cli.specs.Print.{call_kind, report_text}
 use Rattle.speedate_cli.specs.Scan.{Line, Scan, is_stopped, line_of, passed}
 pub use Rattle.speedate_cli.specs.declared.check.Check.{Check}
 
 -- what is reported of a line
 abbrev pub check_text : Scan → Line → List ℕ
 check_text scan (Line.Bad bad) =
-    report_text scan.name.now (one_more scan.number) bad scan.reader.form
+    report_text scan.name.now (one_more scan.number) bad (call_kind scan.reader.form)
 check_text scan Line.Late = []
 check_text scan Line.Header = []
 check_text scan (Line.Value found) = []

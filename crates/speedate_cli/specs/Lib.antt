@@ -9,3 +9,5 @@ pub mod Summary
 pub mod Convert
 pub mod Entries
 pub mod Runs
+pub mod Amount
+pub mod Sum

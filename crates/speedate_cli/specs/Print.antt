@@ -28,21 +28,22 @@ call_kind Form.Strict = CallKind.DateTimeStrict
 call_kind Form.Date = CallKind.Date
 
 -- what was expected, as a phrase
-unfoldable pub expected_by : Why → Form → List ℕ
-expected_by (Why.Parse fault) form = expected_text fault (call_kind form)
-expected_by Why.Within form = codes "a value within the first 4,096 bytes"
-expected_by Why.NoOffset form = codes "no offset"
+unfoldable pub expected_by : Why → CallKind → List ℕ
+expected_by (Why.Parse fault) kind = expected_text fault kind
+expected_by Why.Within kind = codes "a value within the first 4,096 bytes"
+expected_by Why.NoOffset kind = codes "no offset"
+expected_by Why.NoYearsOrMonths kind = codes "a duration without years and months"
 
 -- where a line stands: the name of the file and the number of the line
 unfoldable pub line_place : List ℕ → ℕ → List ℕ
 line_place name number = shown_name name ++ colon ∷ [] ++ decimal number
 
 -- the column of a bad value, which counts bytes from 1, and what was expected there
-unfoldable pub bad_text : Bad → Form → List ℕ
-bad_text bad form =
-    decimal (one_more bad.place) ++ codes ": expected " ++ expected_by bad.why form
+unfoldable pub bad_text : Bad → CallKind → List ℕ
+bad_text bad kind =
+    decimal (one_more bad.place) ++ codes ": expected " ++ expected_by bad.why kind
 
 -- the report of a bad value: the file, the line, the column, and what was expected there
-unfoldable pub report_text : List ℕ → ℕ → Bad → Form → List ℕ
-report_text name number bad form =
-    line_place name number ++ colon ∷ [] ++ bad_text bad form ++ line_feed ∷ []
+unfoldable pub report_text : List ℕ → ℕ → Bad → CallKind → List ℕ
+report_text name number bad kind =
+    line_place name number ++ colon ∷ [] ++ bad_text bad kind ++ line_feed ∷ []

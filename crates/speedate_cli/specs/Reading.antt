@@ -208,7 +208,7 @@ value_between reader head from to =
     parsed_between reader.offset from to (whole_of reader.form reader.behavior (part head from to))
 
 -- the value of a field; what stands after the quote that closes it is bad
-abbrev pub alone : Field → Result (DateAndTime × ℕ) Bad → Result (DateAndTime × ℕ) Bad
+abbrev pub alone : {A : Type 0} → Field → Result A Bad → Result A Bad
 alone field (Ok value) =
     if nat_lt (field.to + 1) field.end
     then Err (record { place = field.to + 1; why = Why.Parse ParseError.ExtraCharacters })
@@ -226,11 +226,15 @@ read_whole reader head field =
 abbrev pub not_within : ℕ → Reading
 not_within place = Reading.Bad (record { place = place; why = Why.Within })
 
--- what is read of a line by where its field is, if it is there: a longer line may have it, or more
--- of it, after the cut
-abbrev pub read_field : Reader → List ℕ → Option Field → Reading
-read_field reader head None =
+-- what is read of a line in which the field is not found: a longer line may have it after the cut
+abbrev pub without_field : List ℕ → Reading
+without_field head =
     if is_longer head then not_within longest_line else Reading.Undated (length (fields_of head))
+
+-- what is read of a line by where its field is, if it is there: a longer line may have more of it
+-- after the cut
+abbrev pub read_field : Reader → List ℕ → Option Field → Reading
+read_field reader head None = without_field head
 read_field reader head (Some field) =
     if is_cut head field.end then not_within field.from else read_whole reader head field
 

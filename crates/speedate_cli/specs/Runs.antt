@@ -1,5 +1,5 @@
--- How a run of a command ends, by what the command prints of the lines of its input.
-use Rattle.std.specs.Prelude.{◌≡◌, ℕ, List, Option, ◌⊎◌, true}
+-- How a run of a command ends, by what the command prints of the lines of its input, or adds up.
+use Rattle.std.specs.Prelude.{◌≡◌, ℕ, List, [], Option, ◌⊎◌, true}
 use Rattle.std.specs.Io.KnownBytes.{Consumes, IsAtEnd, Appends}
 use Rattle.speedate.specs.Lines.{lines}
 use Rattle.speedate_stream.specs.Machine.{Machine}
@@ -19,4 +19,20 @@ abbrev pub EndsWith : {S : Type 0} → Machine S → (List (List ℕ) → List �
     → Option (List ℕ) → Option (List ℕ) → Option (List ℕ) → Option (List ℕ) → Type 0
 EndsWith m text_of before after unread_old unread_new old new =
     PrintsText text_of unread_old unread_new old new
+    ⊎ ((m.done after ≡ true) × PrintsProgress m before after unread_old unread_new old new)
+
+-- the input is at its end, its lines were added to the state, and nothing was written
+pub record AddsLines {S : Type 0} (IsAfter : S → List (List ℕ) → S → Type 0) (before after : S)
+    (unread_old unread_new old new : Option (List ℕ)) : Type 0 where
+  pub text : List ℕ
+  pub consumed : Consumes unread_old unread_new text
+  pub ended : IsAtEnd unread_new
+  pub added : IsAfter before (lines text) after
+  pub silent : Appends old new []
+
+-- how a run ends that nothing failed: all lines were added, or the command wants no further line
+abbrev pub EndsAdded : {S : Type 0} → Machine S → (S → List (List ℕ) → S → Type 0) → S → S
+    → Option (List ℕ) → Option (List ℕ) → Option (List ℕ) → Option (List ℕ) → Type 0
+EndsAdded m IsAfter before after unread_old unread_new old new =
+    AddsLines IsAfter before after unread_old unread_new old new
     ⊎ ((m.done after ≡ true) × PrintsProgress m before after unread_old unread_new old new)

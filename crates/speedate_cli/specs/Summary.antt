@@ -1,17 +1,14 @@
 -- The command `summary`: how many lines and values there are, the first value, the last, and the
 -- longest gap.
-use Rattle.std.specs.Prelude.{◌≡◌, ◌⊎◌, ℕ, ℤ, pos, ◌+ℤ◌, ◌-ℤ◌, ◌*ℤ◌, Bool, true, false, List, [], ◌∷◌, ◌++◌, Option, Some, None, unwrap_or, Result, Ok, Err, int_lt, codes, decimal, if◌then◌else◌}
+use Rattle.std.specs.Prelude.{◌≡◌, ℕ, ℤ, pos, ◌+ℤ◌, ◌-ℤ◌, ◌*ℤ◌, Bool, true, false, List, [], ◌∷◌, ◌++◌, Option, Some, None, unwrap_or, Result, Ok, Err, int_lt, codes, decimal, if◌then◌else◌}
 use Rattle.std.specs.Int.{saturate_signed, w64}
-use Rattle.std.specs.Io.KnownBytes.{Appends, Consumes, IsAtEnd}
 use Rattle.std.specs.Result.{result_or}
 use Rattle.speedate.specs.Ascii.{line_feed}
 use Rattle.speedate.specs.Base.{ParseError, TimestampUnit}
 use Rattle.speedate.specs.DateTime.{DateAndTime, date_time_timestamp_answer}
 use Rattle.speedate.specs.DateTime.{date_time_with_offset}
-use Rattle.speedate.specs.Lines.{lines}
 use Rattle.speedate.specs.Requirement.{◌>>=◌}
 use Rattle.speedate_stream.specs.Machine.{Machine, head}
-use Rattle.speedate_stream.specs.Run.{PrintsProgress}
 use Rattle.speedate_stream.specs.Watch.{one_more}
 use Rattle.speedate_cli.specs.Convert.{written_text}
 use Rattle.speedate_cli.specs.Order.{Latest, duration_between, latest_of, order_after}
@@ -105,22 +102,9 @@ summary_machine = record {
   done = λ summary. is_stopped summary.order.scan.stop;
 }
 
--- the input is at its end, its lines were added to the summary, and nothing was written
-pub record AddsLines (before after : Summary)
-    (unread_old unread_new old new : Option (List ℕ)) : Type 0 where
-  pub text : List ℕ
-  pub consumed : Consumes unread_old unread_new text
-  pub ended : IsAtEnd unread_new
-  pub added : after ≡ summary_of before (lines text)
-  pub silent : Appends old new []
-
--- how a run ends that nothing failed: all lines were added, or the command wants no further line
-abbrev pub EndsAdded : Summary → Summary → Option (List ℕ) → Option (List ℕ)
-    → Option (List ℕ) → Option (List ℕ) → Type 0
-EndsAdded before after unread_old unread_new old new =
-    AddsLines before after unread_old unread_new old new
-    ⊎ ((summary_machine.done after ≡ true)
-    × PrintsProgress summary_machine before after unread_old unread_new old new)
+-- lines were added to the summary
+abbrev pub IsSummaryAfter : Summary → List (List ℕ) → Summary → Type 0
+IsSummaryAfter before lines after = after ≡ summary_of before lines
 
 -- What is printed of them.
 

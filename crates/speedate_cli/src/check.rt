@@ -33,7 +33,7 @@ impl Check<'_> {
                 scan.name,
                 scan.next_number(),
                 bad,
-                scan.reader.form,
+                scan.reader.form.call_kind(),
                 pending,
             );
         }

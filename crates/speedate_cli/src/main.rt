@@ -1,6 +1,7 @@
-//! Selects, orders, converts, checks and sums up lines by their date-times.
+//! Selects, orders, converts, checks and sums up lines by their date-times, and adds up their durations.
 #![tactic(auto)]
 
+mod amount;
 mod between;
 mod check;
 mod convert;
@@ -11,6 +12,7 @@ mod print;
 mod reading;
 mod scan;
 mod session;
+mod sum;
 mod summary;
 #[cfg(test)]
 mod tests;
@@ -25,6 +27,7 @@ use reading::{Bad, Why};
 use scan::{Offsets, REPORTS_MAX, Report, Scan, Stop};
 use speedate::MicrosecondsPrecisionOverflowBehavior::{Error, Truncate};
 use std::process::ExitCode;
+use sum::Sum;
 use summary::Summary;
 
 /// The status of a command line that is refused.
@@ -62,6 +65,7 @@ fn run(rt: &HostRuntime, name: &str, given: &ArgMatches<'_>) -> Result<u8, Refus
         "check" => session::run_files(rt, &mut first_check(given)?, files),
         "convert" => session::run_files(rt, &mut first_convert(given)?, files),
         "order" => session::run_files(rt, &mut first_order(given)?, files),
+        "sum" => session::run_files(rt, &mut first_sum(given)?, files),
         _ => session::run_files(rt, &mut first_summary(given)?, files),
     })
 }
@@ -107,6 +111,15 @@ fn first_order<'a>(given: &ArgMatches<'a>) -> Result<Order<'a>, Refusal> {
         scan: first_scan(&options, Offsets::AsFirst),
         latest: None,
         late: 0,
+    })
+}
+
+/// The command `sum` before the first line.
+fn first_sum<'a>(given: &ArgMatches<'a>) -> Result<Sum<'a>, Refusal> {
+    let options = options::common(given, Error)?;
+    Ok(Sum {
+        scan: first_scan(&options, Offsets::Any),
+        total: Some(0),
     })
 }
 

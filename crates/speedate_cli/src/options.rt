@@ -45,13 +45,16 @@ pub fn program<'a>(alloc: Global) -> Result<Command<'a>, AllocError> {
     Command::new(alloc, "speedate")
         .version("1.0.0")
         .bin_name("speedate")?
-        .about("Selects, orders, converts, checks and sums up lines by their date-times")
+        .about(
+            "Selects, orders, converts, checks and sums up lines by their date-times, and adds up durations",
+        )
         .subcommand_required(true)
         .arg_required_else_help(true)
         .subcommand(between(alloc)?)?
         .subcommand(check(alloc)?)?
         .subcommand(convert(alloc)?)?
         .subcommand(order(alloc)?)?
+        .subcommand(sum(alloc)?)?
         .subcommand(summary(alloc)?)
 }
 
@@ -93,6 +96,15 @@ fn order<'a>(alloc: Global) -> Result<Command<'a>, AllocError> {
     with_common(alloc, command, Prints::Reports)
 }
 
+/// The command `sum`.
+fn sum<'a>(alloc: Global) -> Result<Command<'a>, AllocError> {
+    let command = Command::new(alloc, "sum").about(
+        "Prints the exact total of durations, one in each line; years and months are bad",
+    );
+    let command = with_lines(alloc, with_digits(alloc, with_field(alloc, command)?)?)?;
+    with_files(alloc, command)
+}
+
 /// The command `summary`.
 fn summary<'a>(alloc: Global) -> Result<Command<'a>, AllocError> {
     let command = Command::new(alloc, "summary").about(
@@ -109,24 +121,39 @@ fn with_common<'a>(
 ) -> Result<Command<'a>, AllocError> {
     let command = with_place(alloc, command)?
         .arg(valued(alloc, "kind", "KIND").help("datetime or date [default: datetime]"))?
-        .arg(flag(alloc, "strict").help("Accept only RFC 3339"))?
-        .arg(valued(alloc, "digits", "WHAT").help("Digits past the sixth: refuse or truncate"))?
-        .arg(
-            valued(alloc, "offset", "OFFSET")
-                .allow_hyphen_values(true)
-                .help("utc or +HH:MM for values and bounds that have none"),
-        )?
+        .arg(flag(alloc, "strict").help("Accept only RFC 3339"))?;
+    let command = with_digits(alloc, command)?.arg(
+        valued(alloc, "offset", "OFFSET")
+            .allow_hyphen_values(true)
+            .help("utc or +HH:MM for values and bounds that have none"),
+    )?;
+    let command = with_lines(alloc, command)?;
+    let command = match prints {
+        Prints::Lines => with_prefix(alloc, command)?,
+        Prints::Reports => command,
+    };
+    with_files(alloc, command)
+}
+
+/// A command with what is done with digits past the sixth.
+fn with_digits<'a>(alloc: Global, command: Command<'a>) -> Result<Command<'a>, AllocError> {
+    command.arg(valued(alloc, "digits", "WHAT").help("Digits past the sixth: refuse or truncate"))
+}
+
+/// A command with what is done with lines that have no good value.
+fn with_lines<'a>(alloc: Global, command: Command<'a>) -> Result<Command<'a>, AllocError> {
+    command
         .arg(valued(alloc, "undated", "WHAT").help(
             "Lines without a value: join, drop or bad [default: join, with --field bad]",
         ))?
         .arg(valued(alloc, "bad", "WHAT").help(
             "Lines with a bad value: keep, drop or stop [default: keep]",
         ))?
-        .arg(flag(alloc, "header").help("The first line of each file has no value"))?;
-    let command = match prints {
-        Prints::Lines => with_prefix(alloc, command)?,
-        Prints::Reports => command,
-    };
+        .arg(flag(alloc, "header").help("The first line of each file has no value"))
+}
+
+/// A command with its files.
+fn with_files<'a>(alloc: Global, command: Command<'a>) -> Result<Command<'a>, AllocError> {
     command.arg(
         Arg::new(alloc, "FILE")
             .action(ArgAction::Append)
@@ -137,12 +164,17 @@ fn with_common<'a>(
 
 /// A command with where the value of a line begins.
 fn with_place<'a>(alloc: Global, command: Command<'a>) -> Result<Command<'a>, AllocError> {
+    let command = command.arg(
+        valued(alloc, "after", "TEXT")
+            .allow_hyphen_values(true)
+            .help("The value comes after the first TEXT of a line [default: at its front]"),
+    )?;
+    with_field(alloc, command)
+}
+
+/// A command with the field that is the value of a line.
+fn with_field<'a>(alloc: Global, command: Command<'a>) -> Result<Command<'a>, AllocError> {
     command
-        .arg(
-            valued(alloc, "after", "TEXT")
-                .allow_hyphen_values(true)
-                .help("The value comes after the first TEXT of a line [default: at its front]"),
-        )?
         .arg(valued(alloc, "field", "N").help(
             "The value is all of field N, which may be quoted as in CSV",
         ))?

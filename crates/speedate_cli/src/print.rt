@@ -92,14 +92,15 @@ impl Prefix {
 impl Why {
     /// What was expected, for people, in at most 63 bytes.
     #[tactic(auto, unfolding(crate::specs::Print::expected_by))]
-    pub fn expected(&self, form: Form) -> &'static str
-        ensures text { result.now ≡ expected_by self.now form }
+    pub fn expected(&self, kind: CallKind) -> &'static str
+        ensures text { result.now ≡ expected_by self.now kind }
         ensures short { length result.now ≤ 63 }
     {
         match self {
-            Why::Parse(fault) => fault.expected(form.call_kind()),
+            Why::Parse(fault) => fault.expected(kind),
             Why::Within => "a value within the first 4,096 bytes",
             Why::NoOffset => "no offset",
+            Why::NoYearsOrMonths => "a duration without years and months",
         }
     }
 }
@@ -108,7 +109,7 @@ impl Form {
     ghost use Rattle.speedate_cli.specs.Print.{call_kind};
 
     /// The kind of call that reads values of this form.
-    fn call_kind(self) -> CallKind
+    pub fn call_kind(self) -> CallKind
         ensures kind { result ≡ call_kind self }
     {
         match self {
@@ -133,26 +134,26 @@ pub fn push_line_place(name: &[u8], number: u64, pending: &mut Pending)
 
 /// Appends the column of a byte, which counts from 1, and what was expected there.
 #[tactic(auto, unfolding(crate::specs::Print::bad_text), using(std::proofs::Common::append_assoc))]
-fn push_bad(bad: &Bad, form: Form, pending: &mut Pending)
+fn push_bad(bad: &Bad, kind: CallKind, pending: &mut Pending)
     requires room { array_vec_len pending.old + 94 ≤ PENDING_MAX }
-    ensures pushed { pending.new.items ≡ pending.old.items ++ bad_text bad.now form }
+    ensures pushed { pending.new.items ≡ pending.old.items ++ bad_text bad.now kind }
     ensures length { array_vec_len pending.new ≤ array_vec_len pending.old + 94 }
 {
     push_number((bad.place as u64).saturating_add(1), pending);
     push_bytes(b": expected ", pending);
-    push_bytes(bad.why.expected(form).as_bytes(), pending);
+    push_bytes(bad.why.expected(kind).as_bytes(), pending);
 }
 
 /// Appends the report of a bad value: `app.log:3:1: expected month, 01 to 12`, and a line feed.
 #[tactic(auto, unfolding(crate::specs::Print::report_text), using(std::proofs::Common::append_assoc))]
-pub fn push_report(name: &[u8], number: u64, bad: &Bad, form: Form, pending: &mut Pending)
+pub fn push_report(name: &[u8], number: u64, bad: &Bad, kind: CallKind, pending: &mut Pending)
     requires room { array_vec_len pending.old + REPORT_MAX ≤ PENDING_MAX }
     ensures pushed { pending.new.items
-        ≡ pending.old.items ++ report_text name.now number bad.now form }
+        ≡ pending.old.items ++ report_text name.now number bad.now kind }
     ensures length { array_vec_len pending.new ≤ array_vec_len pending.old + REPORT_MAX }
 {
     push_line_place(name, number, pending);
     push_bytes(b":", pending);
-    push_bad(bad, form, pending);
+    push_bad(bad, kind, pending);
     push_bytes(b"\n", pending);
 }

@@ -1,6 +1,7 @@
 //! What is read of a line.
 
 ghost use Rattle.std.specs.Prelude.{◌≡◌, ◌+◌, ◌-◌, ◌≤◌, IfErr, IfOk, IfSome, length, nat_lt};
+ghost use Rattle.speedate.specs.Base.{IsoOrder};
 ghost use Rattle.speedate.specs.Config.{time_choices};
 ghost use Rattle.speedate.specs.Requirement.{result_map, with_size};
 ghost use Rattle.speedate.specs.Date.{ymd};
@@ -13,7 +14,7 @@ ghost use Rattle.speedate_cli.specs.Reading.{end_of_word, fields_of, front_of, i
 ghost use Rattle.speedate_cli.specs.Reading.{is_longer, midnight_front, midnight_of, midnight_whole};
 ghost use Rattle.speedate_cli.specs.Reading.{part, read, read_field, read_from, read_whole};
 ghost use Rattle.speedate_cli.specs.Reading.{relaxed_front, relaxed_whole, seen, strict_front, strict_whole};
-ghost use Rattle.speedate_cli.specs.Reading.{value_at, value_between, value_of, whole_of};
+ghost use Rattle.speedate_cli.specs.Reading.{value_at, value_between, value_of, whole_of, without_field};
 
 use crate::field::{Field, NthField, byte_at};
 use speedate::{
@@ -66,6 +67,8 @@ pub enum Why {
     Within,
     /// A value without an offset.
     NoOffset,
+    /// A duration that does not say years or months.
+    NoYearsOrMonths,
 }
 
 /// A bad value.
@@ -165,7 +168,7 @@ fn is_longer(head: &[u8]) -> bool
 }
 
 /// Whether a place is the cut of a line that is longer than what is looked at.
-fn is_cut(head: &[u8], place: usize) -> bool
+pub fn is_cut(head: &[u8], place: usize) -> bool
     ensures cut { result ≡ is_cut head.now place }
 {
     head.len() > LINE_MAX && place == LINE_MAX
@@ -173,7 +176,7 @@ fn is_cut(head: &[u8], place: usize) -> bool
 
 /// What has the fields of a line: a carriage return at its end belongs to none.
 #[tactic(auto, unfolding(crate::specs::Reading::fields_of))]
-fn fields_of(head: &[u8]) -> &[u8]
+pub fn fields_of(head: &[u8]) -> &[u8]
     ensures fields { result.now ≡ fields_of head.now }
     ensures within { length result.now ≤ length (seen head.now) }
 {
@@ -221,13 +224,24 @@ fn found_at(value: &DateTime, from: usize, to: usize) -> Found
 }
 
 /// What is read of a line whose value does not lie within what is looked at.
-fn not_within(place: usize) -> Reading
+pub fn not_within(place: usize) -> Reading
     ensures read { result ≡ not_within place }
 {
     Reading::Bad(Bad {
         place,
         why: Why::Within,
     })
+}
+
+/// What is read of a line in which the field is not found, by its head.
+pub fn without_field(head: &[u8]) -> Reading
+    ensures read { result ≡ without_field head.now }
+    ensures within { IsReadWithin result head.now }
+{
+    if is_longer(head) {
+        return not_within(LINE_MAX);
+    }
+    Reading::Undated(fields_of(head).len())
 }
 
 impl Reader<'_> {
@@ -272,12 +286,7 @@ impl Reader<'_> {
         ensures within { IsReadWithin result head.now }
     {
         match field {
-            None => {
-                if is_longer(head) {
-                    return not_within(LINE_MAX);
-                }
-                Reading::Undated(fields_of(head).len())
-            }
+            None => without_field(head),
             Some(field) => {
                 if is_cut(head, field.end) {
                     return not_within(field.from);
@@ -433,9 +442,10 @@ impl Form {
     }
 }
 
-/// How date-times are read whose own text is not one of RFC 3339 alone.
-fn relaxed(behavior: MicrosecondsPrecisionOverflowBehavior) -> TimeConfig
+/// How values are read whose own text is not one of RFC 3339 alone.
+pub fn relaxed(behavior: MicrosecondsPrecisionOverflowBehavior) -> TimeConfig
     ensures behavior { (time_choices result).behavior ≡ behavior }
+    ensures order { (time_choices result).order ≡ IsoOrder.Lax }
 {
     TimeConfig {
         microseconds_precision_overflow_behavior: behavior,

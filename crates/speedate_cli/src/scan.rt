@@ -224,7 +224,7 @@ impl Scan<'_> {
     }
 
     /// What a line is by what is read of it.
-    fn judged(&self, reading: Reading, head: &[u8]) -> Line
+    pub fn judged(&self, reading: Reading, head: &[u8]) -> Line
         requires within { IsReadWithin reading head.now }
         ensures judged { result ≡ judged self.now reading }
         ensures within { IsFoundWithin result head.now }
@@ -290,7 +290,7 @@ impl Scan<'_> {
     }
 
     /// Counts a line.
-    fn count(&mut self)
+    pub fn count(&mut self)
         ensures counted { self.new ≡ counted self.old }
     {
         self.number = self.number.saturating_add(1);

@@ -10,7 +10,9 @@ use crate::order::{Order, print_late};
 use crate::print::{push_line_place, push_report};
 use crate::reading::Form;
 use crate::scan::{Offsets, Report, Scan, Stop};
+use crate::sum::{Sum, add_durations};
 use crate::summary::{SUMMARY_MAX, Summary, add_lines};
+use speedate::CallKind;
 use speedate_stream::run::RunError;
 use speedate_stream::{LineMachine, Observer, PENDING_MAX, Pending, Watched, push_bytes};
 use std::fs;
@@ -36,6 +38,11 @@ pub trait Closing {
         true
     }
 
+    /// What kind of call reads the values, by their form.
+    fn call_kind(&self, form: Form) -> CallKind {
+        form.call_kind()
+    }
+
     /// How many lines before the first value were not printed.
     fn left_out(&self) -> u64 {
         0
@@ -44,6 +51,11 @@ pub trait Closing {
     /// How many values were out of order.
     fn out_of_order(&self) -> u64 {
         0
+    }
+
+    /// Whether what was to be printed after the last file has too many days.
+    fn is_too_large(&self) -> bool {
+        false
     }
 
     /// Appends what is printed after the last file.
@@ -194,6 +206,39 @@ impl<'a> Session<'a> for Summary<'a> {
     }
 }
 
+impl Closing for Sum<'_> {
+    fn call_kind(&self, _form: Form) -> CallKind {
+        CallKind::Duration
+    }
+
+    fn is_too_large(&self) -> bool {
+        Sum::is_too_large(self)
+    }
+
+    fn push_end(&self, pending: &mut Pending) {
+        self.push_onto(pending);
+    }
+}
+
+impl<'a> Session<'a> for Sum<'a> {
+    fn print<R: Read, W: Write, O: Observer<Self>>(
+        &mut self,
+        input: &mut Watched<R>,
+        output: &mut Watched<W>,
+        observer: &mut O,
+    ) -> Result<(), RunError> {
+        add_durations(self, input, output, observer)
+    }
+
+    fn begin(&mut self, name: &'a [u8]) {
+        self.scan.begin(name);
+    }
+
+    fn scan(&self) -> Scan<'a> {
+        self.scan
+    }
+}
+
 /// Standard output, which remembers whether its reader has gone.
 #[derive(Drop)]
 struct Output<W> {
@@ -314,7 +359,7 @@ impl<'a, M: Session<'a>> Observer<M> for Reports<'_, 'a> {
     fn before_read(&mut self, machine: &M) {
         let scan = machine.scan();
         if machine.reports_bad() {
-            self.tell(&scan);
+            self.tell(&scan, machine.call_kind(scan.reader.form));
         }
         self.told = scan.bad;
     }
@@ -322,18 +367,18 @@ impl<'a, M: Session<'a>> Observer<M> for Reports<'_, 'a> {
 
 impl Reports<'_, '_> {
     /// Tells the bad values that are among the first, but for those that were told.
-    fn tell(&self, scan: &Scan<'_>) {
+    fn tell(&self, scan: &Scan<'_>, kind: CallKind) {
         for (index, report) in scan.reports.iter().enumerate() {
             if index as u64 >= self.told && (index as u64) < scan.bad {
-                self.tell_report(scan.reader.form, report);
+                self.tell_report(kind, report);
             }
         }
     }
 
     /// Tells a bad value. If that fails too, only the status is left to tell.
-    fn tell_report(&self, form: Form, report: &Report) {
+    fn tell_report(&self, kind: CallKind, report: &Report) {
         let mut text = Pending::new();
-        push_report(self.name, report.number, &report.bad, form, &mut text);
+        push_report(self.name, report.number, &report.bad, kind, &mut text);
         let _ = self.rt.stderr().write_all(text.as_slice());
     }
 }
@@ -355,7 +400,11 @@ fn tell_end<'a, M: Session<'a>>(rt: &HostRuntime, machine: &M) -> u8 {
         "line before the first entry",
         "lines before the first entry",
     );
-    if scan.bad > 0 || machine.out_of_order() > 0 {
+    let is_too_large = machine.is_too_large();
+    if is_too_large {
+        let _ = eprintln!(rt; "speedate: the total has more than 999,999,999 days");
+    }
+    if scan.bad > 0 || machine.out_of_order() > 0 || is_too_large {
         BAD
     } else {
         0

@@ -4,7 +4,8 @@
 ghost use Rattle.std.specs.Prelude.{◌≡◌, ◌+◌, ◌++◌, ◌≤◌, Err, OnOk, false, true, length};
 ghost use Rattle.arrayvec.specs.ArrayVec.{array_vec_len};
 ghost use Rattle.speedate.specs.DateTime.{◌gives◌};
-ghost use Rattle.speedate_cli.specs.Summary.{EndsAdded, clock_at, clock_microsecond, count_text};
+ghost use Rattle.speedate_cli.specs.Runs.{EndsAdded};
+ghost use Rattle.speedate_cli.specs.Summary.{IsSummaryAfter, clock_at, clock_microsecond, count_text};
 ghost use Rattle.speedate_cli.specs.Summary.{counts_text, first_after, gap_end, gap_length, gap_size};
 ghost use Rattle.speedate_cli.specs.Summary.{gap_text};
 ghost use Rattle.speedate_cli.specs.Summary.{instant_text, is_undated, longest_after, longest_size};
@@ -328,7 +329,7 @@ pub fn add_lines<'a, R: Read, W: Write, O: Observer<Summary<'a>>>(
     ensures failed { input.old.failed ≡ false → output.old.failed ≡ false →
         EndsBy result input.new.failed output.new.failed }
     // All lines were added, or the command wants no further one.
-    ensures ended { OnOk result (EndsAdded command.old command.new
+    ensures ended { OnOk result (EndsAdded summary_machine IsSummaryAfter command.old command.new
         (R.remaining input.old.inner) (R.remaining input.new.inner)
         (W.contents output.old.inner) (W.contents output.new.inner)) }
     ensures flushed { OnOk result (output.new.flushed ≡ true) }

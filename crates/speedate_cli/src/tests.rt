@@ -4,10 +4,12 @@ mod ends;
 mod rows;
 
 use crate::session::{Session, write_end};
-use crate::{first_between, first_check, first_convert, first_order, first_summary, options};
+use crate::{
+    first_between, first_check, first_convert, first_order, first_sum, first_summary, options,
+};
 use clap::ArgMatches;
 use ends::{Sink, Source};
-use rows::{CLOCKS, COMMANDS, LOG, OPTIONS};
+use rows::{CLOCKS, COMMANDS, DURATIONS, LOG, OPTIONS};
 use speedate_stream::run::RunError;
 use speedate_stream::{NoObserver, Watched};
 use std::alloc::AllocError;
@@ -15,7 +17,7 @@ use std::process::Abort;
 
 /// Command lines, and how many values are then bad, lines left out before the first entry, and values out
 /// of order.
-const COUNTS: [(&str, &str, (u64, u64, u64)); 7] = [
+const COUNTS: [(&str, &str, (u64, u64, u64)); 9] = [
     ("between .. ..", LOG, (1, 0, 0)),
     (
         "between --bad stop 2026-11-22T06:09:30Z ..",
@@ -26,15 +28,18 @@ const COUNTS: [(&str, &str, (u64, u64, u64)); 7] = [
     ("check", LOG, (1, 0, 0)),
     ("convert --to utc", CLOCKS, (2, 0, 0)),
     ("order", LOG, (1, 0, 1)),
+    ("sum", DURATIONS, (2, 0, 0)),
+    ("sum --field 2", "a,PT1H\nb,\nc\n", (2, 0, 0)),
     ("summary", LOG, (1, 0, 1)),
 ];
 
 /// One command line for each command.
-const EACH: [&str; 5] = [
+const EACH: [&str; 6] = [
     "between -n .. ..",
     "check",
     "convert -n",
     "order",
+    "sum",
     "summary",
 ];
 
@@ -95,6 +100,7 @@ fn run_given<R: Abort>(
             sink,
         ),
         "order" => run_command(&mut first_order(given).ok().expect(rt, name), source, sink),
+        "sum" => run_command(&mut first_sum(given).ok().expect(rt, name), source, sink),
         _ => run_command(
             &mut first_summary(given).ok().expect(rt, name),
             source,
@@ -254,9 +260,9 @@ fn expect_flush<R: AllocGlobal + Abort>(rt: &R, name: &str, given: &ArgMatches<'
     sink.flush_fails = true;
     let ended = run_given(rt, name, given, Source::new(LOG.as_bytes(), 40), sink);
     assert_eq!(rt; ended.result, Err(RunError::Write), "{name}");
-    // A summary comes after the flush of the last file.
+    // A sum and a summary come after the flush of the last file.
     let is_whole = ended.taken.as_slice() == want.as_slice();
-    assert_eq!(rt; is_whole, name != "summary", "{name}");
+    assert_eq!(rt; is_whole, name != "sum" && name != "summary", "{name}");
 }
 
 #[test]

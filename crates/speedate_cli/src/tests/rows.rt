@@ -14,8 +14,19 @@ pub const CLOCKS: &str = "\
 2026-11-22T06:10:00.123456 b\n\
 ";
 
+/// Durations, of which two say years or months.
+pub const DURATIONS: &str = "\
+PT1H\n\
+1 day, 1:00:42\n\
+\n\
+-PT0.5S\r\n\
+P1Y\n\
++P1M2D\n\
+PT5M\n\
+00:30";
+
 /// Command lines, and what each prints of an input whose name is `app.log`.
-pub const COMMANDS: [(&str, &str, &str); 13] = [
+pub const COMMANDS: [(&str, &str, &str); 18] = [
     (
         "between .. ..",
         LOG,
@@ -65,6 +76,15 @@ trace\n\
 ",
     ),
     ("order", LOG, "app.log:3: PT1M before app.log:1\n"),
+    ("sum", DURATIONS, "P1DT2H35M41.5S\n"),
+    ("sum", "", "PT0S\n"),
+    ("sum", "-PT0S\nx\n", "PT0S\n"),
+    ("sum", "999999999 days\n24:00\n", ""),
+    (
+        "sum",
+        "-999999999 days\n-24:00\nPT1S\n",
+        "-P2739726Y9DT23H59M59S\n",
+    ),
     (
         "summary",
         LOG,
@@ -153,7 +173,7 @@ last 2026-11-22T06:10:00Z\n\
 ];
 
 /// The same with the options.
-pub const OPTIONS: [(&str, &str, &str); 29] = [
+pub const OPTIONS: [(&str, &str, &str); 34] = [
     (
         "between -n -H .. ..",
         LOG,
@@ -385,6 +405,25 @@ first 2026-11-22T06:10:00Z\n\
 last 2026-11-22T06:10:00Z\n\
 ",
     ),
+    (
+        "sum --header --field 2 --separator ;",
+        "\
+job;took\n\
+a;PT1H\n\
+b;\"00:00:30\"\n\
+c;\n\
+d;\"PT1S\"x\n\
+",
+        "PT1H30S\n",
+    ),
+    ("sum --field 2 --undated drop", "a,PT1H\nb,\n", "PT1H\n"),
+    (
+        "sum --digits truncate",
+        "00:00:01.1234567\n",
+        "PT1.123456S\n",
+    ),
+    ("sum --digits refuse", "00:00:01.1234567\n", "PT0S\n"),
+    ("sum --bad stop", "PT1H\nP1M\nPT1H\n", ""),
     (
         "order --offset utc",
         "\
