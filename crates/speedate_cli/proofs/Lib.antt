@@ -6,3 +6,6 @@ mod EntryLemmas
 mod RunLemmas
 mod LineLemmas
 mod SummaryLemmas
+mod OrderLemmas
+mod SortLemmas
+mod SortedEntryLemmas

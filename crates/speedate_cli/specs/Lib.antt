@@ -9,3 +9,4 @@ pub mod Summary
 pub mod Convert
 pub mod Entries
 pub mod Runs
+pub mod Sort

@@ -11,6 +11,8 @@ mod print;
 mod reading;
 mod scan;
 mod session;
+mod sort;
+mod sort_session;
 mod summary;
 #[cfg(test)]
 mod tests;
@@ -23,6 +25,7 @@ use options::{Options, Refusal};
 use order::Order;
 use reading::{Bad, Why};
 use scan::{Offsets, REPORTS_MAX, Report, Scan, Stop};
+use sort::Keys;
 use speedate::MicrosecondsPrecisionOverflowBehavior::{Error, Truncate};
 use std::process::ExitCode;
 use summary::Summary;
@@ -62,6 +65,7 @@ fn run(rt: &HostRuntime, name: &str, given: &ArgMatches<'_>) -> Result<u8, Refus
         "check" => session::run_files(rt, &mut first_check(given)?, files),
         "convert" => session::run_files(rt, &mut first_convert(given)?, files),
         "order" => session::run_files(rt, &mut first_order(given)?, files),
+        "sort" => sort_session::run_sort(rt, &mut first_keys(given)?, files),
         _ => session::run_files(rt, &mut first_summary(given)?, files),
     })
 }
@@ -107,6 +111,18 @@ fn first_order<'a>(given: &ArgMatches<'a>) -> Result<Order<'a>, Refusal> {
         scan: first_scan(&options, Offsets::AsFirst),
         latest: None,
         late: 0,
+    })
+}
+
+/// What the command `sort` knows before the first line.
+fn first_keys<'a>(given: &ArgMatches<'a>) -> Result<Keys<'a>, Refusal> {
+    let options = options::common(given, Truncate)?;
+    if options.has_header && given.get_strs("FILE").unwrap_or(&[]).len() > 1 {
+        return Err("sort takes --header with one FILE");
+    }
+    Ok(Keys {
+        scan: first_scan(&options, Offsets::AsFirst),
+        instant: i64::MIN,
     })
 }
 

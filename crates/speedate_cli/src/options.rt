@@ -34,9 +34,9 @@ pub type Refusal = &'static str;
 /// Whether a command prints lines of its input.
 #[derive(Clone, Copy, PartialEq, Eq)]
 enum Prints {
-    /// It prints no lines of its input.
+    /// It prints no lines of its input, or prints them alone.
     Reports,
-    /// It prints lines of its input.
+    /// It prints lines of its input, after their file and number if these are asked for.
     Lines,
 }
 
@@ -52,6 +52,7 @@ pub fn program<'a>(alloc: Global) -> Result<Command<'a>, AllocError> {
         .subcommand(check(alloc)?)?
         .subcommand(convert(alloc)?)?
         .subcommand(order(alloc)?)?
+        .subcommand(sort(alloc)?)?
         .subcommand(summary(alloc)?)
 }
 
@@ -89,6 +90,14 @@ fn convert<'a>(alloc: Global) -> Result<Command<'a>, AllocError> {
 fn order<'a>(alloc: Global) -> Result<Command<'a>, AllocError> {
     let command = Command::new(alloc, "order").about(
         "Prints each value that is earlier than the one before, and by how much",
+    );
+    with_common(alloc, command, Prints::Reports)
+}
+
+/// The command `sort`.
+fn sort<'a>(alloc: Global) -> Result<Command<'a>, AllocError> {
+    let command = Command::new(alloc, "sort").about(
+        "Prints the entries of all files in the order of their values; reads them into memory",
     );
     with_common(alloc, command, Prints::Reports)
 }
