@@ -2,6 +2,7 @@
 
 mod ends;
 mod rows;
+mod sorted;
 
 use crate::session::{Session, write_end};
 use crate::{first_between, first_check, first_convert, first_order, first_summary, options};
