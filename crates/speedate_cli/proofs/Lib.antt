@@ -7,3 +7,6 @@ mod RunLemmas
 mod LineLemmas
 mod SummaryLemmas
 mod SumLemmas
+mod OrderLemmas
+mod SortLemmas
+mod SortedEntryLemmas

@@ -11,3 +11,4 @@ pub mod Entries
 pub mod Runs
 pub mod Amount
 pub mod Sum
+pub mod Sort

@@ -12,6 +12,8 @@ mod print;
 mod reading;
 mod scan;
 mod session;
+mod sort;
+mod sort_session;
 mod sum;
 mod summary;
 #[cfg(test)]
@@ -25,6 +27,7 @@ use options::{Options, Refusal};
 use order::Order;
 use reading::{Bad, Why};
 use scan::{Offsets, REPORTS_MAX, Report, Scan, Stop};
+use sort::Keys;
 use speedate::MicrosecondsPrecisionOverflowBehavior::{Error, Truncate};
 use std::process::ExitCode;
 use sum::Sum;
@@ -66,6 +69,7 @@ fn run(rt: &HostRuntime, name: &str, given: &ArgMatches<'_>) -> Result<u8, Refus
         "convert" => session::run_files(rt, &mut first_convert(given)?, files),
         "order" => session::run_files(rt, &mut first_order(given)?, files),
         "sum" => session::run_files(rt, &mut first_sum(given)?, files),
+        "sort" => sort_session::run_sort(rt, &mut first_keys(given)?, files),
         _ => session::run_files(rt, &mut first_summary(given)?, files),
     })
 }
@@ -120,6 +124,18 @@ fn first_sum<'a>(given: &ArgMatches<'a>) -> Result<Sum<'a>, Refusal> {
     Ok(Sum {
         scan: first_scan(&options, Offsets::Any),
         total: Some(0),
+    })
+}
+
+/// What the command `sort` knows before the first line.
+fn first_keys<'a>(given: &ArgMatches<'a>) -> Result<Keys<'a>, Refusal> {
+    let options = options::common(given, Truncate)?;
+    if options.has_header && given.get_strs("FILE").unwrap_or(&[]).len() > 1 {
+        return Err("sort takes --header with one FILE");
+    }
+    Ok(Keys {
+        scan: first_scan(&options, Offsets::AsFirst),
+        instant: i64::MIN,
     })
 }
 

@@ -34,9 +34,9 @@ pub type Refusal = &'static str;
 /// Whether a command prints lines of its input.
 #[derive(Clone, Copy, PartialEq, Eq)]
 enum Prints {
-    /// It prints no lines of its input.
+    /// It prints no lines of its input, or prints them alone.
     Reports,
-    /// It prints lines of its input.
+    /// It prints lines of its input, after their file and number if these are asked for.
     Lines,
 }
 
@@ -54,6 +54,7 @@ pub fn program<'a>(alloc: Global) -> Result<Command<'a>, AllocError> {
         .subcommand(check(alloc)?)?
         .subcommand(convert(alloc)?)?
         .subcommand(order(alloc)?)?
+        .subcommand(sort(alloc)?)?
         .subcommand(sum(alloc)?)?
         .subcommand(summary(alloc)?)
 }
@@ -103,6 +104,14 @@ fn sum<'a>(alloc: Global) -> Result<Command<'a>, AllocError> {
     );
     let command = with_lines(alloc, with_digits(alloc, with_field(alloc, command)?)?)?;
     with_files(alloc, command)
+}
+
+/// The command `sort`.
+fn sort<'a>(alloc: Global) -> Result<Command<'a>, AllocError> {
+    let command = Command::new(alloc, "sort").about(
+        "Prints the entries of all files in the order of their values; reads them into memory",
+    );
+    with_common(alloc, command, Prints::Reports)
 }
 
 /// The command `summary`.

@@ -20,16 +20,16 @@ use std::io::{self, ErrorKind, Read, Write};
 use std::os::unix::fs::MetadataExt;
 
 /// The status of a run in which a value was bad, or values were out of order.
-const BAD: u8 = 1;
+pub const BAD: u8 = 1;
 
 /// The status of a run whose first value did not fit the bounds.
 const UNFIT: u8 = 2;
 
 /// The status of a run of which a file could not be read.
-const READ: u8 = 3;
+pub const READ: u8 = 3;
 
 /// The status of a run of which a write failed.
-const WRITE: u8 = 4;
+pub const WRITE: u8 = 4;
 
 /// What a command says after the lines.
 pub trait Closing {
@@ -241,9 +241,11 @@ impl<'a> Session<'a> for Sum<'a> {
 
 /// Standard output, which remembers whether its reader has gone.
 #[derive(Drop)]
-struct Output<W> {
-    inner: W,
-    is_closed: bool,
+pub struct Output<W> {
+    /// Standard output.
+    pub inner: W,
+    /// Whether its reader has gone.
+    pub is_closed: bool,
 }
 
 impl<W: Write> Write for Output<W> {
@@ -335,7 +337,7 @@ fn run_file<'a, M: Session<'a>, W: Write>(
 }
 
 /// Whether a file is the one that standard output goes to: reading it would never end.
-fn is_output(rt: &HostRuntime, path: &str) -> bool {
+pub fn is_output(rt: &HostRuntime, path: &str) -> bool {
     let Ok(output) = fs::metadata(rt, "/dev/stdout") else {
         return false;
     };
@@ -347,12 +349,13 @@ fn is_output(rt: &HostRuntime, path: &str) -> bool {
 
 /// Tells the bad values of a file on standard error: those that are among the first, once each.
 #[derive(Clone, Copy)]
-struct Reports<'r, 'a> {
-    rt: &'r HostRuntime,
+pub struct Reports<'r, 'a> {
+    /// What tells.
+    pub rt: &'r HostRuntime,
     /// The name of the file.
-    name: &'a [u8],
+    pub name: &'a [u8],
     /// How many values were bad when they were told last.
-    told: u64,
+    pub told: u64,
 }
 
 impl<'a, M: Session<'a>> Observer<M> for Reports<'_, 'a> {
@@ -367,7 +370,7 @@ impl<'a, M: Session<'a>> Observer<M> for Reports<'_, 'a> {
 
 impl Reports<'_, '_> {
     /// Tells the bad values that are among the first, but for those that were told.
-    fn tell(&self, scan: &Scan<'_>, kind: CallKind) {
+    pub fn tell(&self, scan: &Scan<'_>, kind: CallKind) {
         for (index, report) in scan.reports.iter().enumerate() {
             if index as u64 >= self.told && (index as u64) < scan.bad {
                 self.tell_report(kind, report);
@@ -428,7 +431,7 @@ fn tell_unfit(rt: &HostRuntime, scan: &Scan<'_>, has_offset: bool) {
 }
 
 /// Tells how many lines of a kind there were, if there were any.
-fn tell_count(rt: &HostRuntime, count: u64, one: &str, many: &str) {
+pub fn tell_count(rt: &HostRuntime, count: u64, one: &str, many: &str) {
     if count == 1 {
         let _ = eprintln!(rt; "speedate: 1 {one}");
     } else if count > 1 {

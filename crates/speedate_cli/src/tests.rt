@@ -2,6 +2,7 @@
 
 mod ends;
 mod rows;
+mod sorted;
 
 use crate::session::{Session, write_end};
 use crate::{

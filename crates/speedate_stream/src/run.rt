@@ -320,7 +320,7 @@ fn is_passed<M: LineMachine>(machine: &M, line: &[u8]) -> bool
 
 /// What a machine sees of a line: all of it, or its first 4,097 bytes.
 #[inline(always)]
-fn head(line: &[u8]) -> &[u8]
+pub fn head(line: &[u8]) -> &[u8]
     ensures head { result.now ≡ head line.now }
     ensures short { length result.now ≤ HEAD_MAX }
     ensures within { length result.now ≤ length line.now }
@@ -380,9 +380,12 @@ fn make_room<W: Write>(pending: &mut Pending, output: &mut Watched<W>) -> Result
     Ok(())
 }
 
-/// Prints a part of a line.
+/// Prints bytes, such as a part of a line: they wait, and where there is no room for them, they are
+/// written after those that wait.
+///
+/// Fails with `Failed` if a write fails.
 #[inline(always)]
-fn pass<W: Write>(
+pub fn pass<W: Write>(
     bytes: &[u8],
     pending: &mut Pending,
     output: &mut Watched<W>,
@@ -412,7 +415,9 @@ fn end_line<W: Write>(pending: &mut Pending, output: &mut Watched<W>) -> Result<
 }
 
 /// Writes all bytes that wait.
-fn send<W: Write>(pending: &mut Pending, output: &mut Watched<W>) -> Result<(), Failed>
+///
+/// Fails with `Failed` if a write fails.
+pub fn send<W: Write>(pending: &mut Pending, output: &mut Watched<W>) -> Result<(), Failed>
     ensures sent { OnlyWrites W.contents output.old output.new result [] pending.old.items }
     ensures empty { OnOk result (pending.new.items ≡ []) }
 {
