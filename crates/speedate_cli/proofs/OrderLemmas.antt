@@ -234,7 +234,8 @@ in_order-from_sort_by_key key xs ys sorted stable =
 
 int_not_less : (k : ℤ) → int_lt k k ≡ false
 int_not_less k =
-    sym (is_lt-int_cmp k k) ∙ not_less (λ a b. is_lt (int_cmp a b)) (ranks_by int_cmp_total (λ a. a)) k
+    sym (is_lt-int_cmp k k)
+    ∙ not_less (λ a b. is_lt (int_cmp a b)) (ranks_by int_cmp_total (λ a. a)) k
 
 -- Blocks of elements of one key stay whole.
 module _ {E K : Type 0} (of_block : E → ℤ) (of : K → ℤ) (block : E → List K) where
@@ -269,7 +270,8 @@ module _ {E K : Type 0} (of_block : E → ℤ) (of : K → ℤ) (block : E → L
     put_test : (test : Bool) (x y : K) (ys : List K) → earlier y x ≡ test
         → put_in_order earlier x (y ∷ ys)
         ≡ (if test then y ∷ put_in_order earlier x ys else x ∷ y ∷ ys)
-    put_test test x y ys is = ap (λ (t : Bool). if t then y ∷ put_in_order earlier x ys else x ∷ y ∷ ys) is
+    put_test test x y ys is =
+        ap (λ (t : Bool). if t then y ∷ put_in_order earlier x ys else x ∷ y ∷ ys) is
 
     -- an element passes a block of an earlier key
     past_block : (x : K) (k : ℤ) (xs ys : List K) → HaveKey k xs → int_lt k (of x) ≡ true

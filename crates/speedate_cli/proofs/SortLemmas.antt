@@ -16,7 +16,8 @@ use Rattle.speedate_stream.proofs.SentLemmas.{OnlyWrites-then}
 use Rattle.speedate_cli.specs.Print.{Prefix, prefix_text}
 use Rattle.speedate_cli.specs.Scan.{Line, Scan, keeps, line_of, passed}
 use Rattle.speedate_cli.specs.Entries.{Marked, mark, marked, printed_line}
-use Rattle.speedate_cli.specs.Sort.{IsPlaced, Keyed, Keys, Place, file_lines, if_kept, instant_after}
+use Rattle.speedate_cli.specs.Sort.{IsPlaced, Keyed, Keys, Place, file_lines, if_kept}
+use Rattle.speedate_cli.specs.Sort.{instant_after}
 use Rattle.speedate_cli.specs.Sort.{key_after, key_of, keyed, keys_after, line_at, lines_at}
 use Rattle.speedate_cli.specs.Sort.{in_order, is_earlier, is_earlier_line, no_prefix, part, texts}
 use Rattle.speedate_cli.proofs.OrderLemmas.{map-in_order}
@@ -184,7 +185,8 @@ pub texts-step : (text : List ℕ) (places : List Place) (index : ℕ) (default 
     ++ texts (lines_at text (drop (index + 1) places))
 texts-step text places index default waiting below =
     let place : Place = get_or places index default in
-    ap (λ (l : List Place). waiting ++ texts (lines_at text l)) (drop_more places index default below)
+    ap (λ (l : List Place). waiting ++ texts (lines_at text l))
+    (drop_more places index default below)
     ∙ sym (append_assoc waiting (part text place.from place.to)
     (texts (lines_at text (drop (index + 1) places))))
 

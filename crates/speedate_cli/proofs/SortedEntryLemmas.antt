@@ -8,7 +8,8 @@ use Rattle.speedate_cli.specs.Entries.{Entry, Marked, entries, entry_and, lines_
 use Rattle.speedate_cli.specs.Entries.{up_to_value}
 use Rattle.speedate_cli.specs.Sort.{AreKept, IsKept, Keyed, Keys, all_text, file_lines, if_kept}
 use Rattle.speedate_cli.specs.Sort.{in_order, instant_after, is_earlier_entry, is_earlier_line}
-use Rattle.speedate_cli.specs.Sort.{keyed, keys_after, no_prefix, sorted_entries, sorted_text, texts}
+use Rattle.speedate_cli.specs.Sort.{keyed, keys_after, no_prefix, sorted_entries, sorted_text}
+use Rattle.speedate_cli.specs.Sort.{texts}
 use Rattle.speedate_cli.proofs.OrderLemmas.{AreSome, HaveKey, IsSome, blocks, blocks-first}
 
 -- the lines of an entry that are not left out

@@ -5,7 +5,8 @@ use Rattle.speedate_stream.specs.Machine.{head}
 use Rattle.speedate_cli.specs.Print.{Prefix}
 use Rattle.speedate_cli.specs.Reading.{Bad, Found}
 use Rattle.speedate_cli.specs.Scan.{Line, Scan, keeps, line_of, passed}
-use Rattle.speedate_cli.specs.Entries.{Entry, Marked, entries, lines_text, mark, marked, up_to_value}
+use Rattle.speedate_cli.specs.Entries.{Entry, Marked, entries, lines_text, mark, marked}
+use Rattle.speedate_cli.specs.Entries.{up_to_value}
 pub use Rattle.speedate_cli.specs.declared.sort.Keys.{Keys}
 pub use Rattle.speedate_cli.specs.declared.sort.Place.{Place}
 pub use Rattle.speedate_cli.specs.declared.sort.Unread.{Unread}
@@ -35,8 +36,8 @@ abbrev pub all_text : List Entry → List ℕ
 all_text [] = []
 all_text (entry ∷ entries) = lines_text entry.lines ++ all_text entries
 
--- what is printed of lines: the entries in the order of their values, and those of one value as they
--- came; the lines before the first value are an entry of a given value
+-- what is printed of lines: the entries in the order of their values, and those of one value as
+-- they came; the lines before the first value are an entry of a given value
 abbrev pub sorted_entries : ℤ → List Marked → List ℕ
 sorted_entries first lines =
     all_text (in_order is_earlier_entry

@@ -1,8 +1,10 @@
 use Rattle.std.proofs.Common.{rules, ◌≡◌, ◌∙◌, ◌+◌, ◌++◌, ◌∷◌, [], ap, sym, List, ℕ, drop, length, append_assoc}
 use Rattle.speedate.specs.Ascii.{line_feed}
 use Rattle.speedate.specs.Lines.{complete_lines, lines}
-use Rattle.speedate_cli.specs.Sort.{Keyed, Keys, Place, file_lines, key_after, keys_after, lines_at, part}
-use Rattle.speedate_cli.proofs.SortLemmas.{file_lines-append, keys_after-append, lines-ended, lines_at-grown}
+use Rattle.speedate_cli.specs.Sort.{Keyed, Keys, Place, file_lines, key_after, keys_after, lines_at}
+use Rattle.speedate_cli.specs.Sort.{part}
+use Rattle.speedate_cli.proofs.SortLemmas.{file_lines-append, keys_after-append, lines-ended}
+use Rattle.speedate_cli.proofs.SortLemmas.{lines_at-grown}
 use Rattle.speedate_cli.proofs.sort.place_all.Goals as goal
 
 pub returns-in_ok-place_line-clause-keys : goal.returns-in_ok-place_line-clause-keys

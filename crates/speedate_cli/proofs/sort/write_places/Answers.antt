@@ -41,4 +41,7 @@ returns g c =
     let before = c.loop-place.invariant in
     let waiting : List ℕ = c.loop-place.pending.items in
     let left = texts-end text places c.loop-place.place-index waiting c.loop-place-test.false in
-    record { sent = OnlyWrites-after before.failed before.unflushed (AppendsBut-same before.sent left) c.send.ensures.sent }
+    record {
+      sent = OnlyWrites-after before.failed before.unflushed (AppendsBut-same before.sent left)
+          c.send.ensures.sent;
+    }

@@ -36,7 +36,8 @@ returns-then-is_err-2-clause-write_failed g c =
     ∙ ap texts (lines-in_order text c.self.inside.places.items _ is_sorted)
     ∙ ap sorted_text c.self.view_is in
     λ failed. subst (λ (bytes : List ℕ). AppendsBeginning
-    (g.W.Write.contents c.args.output.now.inner) (g.W.Write.contents c.print_places.new.output.inner)
+    (g.W.Write.contents c.args.output.now.inner)
+    (g.W.Write.contents c.print_places.new.output.inner)
     bytes) same
     (err_part c.print_places.result (sym c.if-is_err-2.ensures.value)
     c.print_places.ensures.printed.beginning)
@@ -57,7 +58,8 @@ returns-clause-sorted g c =
     ∙ ap texts (lines-in_order text c.self.inside.places.items _ is_sorted)
     ∙ ap sorted_text c.self.view_is in
     subst (λ (bytes : List ℕ). Appends
-    (g.W.Write.contents c.args.output.now.inner) (g.W.Write.contents c.print_places.new.output.inner)
+    (g.W.Write.contents c.args.output.now.inner)
+    (g.W.Write.contents c.print_places.new.output.inner)
     bytes) same
     (Appends-all (ok_part c.print_places.result (sym c.if-is_err-2.ensures.value)
     c.print_places.ensures.printed.sent))
@@ -74,7 +76,8 @@ returns-clause-entries g c =
     ∙ ap sorted_text c.self.view_is in
     λ instant lines are is.
     subst (λ (bytes : List ℕ). Appends
-    (g.W.Write.contents c.args.output.now.inner) (g.W.Write.contents c.print_places.new.output.inner)
+    (g.W.Write.contents c.args.output.now.inner)
+    (g.W.Write.contents c.print_places.new.output.inner)
     bytes)
     (same ∙ ap sorted_text is ∙ entries_whole instant lines are)
     (Appends-all (ok_part c.print_places.result (sym c.if-is_err-2.ensures.value)
