@@ -1,5 +1,5 @@
 -- A run of `sum` adds up the durations of its lines, exactly, and prints no line.
-use Rattle.std.proofs.Common.{◌≡◌, ℕ, ℤ, ◌+ℤ◌, Bool, true, false, List, [], ◌∷◌, refl, absurd}
+use Rattle.std.proofs.Common.{◌≡◌, ℕ, ℤ, ◌+ℤ◌, Bool, true, false, List, [], ◌∷◌, refl}
 use Rattle.std.specs.Prelude.{Option, Some, None, Result, Ok, Err, if◌then◌else◌}
 use Rattle.speedate.specs.Duration.{signed_amount}
 use Rattle.speedate.specs.DurationNumbers.{DurationNumbers}

@@ -1,6 +1,6 @@
 //! What duration a line has.
 
-ghost use Rattle.std.specs.Prelude.{◌≡◌, ◌≤◌, ◌==◌, ◌||◌, IfErr, IfSome, length};
+ghost use Rattle.std.specs.Prelude.{◌≡◌, ◌+◌, ◌≤◌, ◌==◌, ◌||◌, IfErr, IfSome, length};
 ghost use Rattle.std.specs.List.{position};
 ghost use Rattle.speedate.specs.Ascii.{capital_m, capital_t, capital_y};
 ghost use Rattle.speedate.specs.Duration.{duration_numbers};
