@@ -302,10 +302,10 @@ left_part call config fault left =
 -- with its part; after these bytes stand the lines that have no number yet and, where the text may
 -- go on, its unfinished line
 pub record IsProgress {N : Type 0} (config : LineConfig) (text : List ℕ) (entries : List N)
-    (code : ℤ) (part : SpeedatePart) (progress : SpeedateProgress) : Type 0 where
+    (code : ℤ) (ended : SpeedatePart) (progress : SpeedateProgress) : Type 0 where
   pub lines : progress.lines ≡ length entries
   pub error : progress.error ≡ code
-  pub part : progress.part ≡ part
+  pub part : progress.part ≡ ended
   pub within : progress.bytes ≤ length text
   pub rest : whole_lines config.at_end (drop progress.bytes text)
       ≡ drop progress.lines (whole_lines config.at_end text)
