@@ -107,7 +107,8 @@ fn write_clocks(
     progress: &mut SpeedateProgress,
 ) -> i32
     ensures success { result ≡ success }
-    ensures column { IsColumn (date_time_call (clock_number_by (choices config.now) column.now.parser)
+    ensures column { IsColumn (date_time_call
+        (clock_number_by (choices config.now) column.now.parser)
         (choices config.now) column.now.parser) column.now least_of_64_bits text.now
         out.old out.new errors.old errors.new progress.new }
 {
@@ -128,7 +129,8 @@ fn write_offsets(
     progress: &mut SpeedateProgress,
 ) -> i32
     ensures success { result ≡ success }
-    ensures column { IsColumn (date_time_call (date_time_offset_number_by (choices config.now) column.now.parser)
+    ensures column { IsColumn (date_time_call
+        (date_time_offset_number_by (choices config.now) column.now.parser)
         (choices config.now) column.now.parser) column.now least_of_32_bits text.now
         out.old out.new errors.old errors.new progress.new }
 {
