@@ -6,6 +6,7 @@ ghost use Rattle.speedate.specs.Column.{date_time_place};
 ghost use Rattle.speedate.specs.Config.{choices};
 ghost use Rattle.speedate_c.specs.Code.{config_out_of_range, success};
 ghost use Rattle.speedate_c.specs.Column.{IsColumn, chosen_for_clocks};
+ghost use Rattle.speedate_c.specs.Column.{date_time_call};
 ghost use Rattle.speedate_c.specs.Column.{chosen_for_date_time_offsets, chosen_for_date_times};
 ghost use Rattle.speedate_c.specs.Column.{clock_number_by, date_time_number_by};
 ghost use Rattle.speedate_c.specs.Column.{date_time_kind, date_time_offset_number_by};
@@ -75,6 +76,70 @@ impl LineParser {
     }
 }
 
+/// Reads a column of date-times.
+#[inline(always)]
+fn write_instants(
+    text: &[u8],
+    config: &DateTimeConfig,
+    column: &ColumnChoices,
+    out: &mut [i64],
+    errors: &mut [u8],
+    progress: &mut SpeedateProgress,
+) -> i32
+    ensures success { result ≡ success }
+    ensures column { IsColumn (date_time_call (date_time_number_by (choices config.now) column.now)
+        (choices config.now) column.now.parser) column.now least_of_64_bits text.now
+        out.old out.new errors.old errors.new progress.new }
+{
+    let reader = column.date_time_reader(config);
+    let kind = column.parser.date_time_kind();
+    write_column(text, column, &reader, kind, i64::MIN, out, errors, progress)
+}
+
+/// Reads a column of what the clocks of date-times show.
+#[inline(always)]
+fn write_clocks(
+    text: &[u8],
+    config: &DateTimeConfig,
+    column: &ColumnChoices,
+    out: &mut [i64],
+    errors: &mut [u8],
+    progress: &mut SpeedateProgress,
+) -> i32
+    ensures success { result ≡ success }
+    ensures column { IsColumn (date_time_call
+        (clock_number_by (choices config.now) column.now.parser)
+        (choices config.now) column.now.parser) column.now least_of_64_bits text.now
+        out.old out.new errors.old errors.new progress.new }
+{
+    let parser = column.date_time_parser(config);
+    let reader = DateTimeClockReader { parser };
+    let kind = column.parser.date_time_kind();
+    write_column(text, column, &reader, kind, i64::MIN, out, errors, progress)
+}
+
+/// Reads a column of the offsets of date-times.
+#[inline(always)]
+fn write_offsets(
+    text: &[u8],
+    config: &DateTimeConfig,
+    column: &ColumnChoices,
+    out: &mut [i32],
+    errors: &mut [u8],
+    progress: &mut SpeedateProgress,
+) -> i32
+    ensures success { result ≡ success }
+    ensures column { IsColumn (date_time_call
+        (date_time_offset_number_by (choices config.now) column.now.parser)
+        (choices config.now) column.now.parser) column.now least_of_32_bits text.now
+        out.old out.new errors.old errors.new progress.new }
+{
+    let parser = column.date_time_parser(config);
+    let reader = DateTimeOffsetReader { parser };
+    let kind = column.parser.date_time_kind();
+    write_column(text, column, &reader, kind, i32::MIN, out, errors, progress)
+}
+
 /// Reads the lines of a text as date-times, and writes their microseconds since 1970-01-01T00:00:00 in
 /// UTC, as [`read_column`] does by a [`DateTimeReader`]: 1,000,000 for `1970-01-01T00:00:01Z`.
 ///
@@ -98,18 +163,7 @@ pub extern "C" fn speedate_datetime_column(
 {
     let config = config_or_return!(config.to_config());
     let choices = config_or_return!(column.to_choices());
-    let reader = choices.date_time_reader(&config);
-    let kind = choices.parser.date_time_kind();
-    write_column(
-        text,
-        &choices,
-        &reader,
-        kind,
-        i64::MIN,
-        out,
-        errors,
-        progress,
-    )
+    write_instants(text, &config, &choices, out, errors, progress)
 }
 
 /// Reads the lines of a text as date-times, and writes the microseconds since 1970-01-01T00:00:00 that
@@ -134,19 +188,7 @@ pub extern "C" fn speedate_datetime_clock_column(
 {
     let config = config_or_return!(config.to_config());
     let choices = config_or_return!(column.to_choices());
-    let parser = choices.date_time_parser(&config);
-    let reader = DateTimeClockReader { parser };
-    let kind = choices.parser.date_time_kind();
-    write_column(
-        text,
-        &choices,
-        &reader,
-        kind,
-        i64::MIN,
-        out,
-        errors,
-        progress,
-    )
+    write_clocks(text, &config, &choices, out, errors, progress)
 }
 
 /// Reads the lines of a text as date-times, and writes the seconds of their offsets, as [`read_column`] does
@@ -171,19 +213,7 @@ pub extern "C" fn speedate_datetime_offset_column(
 {
     let config = config_or_return!(config.to_config());
     let choices = config_or_return!(column.to_choices());
-    let parser = choices.date_time_parser(&config);
-    let reader = DateTimeOffsetReader { parser };
-    let kind = choices.parser.date_time_kind();
-    write_column(
-        text,
-        &choices,
-        &reader,
-        kind,
-        i32::MIN,
-        out,
-        errors,
-        progress,
-    )
+    write_offsets(text, &config, &choices, out, errors, progress)
 }
 
 /// Prints microseconds since 1970-01-01T00:00:00 in UTC as date-times with `Z`, a line for each, as
