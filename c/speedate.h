@@ -742,6 +742,47 @@ SPEEDATE_NODISCARD int speedate_duration_column(const char *text, size_t size, S
                                                 SpeedateColumnConfig column, int64_t *out, size_t room,
                                                 uint8_t *errors, size_t error_room, SpeedateProgress *progress);
 
+/* ---- Columns of texts ---- */
+
+/* Each call below reads texts that are parts of the same `bytes`, as a string array of Arrow has them: the text i begins
+ * at offsets[i] and ends at offsets[i + 1], so `count`, the number of offsets, is one more than that of the texts. With
+ * no offset or one there is no text. A text needs no line feed, and a line feed is part of it.
+ *
+ * The numbers, the codes in `errors`, a refused text and `goes_on` are as in the calls for lines above; at_end and
+ * drops_returns do nothing, but have to be in range. progress->lines counts the texts that have a number, and
+ * progress->bytes is the offset at which the last of them ends, which is the first offset if there is none.
+ *
+ * A call returns SPEEDATE_VALUE_OUT_OF_RANGE if an offset is negative, less than the one before it, or over `size`. Then
+ * nothing is written. */
+
+/* The microseconds of date-times since 1970-01-01T00:00:00 in UTC: 1000000 and 0 from
+ * "1970-01-01T00:00:01Z1970-01-01T01:00+01:00" and the offsets 0, 20 and 42. */
+SPEEDATE_NODISCARD int speedate_datetime_texts(const char *bytes, size_t size, const int32_t *offsets, size_t count,
+                                               SpeedateConfig config, SpeedateColumnConfig column, int64_t *out,
+                                               size_t room, uint8_t *errors, size_t error_room,
+                                               SpeedateProgress *progress);
+
+/* The days of dates since 1970-01-01: 1 and -1 from "1970-01-021969-12-31" and the offsets 0, 10 and 20. Here
+ * SPEEDATE_PARSER_STRICT is out of range. */
+SPEEDATE_NODISCARD int speedate_date_texts(const char *bytes, size_t size, const int32_t *offsets, size_t count,
+                                           SpeedateConfig config, SpeedateColumnConfig column, int32_t *out,
+                                           size_t room, uint8_t *errors, size_t error_room,
+                                           SpeedateProgress *progress);
+
+/* The microseconds after midnight that the clocks of times show, whatever the offset: 43994500000 and 0 from
+ * "12:13:14.500:00+01:00" and the offsets 0, 10 and 21. Here SPEEDATE_PARSER_OR_TIMESTAMP is out of range. */
+SPEEDATE_NODISCARD int speedate_time_texts(const char *bytes, size_t size, const int32_t *offsets, size_t count,
+                                           SpeedateConfig config, SpeedateColumnConfig column, int64_t *out,
+                                           size_t room, uint8_t *errors, size_t error_room,
+                                           SpeedateProgress *progress);
+
+/* The microseconds of durations, with their signs: 1500000 and -60000000 from "PT1.5S-00:01:00" and the offsets 0, 6
+ * and 15. */
+SPEEDATE_NODISCARD int speedate_duration_texts(const char *bytes, size_t size, const int32_t *offsets, size_t count,
+                                               SpeedateConfig config, SpeedateColumnConfig column, int64_t *out,
+                                               size_t room, uint8_t *errors, size_t error_room,
+                                               SpeedateProgress *progress);
+
 /* ---- Columns in print ---- */
 
 /* Each call below prints `count` numbers as lines, in order, each with a line feed, as many as there is room for, and

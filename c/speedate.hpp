@@ -823,6 +823,41 @@ template <class Number> class Column {
     Call call_;
 };
 
+/* A call on columns of texts, of which each below is one: date_texts(bytes, offsets, out), or with errors after `out`. */
+template <class Number> class Texts {
+  public:
+    using Call = int (*)(const char *, std::size_t, const std::int32_t *, std::size_t, SpeedateConfig,
+                         SpeedateColumnConfig, Number *, std::size_t, std::uint8_t *, std::size_t, SpeedateProgress *);
+    explicit constexpr Texts(Call call) noexcept : call_(call) {}
+
+    template <class Offsets = std::initializer_list<std::int32_t>, class Numbers>
+    Result<Progress> operator()(std::string_view bytes, const Offsets &offsets, Numbers &&out,
+                                const Config &config = {}, const ColumnConfig &column = {}) const {
+        return read(bytes, offsets, std::data(out), std::size(out), nullptr, 0, config, column);
+    }
+    template <class Offsets = std::initializer_list<std::int32_t>, class Numbers, class Codes,
+              class = decltype(std::data(std::declval<Codes &>()))>
+    Result<Progress> operator()(std::string_view bytes, const Offsets &offsets, Numbers &&out, Codes &&errors,
+                                const Config &config = {}, const ColumnConfig &column = {}) const {
+        /* Where there is no place for an error, no text is read. */
+        const std::size_t room = std::size(errors) == 0 ? 0 : std::size(out);
+        return read(bytes, offsets, std::data(out), room, std::data(errors), std::size(errors), config, column);
+    }
+
+  private:
+    template <class Offsets>
+    Result<Progress> read(std::string_view bytes, const Offsets &offsets, Number *out, std::size_t room,
+                          std::uint8_t *errors, std::size_t error_room, const Config &config,
+                          const ColumnConfig &column) const {
+        return written<Progress, SpeedateProgress>([&](auto *progress) {
+            return call_(bytes.data(), bytes.size(), std::data(offsets), std::size(offsets), config.c(), column.c(),
+                         out, room, errors, error_room, progress);
+        });
+    }
+
+    Call call_;
+};
+
 /* A call that prints a column, of which each below is one: date_print_column(days, buffer). */
 template <class Number> class PrintColumn {
   public:
@@ -854,6 +889,14 @@ inline constexpr detail::Column<SpeedateDateTimeFront> datetime_front_column(spe
 inline constexpr detail::Column<std::int64_t> time_column(speedate_time_column);
 inline constexpr detail::Column<std::int32_t> time_offset_column(speedate_time_offset_column);
 inline constexpr detail::Column<std::int64_t> duration_column(speedate_duration_column);
+
+/* Read texts as numbers, which are parts of the same bytes: each begins at its offset and ends at the next one, as in a
+ * string array of Arrow. The offsets are in a container of std::int32_t; SPEEDATE_VALUE_OUT_OF_RANGE if one is negative,
+ * less than the one before it, or beyond the bytes. Numbers, errors and configurations are as above. */
+inline constexpr detail::Texts<std::int32_t> date_texts(speedate_date_texts);
+inline constexpr detail::Texts<std::int64_t> datetime_texts(speedate_datetime_texts);
+inline constexpr detail::Texts<std::int64_t> time_texts(speedate_time_texts);
+inline constexpr detail::Texts<std::int64_t> duration_texts(speedate_duration_texts);
 
 /* Print the numbers of a container as lines, as many as there is room for in a container of char, as a std::string is.
  * If there is no error, and a number without a line, empty it, and go on with that number. */

@@ -6,8 +6,9 @@
  *
  * In the text of a column `\n` stands for a line feed, and `\r` for a carriage return. Its row has the configurations,
  * the room for numbers and, if there is any, for errors, and the text; then the numbers, the errors, how many lines and
- * bytes they are, and the name of the error that ends it. A row of a column that is printed has the room for the text,
- * and the numbers; then the text, and the same. A part is its place, its end and its kind.
+ * bytes they are, and the name of the error that ends it. A row of a column of texts has their offsets before the text. A
+ * row of a column that is printed has the room for the text, and the numbers; then the text, and the same. A part is its
+ * place, its end and its kind.
  *
  * Each text is read from three places: a block of the heap of its very size, the end of a page after which none
  * can be read, and the beginning of one before which none can be; an empty one also from NULL. Each text is
@@ -25,7 +26,7 @@
 #include <unistd.h>
 
 #define UNTOUCHED 0xA5
-#define FIELDS 9
+#define FIELDS 10
 /* How many places a column has, most of which no call may touch. */
 #define PLACES 12
 
@@ -62,6 +63,17 @@ static size_t list(long long *out) {
         at = end;
     }
     return count;
+}
+
+static int32_t offsets[PLACES];
+static size_t offset_count;
+
+/* The offsets of texts. */
+static void read_offsets(void) {
+    long long n[PLACES];
+    offset_count = list(n);
+    for (size_t i = 0; i < offset_count; i++)
+        offsets[i] = (int32_t)n[i];
 }
 
 static long long number(void) {
@@ -298,21 +310,26 @@ static void say_progress(SpeedateProgress it) {
     }
 
 /* Calls that read a column, with errors if there is room for them. Without room there is no address either. */
-#define COLUMN(TYPE, NAME) COLUMN_OF(TYPE, say_number, NAME)
-#define FRONTS(NAME) COLUMN_OF(SpeedateDateTimeFront, say_datetime_front, NAME)
-#define COLUMN_OF(TYPE, SAY, NAME)                                                                                     \
+#define COLUMN(TYPE, NAME) COLUMN_OF(TYPE, say_number, NAME, )
+#define FRONTS(NAME) COLUMN_OF(SpeedateDateTimeFront, say_datetime_front, NAME, )
+/* The same of texts at offsets, which are the row's last argument but one. */
+#define TEXTS(TYPE, NAME) COLUMN_OF(TYPE, say_number, NAME, OFFSETS)
+#define OFFSETS offset_count ? offsets : NULL, offset_count,
+#define COLUMN_OF(TYPE, SAY, NAME, BETWEEN)                                                                            \
     if (is_call(#NAME)) {                                                                                              \
         SpeedateConfig it = config();                                                                                  \
         SpeedateColumnConfig by = column_config();                                                                     \
         long long rooms[2];                                                                                            \
         numbers(rooms, 2);                                                                                             \
         size_t room = (size_t)rooms[0], error_room = (size_t)rooms[1];                                                 \
+        if (sizeof #BETWEEN > 1)                                                                                       \
+            read_offsets();                                                                                            \
         TYPE out[PLACES];                                                                                              \
         uint8_t errors[PLACES];                                                                                        \
         OUTPUT(SpeedateProgress, progress)                                                                             \
         memset(out, UNTOUCHED, sizeof out);                                                                            \
         memset(errors, UNTOUCHED, sizeof errors);                                                                      \
-        int code = speedate_##NAME(text, size, it, by, room ? out : NULL, room, error_room ? errors : NULL,            \
+        int code = speedate_##NAME(text, size, BETWEEN it, by, room ? out : NULL, room, error_room ? errors : NULL,    \
                                    error_room, progress);                                                              \
         size_t lines = code == SPEEDATE_OK ? progress->lines : 0, written = error_room ? lines : 0;                    \
         int kept = lines <= room && is_untouched(out + lines, sizeof out - lines * sizeof *out);                       \
@@ -502,6 +519,10 @@ static int run_text(const char *text, size_t size) {
     COLUMN(int64_t, time_column)
     COLUMN(int32_t, time_offset_column)
     COLUMN(int64_t, duration_column)
+    TEXTS(int64_t, datetime_texts)
+    TEXTS(int32_t, date_texts)
+    TEXTS(int64_t, time_texts)
+    TEXTS(int64_t, duration_texts)
     return 0;
 }
 
@@ -680,7 +701,7 @@ static void run(const char *row) {
         strcat(wanted, fields[i]);
     }
     char *text = fields[arguments - 1];
-    if (strstr(fields[0], "_column"))
+    if (strstr(fields[0], "_column") || strstr(fields[0], "_texts"))
         put_line_ends(text);
     size_t size = strlen(text);
     char *block = malloc(size ? size : 1);

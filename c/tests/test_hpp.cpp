@@ -332,6 +332,39 @@ static void fronts() {
     CHECK(read.lines == 2 && fronts[0].size == 16 && fronts[1].size == 0 && errors[1] == SPEEDATE_TOO_SHORT);
 }
 
+static void columns_of_texts() {
+    std::vector<std::int64_t> numbers(3, 7);
+    std::array<std::uint8_t, 3> errors = {7, 7, 7};
+    std::int32_t days[2] = {7, 7};
+    const std::vector<std::int32_t> offsets = {1, 11, 21};
+    Progress read = date_texts(">1970-01-021969-12-31", offsets, days).value();
+    CHECK(read.lines == 2 && read.bytes == 21 && !read.error && days[0] == 1 && days[1] == -1);
+    read = date_texts("x1970-01-03", {0, 1, 11}, days, errors).value();
+    CHECK(read.lines == 2 && days[0] == INT32_MIN && days[1] == 2);
+    CHECK(errors[0] == SPEEDATE_TOO_SHORT && errors[1] == 0 && errors[2] == 7);
+    read = datetime_texts("1970-01-01T00:00:01Zago", {0, 20, 23}, numbers).value();
+    CHECK(read.lines == 1 && read.bytes == 20 && read.error == Error(SPEEDATE_TOO_SHORT));
+    CHECK(numbers == std::vector<std::int64_t>({1000000, 7, 7}));
+    CHECK(datetime_texts("x", {0, 1}, numbers, std::array<std::uint8_t, 0>()).value().lines == 0);
+    read = time_texts("12:13:14.500:00+01:00", {0, 10, 21}, numbers).value();
+    CHECK(read.lines == 2 && numbers[0] == 43994500000 && numbers[1] == 0);
+    read = duration_texts("PT2SP999999999D", {0, 4, 15}, numbers, errors).value();
+    CHECK(read.lines == 2 && numbers[0] == 2000000 && errors[1] == SPEEDATE_NUMBER_TOO_LARGE);
+    CHECK(!date_texts("", std::vector<std::int32_t>(), days).value().lines);
+    CHECK(!date_texts("1970-01-02", {10, 0}, days).has_value() && days[0] == INT32_MIN);
+
+    // Each call hands on both configurations.
+    const Config config = with(Unit::Microsecond, Overflow::Error, Order::Strict);
+    ColumnConfig column;
+    column.parser = Parser::OrTimestamp;
+    column.assumes_utc = true;
+    CHECK(date_texts("86400000000", {0, 11}, days, config, column).value().lines == 1 && days[0] == 1);
+    CHECK(datetime_texts("5", {0, 1}, numbers, errors, config, column).value().lines == 1 && numbers[0] == 5);
+    CHECK(duration_texts("PT1S1M", {0, 6}, numbers, config).value().error == Error(SPEEDATE_DURATION_UNIT_ORDER));
+    column.parser = Parser::Strict;
+    CHECK(time_texts("00:00", {0, 5}, numbers, {}, column).value().error == Error(SPEEDATE_TZ_REQUIRED));
+}
+
 static void columns_in_print() {
     std::string text(40, '-');
     const std::int32_t days[] = {1, -1, INT32_MIN, -719529};
@@ -431,6 +464,7 @@ int main() {
     durations();
     columns();
     fronts();
+    columns_of_texts();
     columns_in_print();
     chrono();
     keys();

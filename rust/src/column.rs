@@ -89,6 +89,9 @@ pub struct Progress {
     pub end: usize,
 }
 
+/// How texts are cut that are not lines, which C does not use.
+const WHOLE: LineConfig = LineConfig { at_end: true, drops_returns: false };
+
 mod sealed {
     /// Keeps the trait to the readers that C has.
     pub trait Sealed {}
@@ -186,8 +189,113 @@ pub fn read_column_with_errors<R: LineReader>(
     reader.column(text, config, &mut out[..room], errors)
 }
 
-/// Defines what a reader reads, by its function of C.
+/// Reads texts that are not lines. The readers of dates, date-times, times and durations do, and no other type can.
+///
+/// ```
+/// use speedate::{read_texts, DateReader, DurationReader, TextReader, TimeConfig};
+///
+/// fn first<R: TextReader<Number: Default>>(text: &str, reader: &R) -> R::Number {
+///     let mut out = [R::Number::default()];
+///     read_texts(text.as_bytes(), &[0, text.len() as i32], reader, &mut out).unwrap();
+///     out[0]
+/// }
+///
+/// assert_eq!(first("1970-01-02", &DateReader::Text), 1);
+/// assert_eq!(first("PT1.5S", &DurationReader { config: TimeConfig::default() }), 1_500_000);
+/// ```
+pub trait TextReader: LineReader {
+    #[doc(hidden)]
+    fn texts(
+        &self,
+        bytes: &[u8],
+        offsets: &[i32],
+        out: &mut [Self::Number],
+        errors: &mut [u8],
+    ) -> Result<Option<Progress>, ParseError>;
+}
+
+/// Reads texts that are parts of the same bytes as numbers, in order, as many as `out` has room for, and returns how far it
+/// came.
+///
+/// Each text begins at its offset and ends at the next one, as in a string array of Arrow, so there is one offset more than
+/// texts. A text that is refused ends the column, and the progress has its error. The progress counts the texts as `lines`,
+/// and its `bytes` is the offset at which the last of them ends. The other places of `out` stay as they are.
+///
+/// It is `None`, and `out` stays as it is, if an offset is negative, less than the one before it, or beyond the bytes.
+///
+/// ```
+/// use speedate::{read_texts, DateReader, ParseError, Progress};
+///
+/// let mut out = [0; 8];
+/// let progress = read_texts(b"1970-01-021969-12-31", &[0, 10, 20], &DateReader::Text, &mut out)?.unwrap();
+/// assert_eq!((progress.lines, progress.bytes, progress.error), (2, 20, None));
+/// assert_eq!(out[..2], [1, -1]);
+/// assert_eq!(read_texts(b"1970-01-02", &[0, 11], &DateReader::Text, &mut out)?, None);
+/// # Ok::<(), ParseError>(())
+/// ```
+///
+/// # Errors
+///
+/// Those of [`read_column`].
+#[inline]
+pub fn read_texts<R: TextReader>(
+    bytes: &[u8],
+    offsets: &[i32],
+    reader: &R,
+    out: &mut [R::Number],
+) -> Result<Option<Progress>, ParseError> {
+    reader.texts(bytes, offsets, out, &mut [])
+}
+
+/// Reads texts as numbers, as [`read_texts`] does, and writes the number of the error of each text too, as
+/// [`read_column_with_errors`] does for lines.
+///
+/// ```
+/// use speedate::{read_texts_with_errors, DateReader, ParseError};
+///
+/// let (mut out, mut errors) = ([0; 2], [0; 2]);
+/// read_texts_with_errors(b"1970-01-02x", &[0, 10, 11], &DateReader::Text, &mut out, &mut errors)?;
+/// assert_eq!((out, errors), ([1, i32::MIN], [0, ParseError::TooShort.number()]));
+/// # Ok::<(), ParseError>(())
+/// ```
+///
+/// # Errors
+///
+/// Those of [`read_column`].
+#[inline]
+pub fn read_texts_with_errors<R: TextReader>(
+    bytes: &[u8],
+    offsets: &[i32],
+    reader: &R,
+    out: &mut [R::Number],
+    errors: &mut [u8],
+) -> Result<Option<Progress>, ParseError> {
+    // Without places for errors C would read a column of only numbers.
+    let room = if errors.is_empty() { 0 } else { out.len() };
+    reader.texts(bytes, offsets, &mut out[..room], errors)
+}
+
+/// Defines what a reader reads, by its function of C for lines, and that for texts if there is one.
 macro_rules! reader {
+    ($name:ident by $column:ident and $texts:ident -> $number:ty) => {
+        reader!($name by $column -> $number);
+
+        impl TextReader for $name {
+            #[inline]
+            fn texts(
+                &self,
+                bytes: &[u8],
+                offsets: &[i32],
+                out: &mut [$number],
+                errors: &mut [u8],
+            ) -> Result<Option<Progress>, ParseError> {
+                match ffi::$texts(bytes, offsets, WHOLE, self, out, errors) {
+                    Err(Code::VALUE_OUT_OF_RANGE) => Ok(None),
+                    read => Ok(Some(read?)),
+                }
+            }
+        }
+    };
     ($name:ident by $column:ident -> $number:ty) => {
         impl sealed::Sealed for $name {}
 
@@ -225,7 +333,7 @@ pub enum DateReader {
     OrTimestamp(DateConfig),
 }
 
-reader!(DateReader by speedate_date_column -> i32);
+reader!(DateReader by speedate_date_column and speedate_date_texts -> i32);
 
 impl From<&DateReader> for (Config, ColumnConfig) {
     fn from(reader: &DateReader) -> Self {
@@ -268,7 +376,7 @@ pub struct DateTimeReader {
     pub assumes_utc: bool,
 }
 
-reader!(DateTimeReader by speedate_datetime_column -> i64);
+reader!(DateTimeReader by speedate_datetime_column and speedate_datetime_texts -> i64);
 
 impl From<&DateTimeReader> for (Config, ColumnConfig) {
     fn from(reader: &DateTimeReader) -> Self {
@@ -376,7 +484,7 @@ pub struct TimeReader {
     pub parser: TimeParser,
 }
 
-reader!(TimeReader by speedate_time_column -> i64);
+reader!(TimeReader by speedate_time_column and speedate_time_texts -> i64);
 
 /// Reads a line as a time, and gives its offset from UTC in seconds, positive east of UTC.
 ///
@@ -420,7 +528,7 @@ pub struct DurationReader {
     pub config: TimeConfig,
 }
 
-reader!(DurationReader by speedate_duration_column -> i64);
+reader!(DurationReader by speedate_duration_column and speedate_duration_texts -> i64);
 
 impl From<&DurationReader> for (Config, ColumnConfig) {
     fn from(reader: &DurationReader) -> Self {

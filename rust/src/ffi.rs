@@ -335,23 +335,26 @@ macro_rules! ends {
     )*};
 }
 
-/// Functions that write the numbers of the lines of a text, their errors if there is a place for one, and how far they
-/// came.
+/// Functions that write the numbers of the lines of a text, or of the texts at offsets, their errors if there is a place for
+/// one, and how far they came.
 macro_rules! columns {
     ($(
-        fn $name:ident([$text:ident] $config:ident: Config, $column:ident: ColumnConfig, $([$slice:ident: $number:ty]),*);
+        fn $name:ident(
+            [$text:ident] $([$offsets:ident])? $config:ident: Config, $column:ident: ColumnConfig,
+            $([$slice:ident: $number:ty]),*
+        );
     )*) => {$(
         #[inline]
         pub(crate) fn $name<R>(
-            $text: &[u8], lines: LineConfig, reader: &R, $($slice: &mut [$number]),*
+            $text: &[u8], $($offsets: &[i32],)? lines: LineConfig, reader: &R, $($slice: &mut [$number]),*
         ) -> Result<Progress, Code>
         where
             for<'a> &'a R: Into<(Config, ColumnConfig)>,
         {
             unsafe extern "C" {
                 fn $name(
-                    $text: *const u8, size: usize, $config: Config, $column: ColumnConfig,
-                    $($slice: *mut $number, _: usize,)* progress: *mut CProgress,
+                    $text: *const u8, size: usize, $($offsets: *const i32, count: usize,)? $config: Config,
+                    $column: ColumnConfig, $($slice: *mut $number, _: usize,)* progress: *mut CProgress,
                 ) -> c_int;
             }
             let ($config, $column) = reader.into();
@@ -359,7 +362,10 @@ macro_rules! columns {
             // SAFETY: the types are the header's; addresses and sizes are those of the text and of slices, which do not
             // overlap it or one another, and `progress` is a variable's address.
             written(|progress| unsafe {
-                $name($text.as_ptr(), $text.len(), $config, $column, $($slice.as_mut_ptr(), $slice.len(),)* progress)
+                $name(
+                    $text.as_ptr(), $text.len(), $($offsets.as_ptr(), $offsets.len(),)? $config, $column,
+                    $($slice.as_mut_ptr(), $slice.len(),)* progress,
+                )
             })
         }
     )*};
@@ -538,6 +544,10 @@ columns! {
     fn speedate_time_column([text] config: Config, column: ColumnConfig, [out: i64], [errors: u8]);
     fn speedate_time_offset_column([text] config: Config, column: ColumnConfig, [out: i32], [errors: u8]);
     fn speedate_duration_column([text] config: Config, column: ColumnConfig, [out: i64], [errors: u8]);
+    fn speedate_date_texts([bytes] [offsets] config: Config, column: ColumnConfig, [out: i32], [errors: u8]);
+    fn speedate_datetime_texts([bytes] [offsets] config: Config, column: ColumnConfig, [out: i64], [errors: u8]);
+    fn speedate_time_texts([bytes] [offsets] config: Config, column: ColumnConfig, [out: i64], [errors: u8]);
+    fn speedate_duration_texts([bytes] [offsets] config: Config, column: ColumnConfig, [out: i64], [errors: u8]);
 }
 
 print_columns! {

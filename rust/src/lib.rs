@@ -38,10 +38,10 @@ mod time;
 mod value;
 
 pub use column::{
-    duration_microseconds, print_column, read_column, read_column_with_errors, DatePrinter, DateReader,
-    DateTimeClockPrinter, DateTimeClockReader, DateTimeOffsetReader, DateTimeParser, DateTimePrinter, DateTimeReader,
-    DurationPrinter, DurationReader, LineConfig, LineError, LinePrinter, LineReader, Progress, TimeOffsetReader,
-    TimeParser, TimePrinter, TimeReader, LINE_MAX,
+    duration_microseconds, print_column, read_column, read_column_with_errors, read_texts, read_texts_with_errors,
+    DatePrinter, DateReader, DateTimeClockPrinter, DateTimeClockReader, DateTimeOffsetReader, DateTimeParser,
+    DateTimePrinter, DateTimeReader, DurationPrinter, DurationReader, LineConfig, LineError, LinePrinter, LineReader,
+    Progress, TextReader, TimeOffsetReader, TimeParser, TimePrinter, TimeReader, LINE_MAX,
 };
 pub use config::{
     DateConfig, DateConfigBuilder, DateTimeConfig, DateTimeConfigBuilder, TimeConfig, TimeConfigBuilder, TimestampUnit,

@@ -5,10 +5,11 @@ use std::panic::{catch_unwind, set_hook, take_hook};
 use std::str::FromStr;
 
 use speedate::{
-    duration_microseconds, int_parse_str, print_column, read_column, read_column_with_errors, Date, DateConfig,
-    DatePrinter, DateReader, DateTime, DateTimeClockPrinter, DateTimeClockReader, DateTimeConfig, DateTimeOffsetReader,
-    DateTimeParser, DateTimePrinter, DateTimeReader, Duration, DurationPrinter, DurationReader, LineConfig,
-    LinePrinter, LineReader, MicrosecondsPrecisionOverflowBehavior, ParseError, Progress, Refused, Time, TimeConfig,
+    duration_microseconds, int_parse_str, print_column, read_column, read_column_with_errors, read_texts,
+    read_texts_with_errors, Date, DateConfig, DatePrinter, DateReader, DateTime, DateTimeClockPrinter,
+    DateTimeClockReader, DateTimeConfig, DateTimeOffsetReader, DateTimeParser, DateTimePrinter, DateTimeReader,
+    Duration, DurationPrinter, DurationReader, LineConfig, LinePrinter, LineReader,
+    MicrosecondsPrecisionOverflowBehavior, ParseError, Progress, Refused, TextReader, Time, TimeConfig,
     TimeOffsetReader, TimeParser, TimePrinter, TimeReader, TimestampUnit,
 };
 
@@ -25,6 +26,8 @@ fn rows() {
     assert!(tried.len() > 200, "only {} rows", tried.len());
     let columns = tried.iter().filter(|(row, _)| row.contains("_column")).count();
     assert!(columns > 70, "only {columns} rows of columns");
+    let texts = tried.iter().filter(|(row, _)| row.contains("_texts|")).count();
+    assert!(texts > 40, "only {texts} rows of columns of texts");
     let places = tried.iter().filter(|(row, _)| row.contains("_or_part")).count();
     assert!(places > 70, "only {places} rows of places");
 }
@@ -149,6 +152,17 @@ impl Row<'_> {
             "time_column" => self.has_column(&TimeReader { parser: self.get_time_parser()? })?,
             "time_offset_column" => self.has_column(&TimeOffsetReader { parser: self.get_time_parser()? })?,
             "duration_column" => self.has_column(&DurationReader { config: time_config(1)? })?,
+            "date_texts" => {
+                let config: DateConfig = self.get(1)?;
+                let readers = [DateReader::Text, DateReader::OrTimestamp(config)];
+                self.has_texts(readers.get(usize::from(self.get::<Column>(2)?.parser))?)?
+            }
+            "datetime_texts" => {
+                let assumes_utc = self.get::<Column>(2)?.assumes_utc;
+                self.has_texts(&DateTimeReader { parser: self.get_parser()?, assumes_utc })?
+            }
+            "time_texts" => self.has_texts(&TimeReader { parser: self.get_time_parser()? })?,
+            "duration_texts" => self.has_texts(&DurationReader { config: time_config(1)? })?,
             "date_print_column" => self.has_lines(&DatePrinter),
             "datetime_print_column" => self.has_lines(&DateTimePrinter),
             "datetime_clock_print_column" => self.has_lines(&DateTimeClockPrinter),
@@ -194,11 +208,26 @@ impl Row<'_> {
             }
         };
         let progress = progress.unwrap();
-        let error = progress.error.map_or("ok".to_owned(), |error| error.to_string());
-        let mut written = vec!["ok".to_owned(), joined(&out[..progress.lines])];
-        written.extend(errors.map(|errors| joined(&errors[..progress.lines])));
-        written.push(format!("{} {} {error}", progress.lines, progress.bytes));
-        Some(self.0[5..] == written)
+        Some(self.0[5..] == written(&progress, &out, errors.as_deref()))
+    }
+
+    /// The same of a column of texts.
+    fn has_texts<R: TextReader<Number: Default + ToString>>(&self, reader: &R) -> Option<bool> {
+        let goes_on = self.get::<Column>(2)?.goes_on;
+        let bytes = self.0[5].replace("\\n", "\n").replace("\\r", "\r");
+        let rooms: Vec<usize> = self.0[3].split(' ').map(|room| room.parse().unwrap()).collect();
+        let offsets: Vec<i32> = self.0[4].split_whitespace().map(|it| it.parse().unwrap()).collect();
+        let mut out = vec![R::Number::default(); rooms[0]];
+        let mut errors = (rooms.get(1).copied().unwrap_or(0) > 0).then(|| vec![0; rooms[1]]);
+        let progress = match &mut errors {
+            None if goes_on => return None,
+            None => read_texts(bytes.as_bytes(), &offsets, reader, &mut out),
+            Some(errors) => read_texts_with_errors(bytes.as_bytes(), &offsets, reader, &mut out, errors),
+        };
+        let Some(progress) = progress.unwrap() else {
+            return Some(self.0[6..] == ["value_out_of_range"]);
+        };
+        Some(self.0[6..] == written(&progress, &out, errors.as_deref()))
     }
 
     /// Whether numbers have these lines and this progress.
@@ -271,6 +300,15 @@ impl Row<'_> {
         let order = self.get::<T>(1)?.partial_cmp(&self.get(2)?);
         Some(order.map_or(self.0[3] == "value_out_of_range", |order| self.get(4) == Some(order as i32)))
     }
+}
+
+/// What a row tells of a column that was read.
+fn written(progress: &Progress, numbers: &[impl ToString], errors: Option<&[u8]>) -> Vec<String> {
+    let error = progress.error.as_ref().map_or("ok".to_owned(), |error| error.to_string());
+    let mut written = vec!["ok".to_owned(), joined(&numbers[..progress.lines])];
+    written.extend(errors.map(|errors| joined(&errors[..progress.lines])));
+    written.push(format!("{} {} {error}", progress.lines, progress.bytes));
+    written
 }
 
 fn joined(numbers: &[impl ToString]) -> String {

@@ -14,6 +14,7 @@ pub mod LineLemmas
 mod MarkLemmas
 mod WholeLineLemmas
 mod ColumnLemmas
+mod TextsLemmas
 mod FrontNumberLemmas
 mod ColumnTextLemmas
 mod PrintedLineLemmas

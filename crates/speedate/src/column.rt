@@ -7,6 +7,7 @@ mod duration;
 mod front;
 mod print;
 mod read;
+mod texts;
 mod time;
 mod timestamp;
 
@@ -19,6 +20,7 @@ pub use front::{DateTimeFront, DateTimeFrontReader};
 pub use print::print_column;
 pub use read::{read_column, read_column_with_errors};
 use speedate_base::faults::ParseError;
+pub use texts::read_texts;
 pub use time::{TimeOffsetReader, TimeParser, TimePrinter, TimeReader};
 pub use timestamp::timestamp_microseconds;
 

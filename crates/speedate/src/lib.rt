@@ -23,7 +23,8 @@
 //! - [`read_column`] and [`read_column_with_errors`]: the lines of a text as numbers, by a
 //!   [`DateReader`], a [`DateTimeReader`], a [`DateTimeClockReader`], a [`DateTimeOffsetReader`], a
 //!   [`DateTimeFrontReader`], a [`TimeReader`], a [`TimeOffsetReader`] or a [`DurationReader`];
-//!   [`line_end`] finds the end of a line.
+//!   [`read_texts`] reads texts that offsets cut out of the same bytes; [`line_end`] finds the end of a
+//!   line.
 //! - [`FractionDigits`]: how many digits of a second's fraction are printed.
 //! - [`DateConfig`], [`TimeConfig`], [`DateTimeConfig`] and their builders: how texts are parsed.
 //! - [`ParseError`], [`ConfigError`]: the errors. A text that is refused has exactly one, and each has
@@ -65,7 +66,7 @@ pub use column::{
     DateTimeFrontReader, DateTimeOffsetReader, DateTimeParser, DateTimePrinter, DateTimeReader,
     DurationPrinter, DurationReader, LINE_MAX, LineConfig, LineError, LinePrinter, LineReader,
     Progress, TimeOffsetReader, TimeParser, TimePrinter, TimeReader, duration_microseconds,
-    print_column, read_column, read_column_with_errors, timestamp_microseconds,
+    print_column, read_column, read_column_with_errors, read_texts, timestamp_microseconds,
 };
 pub use duration::{DAYS_MAX, Duration, DurationSum};
 pub use lines::line_end;

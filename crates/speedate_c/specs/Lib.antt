@@ -6,3 +6,4 @@ pub mod Time
 pub mod DateTime
 pub mod Duration
 pub mod Column
+pub mod Texts

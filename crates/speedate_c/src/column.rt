@@ -9,6 +9,7 @@ mod date;
 mod date_time;
 mod duration;
 mod front;
+mod texts;
 mod time;
 
 use crate::code::{SUCCESS, kind_number, line_error_code};

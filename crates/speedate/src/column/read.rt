@@ -179,7 +179,7 @@ fn refused_part<R: LineReader>(
 /// Puts the number of an error at its place, if there is one.
 #[inline(always)]
 #[tactic(auto, using(std::proofs::lemmas::List::set_past))]
-fn put(errors: &mut [u8], place: usize, number: u8)
+pub(super) fn put(errors: &mut [u8], place: usize, number: u8)
     ensures put { errors.new ≡ slice_set errors.old place number }
 {
     if place < errors.len() {
@@ -189,7 +189,10 @@ fn put(errors: &mut [u8], place: usize, number: u8)
 
 /// The number and the error code that are stored for a line; the code is 0 if the line is accepted.
 #[inline(always)]
-fn entry<N: Copy>(answer: Result<N, LineError>, refused: Option<N>) -> Result<(N, u8), LineError>
+pub(super) fn entry<N: Copy>(
+    answer: Result<N, LineError>,
+    refused: Option<N>,
+) -> Result<(N, u8), LineError>
     ensures entry { result ≡ entry refused answer }
 {
     match (answer, refused) {

@@ -15,7 +15,7 @@ use speedate::{CallKind, DateConfig, DatePrinter, DateReader};
 impl ColumnChoices {
     /// The reader of dates, if the parser is one of dates.
     #[inline(always)]
-    fn date_reader(&self, config: DateConfig) -> Option<DateReader>
+    pub(super) fn date_reader(&self, config: DateConfig) -> Option<DateReader>
         ensures reader { result ≡ date_reader config.timestamp_unit self.now.parser }
     {
         match self.parser {
@@ -28,7 +28,7 @@ impl ColumnChoices {
 
 impl LineParser {
     /// The kind of calls that parse a date as this parser does.
-    fn date_kind(self) -> CallKind
+    pub(super) fn date_kind(self) -> CallKind
         ensures kind { result ≡ date_kind self }
     {
         match self {

@@ -50,7 +50,7 @@ impl ColumnChoices {
 
     /// The reader of date-times.
     #[inline(always)]
-    fn date_time_reader(&self, config: &DateTimeConfig) -> DateTimeReader
+    pub(super) fn date_time_reader(&self, config: &DateTimeConfig) -> DateTimeReader
         ensures reads { date_time_number result
             ≡ date_time_number_by (choices config.now) self.now }
         ensures places { date_time_place result.parser
@@ -65,7 +65,7 @@ impl ColumnChoices {
 
 impl LineParser {
     /// The kind of calls that parse a date-time as this parser does.
-    fn date_time_kind(self) -> CallKind
+    pub(super) fn date_time_kind(self) -> CallKind
         ensures kind { result ≡ date_time_kind self }
     {
         match self {

@@ -14,7 +14,7 @@ use speedate::{CallKind, DateTimeConfig, DurationPrinter, DurationReader};
 
 /// The reader of durations.
 #[inline(always)]
-fn duration_reader(config: &DateTimeConfig) -> DurationReader
+pub(super) fn duration_reader(config: &DateTimeConfig) -> DurationReader
     ensures reads { duration_number result ≡ duration_number_by (choices config.now) }
     ensures places { duration_place result ≡ duration_place_by (choices config.now) }
 {

@@ -19,7 +19,7 @@ use speedate::{CallKind, DateTimeConfig, TimeOffsetReader, TimeParser, TimePrint
 impl ColumnChoices {
     /// The parser of times, if the column has one.
     #[inline(always)]
-    fn time_parser(&self, config: &DateTimeConfig) -> Option<TimeParser>
+    pub(super) fn time_parser(&self, config: &DateTimeConfig) -> Option<TimeParser>
         ensures parses { option_map (λ parser. (time_of_line parser, time_place parser)) result
             ≡ time_by_parser self.now.parser (choices config.now) }
     {
@@ -37,7 +37,7 @@ impl ColumnChoices {
 
 impl LineParser {
     /// The kind of calls that parse a time as this parser does.
-    fn time_kind(self) -> CallKind
+    pub(super) fn time_kind(self) -> CallKind
         ensures kind { result ≡ time_kind self }
     {
         match self {

@@ -1,0 +1,123 @@
+-- Texts that offsets cut out of bytes, and the column of them, text by text.
+use Rattle.std.proofs.Common.{Bool, true, false, ◌&&◌, ◌≡◌, ◌∙◌, ap, sym, refl, ℕ, zero, suc, ◌+◌, ◌-◌, ◌<◌, ◌≤◌, List, [], ◌∷◌, length, get_or, take, drop, add-one, ℤ, pos, ◌≤ℤ◌, int_le, arith, Option, Some, None, Result, Ok, Err}
+use Rattle.std.proofs.lemmas.Bool.{and_parts}
+use Rattle.std.proofs.lemmas.Bool.Decides.{nat_tests}
+use Rattle.std.proofs.lemmas.Int.{ints}
+use Rattle.std.proofs.lemmas.List.{length-take}
+use Rattle.speedate.specs.Column.{Column, LineError, column, entry, onto_column}
+use Rattle.speedate.specs.Texts.{bytes_between, cut_at, rise_within}
+
+at-most : (least most : ℤ) → int_le least most ≡ true → least ≤ℤ most
+at-most least most test = grind (arith, ints, nat_tests)
+
+-- the offset before others that rise
+record IsFirst (least : ℤ) (size : ℕ) (offset : ℤ) (offsets : List ℤ) : Type 0 where
+  pub after : least ≤ℤ offset
+  pub within : offset ≤ℤ pos size
+  pub rise : rise_within offset size offsets ≡ true
+
+first-is : (least : ℤ) (size : ℕ) (offset : ℤ) (offsets : List ℤ)
+    → rise_within least size (offset ∷ offsets) ≡ true → IsFirst least size offset offsets
+first-is least size offset offsets rise =
+    let rest : Bool = int_le offset (pos size) && rise_within offset size offsets in
+    let parts = and_parts (int_le least offset) rest rise in
+    let more = and_parts (int_le offset (pos size)) (rise_within offset size offsets) parts.1 in
+    record {
+      after = at-most least offset parts.0;
+      within = at-most offset (pos size) more.0;
+      rise = more.1;
+    }
+
+-- an offset from a least one on, and within so many bytes
+pub record IsOffset (least : ℤ) (size : ℕ) (offset : ℤ) : Type 0 where
+  pub after : least ≤ℤ offset
+  pub within : offset ≤ℤ pos size
+
+pub IsOffset-at : (least : ℤ) (size : ℕ) (offsets : List ℤ) (place : ℕ)
+    → rise_within least size offsets ≡ true → place < length offsets
+    → IsOffset least size (get_or offsets place (pos 0))
+IsOffset-at least size [] place rise within = absurd (omega (arith, within))
+IsOffset-at least size (offset ∷ offsets) zero rise within =
+    let first = first-is least size offset offsets rise in
+    record { after = first.after; within = first.within }
+IsOffset-at least size (offset ∷ offsets) (suc place) rise within =
+    let first = first-is least size offset offsets rise in
+    let next = IsOffset-at offset size offsets place first.rise (omega (arith, within)) in
+    record { after = omega (arith, ints, first.after, next.after); within = next.within }
+
+-- none is negative after a least one that is not
+pub offset-positive : (least : ℤ) (size : ℕ) (offsets : List ℤ) (place : ℕ) → pos 0 ≤ℤ least
+    → rise_within least size offsets ≡ true → pos 0 ≤ℤ get_or offsets place (pos 0)
+offset-positive least size [] place positive rise = omega (arith, ints)
+offset-positive least size (offset ∷ offsets) zero positive rise =
+    let first = first-is least size offset offsets rise in
+    omega (arith, ints, positive, first.after)
+offset-positive least size (offset ∷ offsets) (suc place) positive rise =
+    let first = first-is least size offset offsets rise in
+    let next : pos 0 ≤ℤ offset = omega (arith, ints, positive, first.after) in
+    offset-positive offset size offsets place next first.rise
+
+-- the offsets after a place are from the one there on
+pub IsOffset-next : (least : ℤ) (size : ℕ) (offsets : List ℤ) (place : ℕ)
+    → rise_within least size offsets ≡ true → place + 1 < length offsets
+    → IsOffset (get_or offsets place (pos 0)) size (get_or offsets (place + 1) (pos 0))
+IsOffset-next least size [] place rise within = absurd (omega (arith, within))
+IsOffset-next least size (offset ∷ offsets) zero rise within =
+    let first = first-is least size offset offsets rise in
+    IsOffset-at offset size offsets 0 first.rise (omega (arith, within))
+IsOffset-next least size (offset ∷ offsets) (suc place) rise within =
+    let first = first-is least size offset offsets rise in
+    IsOffset-next offset size offsets place first.rise (omega (arith, within))
+
+-- the texts from a place on begin with the one between the offsets there
+pub cut_at-next : (offsets : List ℤ) (bytes : List ℕ) (place : ℕ) → place + 1 < length offsets
+    → drop place (cut_at offsets bytes)
+    ≡ bytes_between (get_or offsets place (pos 0)) (get_or offsets (place + 1) (pos 0)) bytes
+    ∷ drop (place + 1) (cut_at offsets bytes)
+cut_at-next [] bytes place within = absurd (omega (arith, within))
+cut_at-next (start ∷ []) bytes place within = absurd (omega (arith, within))
+cut_at-next (start ∷ end ∷ ends) bytes zero within = refl
+cut_at-next (start ∷ end ∷ ends) bytes (suc place) within =
+    cut_at-next (end ∷ ends) bytes place (omega (arith, within))
+
+pub length-cut_at : (offsets : List ℤ) (bytes : List ℕ)
+    → length (cut_at offsets bytes) ≡ length offsets - 1
+length-cut_at [] bytes = refl
+length-cut_at (start ∷ []) bytes = refl
+length-cut_at (start ∷ end ∷ ends) bytes =
+    ap suc (length-cut_at (end ∷ ends) bytes) ∙ omega arith
+
+-- the same with only some of the texts
+pub taken-next : {X : Type 0} → (texts : List X) (place count : ℕ) (text : X) → place < count
+    → drop place texts ≡ text ∷ drop (place + 1) texts
+    → drop place (take count texts) ≡ text ∷ drop (place + 1) (take count texts)
+taken-next texts place zero text within next = absurd (omega (arith, within))
+taken-next [] zero (suc count) text within next = cc
+taken-next [] (suc place) (suc count) text within next = cc
+taken-next {X = X} (one ∷ ones) zero (suc count) text within next =
+    let same : one ≡ text = cc in ap (λ (first : X). first ∷ take count ones) same
+taken-next (one ∷ ones) (suc place) (suc count) text within next =
+    taken-next ones place count text (omega (arith, within)) next
+
+-- none is left after all
+pub taken-none : {X : Type 0} → (texts : List X) (count : ℕ) → drop count (take count texts) ≡ []
+taken-none texts zero = refl
+taken-none [] (suc count) = refl
+taken-none (one ∷ ones) (suc count) = taken-none ones count
+
+-- what is held of a text is put before the column of those after it
+pub column-next : {N : Type 0} → (answer : List ℕ → Result N LineError) (refused : Option N)
+    (texts : List (List ℕ)) (place : ℕ) (text : List ℕ) (held : Result (N × ℕ) LineError)
+    → drop place texts ≡ text ∷ drop (place + 1) texts → held ≡ entry refused (answer text)
+    → column answer refused (drop place texts)
+    ≡ onto_column held (column answer refused (drop (place + 1) texts))
+column-next {N = N} answer refused texts place text held next is =
+    let rest = column answer refused (drop (place + 1) texts) in
+    ap (column answer refused) next
+    ∙ ap (λ (held : Result (N × ℕ) LineError). onto_column held rest) (sym is)
+
+pub column-end : {N : Type 0} → (answer : List ℕ → Result N LineError) (refused : Option N)
+    (texts : List (List ℕ)) (count : ℕ)
+    → column answer refused (drop count (take count texts))
+    ≡ record { numbers = []; errors = []; fault = None }
+column-end answer refused texts count = ap (column answer refused) (taken-none texts count)

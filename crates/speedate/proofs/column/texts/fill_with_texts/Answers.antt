@@ -1,0 +1,91 @@
+use Rattle.std.proofs.Common.{◌+◌, ◌-◌, ◌<◌, ◌≡◌, ◌≤ℤ◌, ◌∙◌, ap, ℕ, List, drop, get_or, length, pos, set, take, None, Some, Ok, Err, arith, refl, sym}
+use Rattle.std.proofs.lemmas.Int.{ints}
+use Rattle.std.proofs.lemmas.List.{length-set}
+use Rattle.speedate.specs.Column.{column, entry}
+use Rattle.speedate.specs.Texts.{cut_at}
+use Rattle.speedate.proofs.ColumnLemmas.{IsSoFar-more, IsSoFar-none, IsSoFar-whole}
+use Rattle.speedate.proofs.TextsLemmas.{column-end, column-next, offset-positive, taken-next}
+use Rattle.speedate.proofs.column.texts.fill_with_texts.Goals as goal
+
+pub loop-lines-init : goal.loop-lines-init
+loop-lines-init g c =
+    let answer = g.R.LineReader.answer c.args.reader.now in
+    let texts : List (List ℕ) = take c.args.count (cut_at c.args.offsets.now c.args.bytes.now) in
+    let all = column answer c.args.refused texts in
+    record {
+      read = omega arith;
+      room = c.requires.room;
+      so_far = IsSoFar-none all all c.args.out.now c.args.errors.now refl;
+    }
+
+pub loop-lines-preserved : goal.loop-lines-preserved
+loop-lines-preserved g c =
+    let before = c.loop-lines.invariant in
+    let lines : ℕ = c.loop-lines.lines in
+    let texts = cut_at c.args.offsets.now c.args.bytes.now in
+    let inside : lines < c.args.count = omega (arith, c.loop-lines-test.true) in
+    let next = taken-next texts lines c.args.count c.text_at-text.result.now inside
+    c.text_at-text.ensures.text in
+    let is = column-next (g.R.LineReader.answer c.args.reader.now) c.args.refused
+    (take c.args.count texts) lines c.text_at-text.result.now (Ok c.in-Ok.entry) next
+    (c.in-Ok.ensures.entry ∙ ap (entry c.args.refused) c.number.ensures.answer) in
+    record {
+      read = omega (arith, inside);
+      room = omega (arith, before.room, length-set c.loop-lines.out lines c.in-Ok.entry.0);
+      so_far = IsSoFar-more _ _ _ lines _ _ c.loop-lines.out _ _ _ _ c.in-Ok.entry before.so_far is
+          refl refl c.put.ensures.put;
+    }
+
+pub offset_at-requires : goal.offset_at-requires
+offset_at-requires g c =
+    let none : pos 0 ≤ℤ pos 0 = omega (arith, ints) in
+    offset-positive (pos 0) (length c.args.bytes.now) c.args.offsets.now c.loop-lines.lines none
+    c.requires.rise
+
+pub offset_at-requires-2 : goal.offset_at-requires-2
+offset_at-requires-2 g c =
+    let none : pos 0 ≤ℤ pos 0 = omega (arith, ints) in
+    offset-positive (pos 0) (length c.args.bytes.now) c.args.offsets.now c.loop-lines.lines none
+    c.requires.rise
+
+pub returns-in-Err : goal.returns-in-Err
+returns-in-Err g c =
+    let before = c.loop-lines.invariant in
+    let lines : ℕ = c.loop-lines.lines in
+    let texts = cut_at c.args.offsets.now c.args.bytes.now in
+    let inside : lines < c.args.count = omega (arith, c.loop-lines-test.true) in
+    let next = taken-next texts lines c.args.count c.text_at-text.result.now inside
+    c.text_at-text.ensures.text in
+    let ended = column-next (g.R.LineReader.answer c.args.reader.now) c.args.refused
+    (take c.args.count texts) lines c.text_at-text.result.now (Err c.in-Err.error) next
+    (c.in-Err.ensures.entry ∙ ap (entry c.args.refused) c.number.ensures.answer) in
+    let all = IsSoFar-whole _ _ (Some c.in-Err.error) _ _ _ _ _ before.so_far ended in
+    record {
+      column = record {
+        numbers = all.numbers;
+        errors = all.errors;
+        lines = all.count;
+        bytes = c.offset_at.ensures.offset;
+        error = all.ends;
+      };
+    }
+
+pub returns : goal.returns
+returns g c =
+    let before = c.loop-lines.invariant in
+    let lines : ℕ = c.loop-lines.lines in
+    let texts = cut_at c.args.offsets.now c.args.bytes.now in
+    let answer = g.R.LineReader.answer c.args.reader.now in
+    let all_read : lines ≡ c.args.count = omega (arith, before.read, c.loop-lines-test.false) in
+    let ended = ap (λ (n : ℕ). column answer c.args.refused (drop n (take c.args.count texts)))
+    all_read ∙ column-end answer c.args.refused texts c.args.count in
+    let all = IsSoFar-whole _ _ None _ _ _ _ _ before.so_far ended in
+    record {
+      column = record {
+        numbers = all.numbers;
+        errors = all.errors;
+        lines = all.count;
+        bytes = c.offset_at-2.ensures.offset;
+        error = all.ends;
+      };
+    }
