@@ -750,7 +750,8 @@ SPEEDATE_NODISCARD int speedate_duration_column(const char *text, size_t size, S
  *
  * The numbers, the codes in `errors`, a refused text and `goes_on` are as in the calls for lines above; at_end and
  * drops_returns do nothing, but have to be in range. progress->lines counts the texts that have a number, and
- * progress->bytes is the offset at which the last of them ends, which is the first offset if there is none.
+ * progress->bytes is the offset at which the last of them ends, which is the first offset if there is none. If a text
+ * ends the column, progress->part counts from the beginning of that text.
  *
  * A call returns SPEEDATE_VALUE_OUT_OF_RANGE if an offset is negative, less than the one before it, or over `size`. Then
  * nothing is written. */

@@ -58,27 +58,40 @@ offset-positive least size (offset ∷ offsets) (suc place) positive rise =
     offset-positive offset size offsets place next first.rise
 
 -- the offsets after a place are from the one there on
+IsOffset-suc : (least : ℤ) (size : ℕ) (offsets : List ℤ) (place : ℕ)
+    → rise_within least size offsets ≡ true → suc place < length offsets
+    → IsOffset (get_or offsets place (pos 0)) size (get_or offsets (suc place) (pos 0))
+IsOffset-suc least size [] place rise within = absurd (omega (arith, within))
+IsOffset-suc least size (offset ∷ offsets) zero rise within =
+    let first = first-is least size offset offsets rise in
+    IsOffset-at offset size offsets 0 first.rise (omega (arith, within))
+IsOffset-suc least size (offset ∷ offsets) (suc place) rise within =
+    let first = first-is least size offset offsets rise in
+    IsOffset-suc offset size offsets place first.rise (omega (arith, within))
+
 pub IsOffset-next : (least : ℤ) (size : ℕ) (offsets : List ℤ) (place : ℕ)
     → rise_within least size offsets ≡ true → place + 1 < length offsets
     → IsOffset (get_or offsets place (pos 0)) size (get_or offsets (place + 1) (pos 0))
-IsOffset-next least size [] place rise within = absurd (omega (arith, within))
-IsOffset-next least size (offset ∷ offsets) zero rise within =
-    let first = first-is least size offset offsets rise in
-    IsOffset-at offset size offsets 0 first.rise (omega (arith, within))
-IsOffset-next least size (offset ∷ offsets) (suc place) rise within =
-    let first = first-is least size offset offsets rise in
-    IsOffset-next offset size offsets place first.rise (omega (arith, within))
+IsOffset-next least size offsets place rise within =
+    rw (add-one place) (IsOffset-suc least size offsets place rise (omega (arith, within)))
 
 -- the texts from a place on begin with the one between the offsets there
+cut_at-suc : (offsets : List ℤ) (bytes : List ℕ) (place : ℕ) → suc place < length offsets
+    → drop place (cut_at offsets bytes)
+    ≡ bytes_between (get_or offsets place (pos 0)) (get_or offsets (suc place) (pos 0)) bytes
+    ∷ drop (suc place) (cut_at offsets bytes)
+cut_at-suc [] bytes place within = absurd (omega (arith, within))
+cut_at-suc (start ∷ []) bytes place within = absurd (omega (arith, within))
+cut_at-suc (start ∷ end ∷ ends) bytes zero within = refl
+cut_at-suc (start ∷ end ∷ ends) bytes (suc place) within =
+    cut_at-suc (end ∷ ends) bytes place (omega (arith, within))
+
 pub cut_at-next : (offsets : List ℤ) (bytes : List ℕ) (place : ℕ) → place + 1 < length offsets
     → drop place (cut_at offsets bytes)
     ≡ bytes_between (get_or offsets place (pos 0)) (get_or offsets (place + 1) (pos 0)) bytes
     ∷ drop (place + 1) (cut_at offsets bytes)
-cut_at-next [] bytes place within = absurd (omega (arith, within))
-cut_at-next (start ∷ []) bytes place within = absurd (omega (arith, within))
-cut_at-next (start ∷ end ∷ ends) bytes zero within = refl
-cut_at-next (start ∷ end ∷ ends) bytes (suc place) within =
-    cut_at-next (end ∷ ends) bytes place (omega (arith, within))
+cut_at-next offsets bytes place within =
+    rw (add-one place) (cut_at-suc offsets bytes place (omega (arith, within)))
 
 pub length-cut_at : (offsets : List ℤ) (bytes : List ℕ)
     → length (cut_at offsets bytes) ≡ length offsets - 1
@@ -88,16 +101,22 @@ length-cut_at (start ∷ end ∷ ends) bytes =
     ap suc (length-cut_at (end ∷ ends) bytes) ∙ omega arith
 
 -- the same with only some of the texts
+taken-suc : {X : Type 0} → (texts : List X) (place count : ℕ) (text : X) → place < count
+    → drop place texts ≡ text ∷ drop (suc place) texts
+    → drop place (take count texts) ≡ text ∷ drop (suc place) (take count texts)
+taken-suc texts place zero text within next = absurd (omega (arith, within))
+taken-suc [] zero (suc count) text within next = cc
+taken-suc [] (suc place) (suc count) text within next = cc
+taken-suc {X = X} (one ∷ ones) zero (suc count) text within next =
+    let same : one ≡ text = cc in ap (λ (first : X). first ∷ take count ones) same
+taken-suc (one ∷ ones) (suc place) (suc count) text within next =
+    taken-suc ones place count text (omega (arith, within)) next
+
 pub taken-next : {X : Type 0} → (texts : List X) (place count : ℕ) (text : X) → place < count
     → drop place texts ≡ text ∷ drop (place + 1) texts
     → drop place (take count texts) ≡ text ∷ drop (place + 1) (take count texts)
-taken-next texts place zero text within next = absurd (omega (arith, within))
-taken-next [] zero (suc count) text within next = cc
-taken-next [] (suc place) (suc count) text within next = cc
-taken-next {X = X} (one ∷ ones) zero (suc count) text within next =
-    let same : one ≡ text = cc in ap (λ (first : X). first ∷ take count ones) same
-taken-next (one ∷ ones) (suc place) (suc count) text within next =
-    taken-next ones place count text (omega (arith, within)) next
+taken-next texts place count text within next =
+    rw (add-one place) (taken-suc texts place count text within (rw (add-one place) at next))
 
 -- none is left after all
 pub taken-none : {X : Type 0} → (texts : List X) (count : ℕ) → drop count (take count texts) ≡ []

@@ -7,6 +7,8 @@ mod calendar;
 #[cfg(test)]
 mod choices;
 #[cfg(test)]
+mod column_texts;
+#[cfg(test)]
 mod columns;
 #[cfg(test)]
 mod date_times;

@@ -2,10 +2,11 @@
 
 ghost use Rattle.std.specs.Prelude.{◌≡◌, ◌+◌, ◌-◌, ◌<◌, ◌≤◌, ◌≤ℤ◌, ◌∷◌, IfSome, IsSome, IsTrue};
 ghost use Rattle.std.specs.Prelude.{MatchOption, None, drop, get_or, length, pos, take};
+ghost use Rattle.speedate.specs.Column.{line_part};
 ghost use Rattle.speedate.specs.Texts.{IsTextColumn, cut_at, rise_within, text_room, texts_of};
 
 use super::read::{entry, put};
-use super::{LineReader, Progress};
+use super::{LineError, LineReader, Progress};
 
 /// Reads texts as numbers, in order, as many as there is room for, and returns how far it came: the
 /// days 1 and 2, 2 lines and 20 bytes, for `b"1970-01-021970-01-03"`, the offsets 0, 10 and 20, and
@@ -15,7 +16,7 @@ use super::{LineReader, Progress};
 /// one offset more than texts. The bytes outside the texts are not read.
 ///
 /// If `refused` is a number, a refused text gets it, and the column goes on; otherwise it ends the
-/// column, and the progress has its error. If `errors` is not empty, the number of the error of each text
+/// column, and the progress has its error, with the part of the text that it is about. If `errors` is not empty, the number of the error of each text
 /// is written too, by [`LineError::number`](crate::LineError::number), or 0 for none, and as many texts
 /// are read as both slices have room for. The other places of both stay as they are.
 ///
@@ -34,7 +35,8 @@ pub fn read_texts<R: LineReader>(
 ) -> Option<Progress>
     ensures texts { MatchOption (texts_of offsets.now bytes.now)
         ((result ≡ None) × (out.new ≡ out.old) × (errors.new ≡ errors.old))
-        (λ texts. IsSome result × IfSome result (IsTextColumn (R.answer reader.now) refused
+        (λ texts. IsSome result × IfSome result (IsTextColumn (R.answer reader.now)
+        (R.place reader.now) refused
         (take (text_room (length out.old) (length errors.old)) texts)
         offsets.now out.old out.new errors.old errors.new)) }
 {
@@ -89,7 +91,7 @@ fn fill_with_texts<R: LineReader>(
     requires rise { IsTrue (rise_within (pos 0) (length bytes.now) offsets.now) }
     requires room { count ≤ length out.old }
     requires texts { count ≤ length offsets.now - 1 }
-    ensures column { IsTextColumn (R.answer reader.now) refused
+    ensures column { IsTextColumn (R.answer reader.now) (R.place reader.now) refused
         (take count (cut_at offsets.now bytes.now)) offsets.now out.old out.new errors.old
         errors.new result }
 {
@@ -98,11 +100,16 @@ fn fill_with_texts<R: LineReader>(
         let text = text_at(bytes, offsets, lines);
         let (number, code) = match entry(reader.number(text), refused) {
             Ok(entry) => entry,
-            Err(error) => return Progress {
-                lines,
-                bytes: offset_at(offsets, lines),
-                error: Some(error),
-            },
+            Err(error) => {
+                let (place, end) = text_part(text, reader, error);
+                return Progress {
+                    lines,
+                    bytes: offset_at(offsets, lines),
+                    error: Some(error),
+                    place,
+                    end,
+                };
+            }
         };
         out[lines] = number;
         put(errors, lines, code);
@@ -112,7 +119,20 @@ fn fill_with_texts<R: LineReader>(
         lines,
         bytes: offset_at(offsets, lines),
         error: None,
+        place: 0,
+        end: 0,
     }
+}
+
+/// The part of a text for which it is refused with an error. It is not inlined, so that a reader's loop does
+/// not have the parser of places in it.
+#[cold]
+#[inline(never)]
+fn text_part<R: LineReader>(text: &[u8], reader: &R, error: LineError) -> (usize, usize)
+    ensures part { result ≡ line_part (R.place reader.now) error text.now }
+{
+    let place = reader.error_place(text);
+    (place, error.part_end(text, place))
 }
 
 /// The text at a place.

@@ -8,32 +8,37 @@ ghost use Rattle.speedate_c.specs.Column.{chosen_for_durations, chosen_for_times
 ghost use Rattle.speedate_c.specs.Texts.{IsTextsCall};
 
 use super::duration::duration_reader;
-use super::{ColumnChoices, SpeedateColumnConfig, SpeedateProgress};
+use super::{ColumnChoices, SpeedateColumnConfig, SpeedateProgress, ended_part};
 use crate::code::{SUCCESS, VALUE_OUT_OF_RANGE};
 use crate::config::SpeedateConfig;
-use speedate::{LineReader, TimeReader, read_texts};
+use speedate::{CallKind, LineReader, TimeReader, read_texts};
 
 /// Reads a column of texts, and writes how far it has come, and the number of each text's error too if there
-/// is a place for one, and gives the code. A refused text has the number `refused_number`.
+/// is a place for one, and gives the code. A refused text has the number `refused_number`, and the parser is
+/// of a kind.
 #[inline(always)]
 fn write_texts<R: LineReader>(
     bytes: &[u8],
     offsets: &[i32],
     choices: &ColumnChoices,
     reader: &R,
+    kind: CallKind,
     refused_number: R::Number,
     out: &mut [R::Number],
     errors: &mut [u8],
     progress: &mut SpeedateProgress,
 ) -> i32
-    ensures texts { IsTextsCall (R.answer reader.now) choices.now refused_number bytes.now
-        offsets.now out.old out.new errors.old errors.new progress.old progress.new result }
+    ensures texts { IsTextsCall
+        (record { answer = R.answer reader.now; place = R.place reader.now; kind = kind })
+        choices.now refused_number bytes.now offsets.now out.old out.new errors.old errors.new
+        progress.old progress.new result }
 {
     let goes_on = choices.goes_on || !errors.is_empty();
     let refused = goes_on.then_some(refused_number);
     match read_texts(bytes, offsets, reader, refused, out, errors) {
         Some(read) => {
-            *progress = SpeedateProgress::from_progress(read);
+            let part = ended_part(&read, kind);
+            *progress = SpeedateProgress::from_progress(read, part);
             SUCCESS
         }
         None => VALUE_OUT_OF_RANGE,
@@ -63,8 +68,9 @@ pub extern "C" fn speedate_date_texts(
     let config = config_or_return!(config.to_date_config());
     let choices = config_or_return!(column.to_choices());
     let reader = config_or_return!(choices.date_reader(config));
+    let kind = choices.parser.date_kind();
     write_texts(
-        bytes, offsets, &choices, &reader, i32::MIN, out, errors, progress,
+        bytes, offsets, &choices, &reader, kind, i32::MIN, out, errors, progress,
     )
 }
 
@@ -75,7 +81,7 @@ pub extern "C" fn speedate_date_texts(
 /// `CONFIG_OUT_OF_RANGE` if a number of either configuration is out of range, and `VALUE_OUT_OF_RANGE` if
 /// an offset is negative, less than the one before it, or beyond the bytes; then nothing is changed. A
 /// refused text is not a failure of the call: if it ends the column, the progress has the code of
-/// its error. `at_end` and `drops_returns` do nothing.
+/// its error, and the part of the text that the error is about. `at_end` and `drops_returns` do nothing.
 #[unsafe(no_mangle)]
 pub extern "C" fn speedate_datetime_texts(
     bytes: &[u8],
@@ -95,8 +101,9 @@ pub extern "C" fn speedate_datetime_texts(
     let config = config_or_return!(config.to_config());
     let choices = config_or_return!(column.to_choices());
     let reader = choices.date_time_reader(&config);
+    let kind = choices.parser.date_time_kind();
     write_texts(
-        bytes, offsets, &choices, &reader, i64::MIN, out, errors, progress,
+        bytes, offsets, &choices, &reader, kind, i64::MIN, out, errors, progress,
     )
 }
 
@@ -124,8 +131,9 @@ pub extern "C" fn speedate_time_texts(
     let choices = config_or_return!(column.to_choices());
     let parser = config_or_return!(choices.time_parser(&config));
     let reader = TimeReader { parser };
+    let kind = choices.parser.time_kind();
     write_texts(
-        bytes, offsets, &choices, &reader, i64::MIN, out, errors, progress,
+        bytes, offsets, &choices, &reader, kind, i64::MIN, out, errors, progress,
     )
 }
 
@@ -153,6 +161,6 @@ pub extern "C" fn speedate_duration_texts(
     let choices = config_or_return!(column.to_choices());
     let reader = duration_reader(&config);
     write_texts(
-        bytes, offsets, &choices, &reader, i64::MIN, out, errors, progress,
+        bytes, offsets, &choices, &reader, CallKind::Duration, i64::MIN, out, errors, progress,
     )
 }

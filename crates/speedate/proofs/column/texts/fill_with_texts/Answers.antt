@@ -1,8 +1,8 @@
 use Rattle.std.proofs.Common.{◌+◌, ◌-◌, ◌<◌, ◌≡◌, ◌≤ℤ◌, ◌∙◌, ap, ℕ, List, drop, get_or, length, pos, set, take, None, Some, Ok, Err, arith, refl, sym}
 use Rattle.std.proofs.lemmas.Int.{ints}
 use Rattle.std.proofs.lemmas.List.{length-set}
-use Rattle.speedate.specs.Column.{column, entry}
-use Rattle.speedate.specs.Texts.{cut_at}
+use Rattle.speedate.specs.Column.{column, ended_part, entry}
+use Rattle.speedate.specs.Texts.{as_it_is, cut_at}
 use Rattle.speedate.proofs.ColumnLemmas.{IsSoFar-more, IsSoFar-none, IsSoFar-whole}
 use Rattle.speedate.proofs.TextsLemmas.{column-end, column-next, offset-positive, taken-next}
 use Rattle.speedate.proofs.column.texts.fill_with_texts.Goals as goal
@@ -39,14 +39,18 @@ loop-lines-preserved g c =
 pub offset_at-requires : goal.offset_at-requires
 offset_at-requires g c =
     let none : pos 0 ≤ℤ pos 0 = omega (arith, ints) in
-    offset-positive (pos 0) (length c.args.bytes.now) c.args.offsets.now c.loop-lines.lines none
-    c.requires.rise
+    record {
+      positive = offset-positive (pos 0) (length c.args.bytes.now) c.args.offsets.now
+          c.loop-lines.lines none c.requires.rise;
+    }
 
 pub offset_at-requires-2 : goal.offset_at-requires-2
 offset_at-requires-2 g c =
     let none : pos 0 ≤ℤ pos 0 = omega (arith, ints) in
-    offset-positive (pos 0) (length c.args.bytes.now) c.args.offsets.now c.loop-lines.lines none
-    c.requires.rise
+    record {
+      positive = offset-positive (pos 0) (length c.args.bytes.now) c.args.offsets.now
+          c.loop-lines.lines none c.requires.rise;
+    }
 
 pub returns-in-Err : goal.returns-in-Err
 returns-in-Err g c =
@@ -67,6 +71,9 @@ returns-in-Err g c =
         lines = all.count;
         bytes = c.offset_at.ensures.offset;
         error = all.ends;
+        part = c.text_part.ensures.part
+            ∙ ap (ended_part (g.R.LineReader.place c.args.reader.now) as_it_is
+            (Some c.in-Err.error)) (sym next);
       };
     }
 
@@ -87,5 +94,6 @@ returns g c =
         lines = all.count;
         bytes = c.offset_at-2.ensures.offset;
         error = all.ends;
+        part = refl;
       };
     }

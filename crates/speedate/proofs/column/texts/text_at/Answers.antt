@@ -7,14 +7,18 @@ use Rattle.speedate.proofs.column.texts.text_at.Goals as goal
 pub offset_at-start-requires : goal.offset_at-start-requires
 offset_at-start-requires c =
     let none : pos 0 ≤ℤ pos 0 = omega (arith, ints) in
-    offset-positive (pos 0) (length c.args.bytes.now) c.args.offsets.now c.args.place none
-    c.requires.rise
+    record {
+      positive = offset-positive (pos 0) (length c.args.bytes.now) c.args.offsets.now c.args.place
+          none c.requires.rise;
+    }
 
 pub offset_at-end-requires : goal.offset_at-end-requires
 offset_at-end-requires c =
     let none : pos 0 ≤ℤ pos 0 = omega (arith, ints) in
-    offset-positive (pos 0) (length c.args.bytes.now) c.args.offsets.now (c.args.place + 1) none
-    c.requires.rise
+    record {
+      positive = offset-positive (pos 0) (length c.args.bytes.now) c.args.offsets.now
+          (c.args.place + 1) none c.requires.rise;
+    }
 
 pub slice_bounds-result-count : goal.slice_bounds-result-count
 slice_bounds-result-count c =
@@ -22,8 +26,17 @@ slice_bounds-result-count c =
     c.requires.rise c.requires.within in
     omega (arith, ints, next.after, c.offset_at-start.ensures, c.offset_at-end.ensures)
 
+pub slice_bounds-result-start : goal.slice_bounds-result-start
+slice_bounds-result-start c =
+    let next = IsOffset-next (pos 0) (length c.args.bytes.now) c.args.offsets.now c.args.place
+    c.requires.rise c.requires.within in
+    omega (arith, ints, next.after, next.within, c.offset_at-start.ensures, c.offset_at-end.ensures)
+
 pub slice_bounds-result-end : goal.slice_bounds-result-end
-slice_bounds-result-end c = ?
+slice_bounds-result-end c =
+    let next = IsOffset-next (pos 0) (length c.args.bytes.now) c.args.offsets.now c.args.place
+    c.requires.rise c.requires.within in
+    omega (arith, ints, next.after, next.within, c.offset_at-start.ensures, c.offset_at-end.ensures)
 
 pub returns : goal.returns
 returns c =
