@@ -208,7 +208,7 @@ impl Row<'_> {
             }
         };
         let progress = progress.unwrap();
-        Some(self.0[5..] == written(&progress, &out, errors.as_deref()))
+        Some(is_read(&self.0[5..], &progress, &out, errors.as_deref()))
     }
 
     /// The same of a column of texts.
@@ -227,14 +227,14 @@ impl Row<'_> {
         let Some(progress) = progress.unwrap() else {
             return Some(self.0[6..] == ["value_out_of_range"]);
         };
-        Some(self.0[6..] == written(&progress, &out, errors.as_deref()))
+        Some(is_read(&self.0[6..], &progress, &out, errors.as_deref()))
     }
 
     /// Whether numbers have these lines and this progress.
     fn has_lines<P: LinePrinter<Number: FromStr<Err: Debug>>>(&self, printer: &P) -> bool {
         let numbers: Vec<P::Number> = self.0[2].split_whitespace().map(|it| it.parse().unwrap()).collect();
         let mut out = vec![b'-'; self.0[1].parse().unwrap()];
-        let Progress { lines, bytes, error } = print_column(&numbers, printer, &mut out);
+        let Progress { lines, bytes, error, .. } = print_column(&numbers, printer, &mut out);
         let (text, rest) = out.split_at(bytes);
         let error = error.map_or("ok".to_owned(), |error| error.to_string());
         let written = [text.escape_ascii().to_string(), format!("{lines} {bytes} {error}")];
@@ -302,13 +302,17 @@ impl Row<'_> {
     }
 }
 
-/// What a row tells of a column that was read.
-fn written(progress: &Progress, numbers: &[impl ToString], errors: Option<&[u8]>) -> Vec<String> {
-    let error = progress.error.as_ref().map_or("ok".to_owned(), |error| error.to_string());
-    let mut written = vec!["ok".to_owned(), joined(&numbers[..progress.lines])];
-    written.extend(errors.map(|errors| joined(&errors[..progress.lines])));
-    written.push(format!("{} {} {error}", progress.lines, progress.bytes));
-    written
+/// Whether a row has these numbers, errors and progress of a column. It also has the kind of the part, which the API has not.
+fn is_read(row: &[&str], progress: &Progress, numbers: &[impl ToString], errors: Option<&[u8]>) -> bool {
+    let Progress { lines, bytes, error, place, end } = progress;
+    let reached = match error {
+        None => format!("{lines} {bytes} ok"),
+        Some(error) => format!("{lines} {bytes} {error} {place} {end} "),
+    };
+    let mut written = vec!["ok".to_owned(), joined(&numbers[..*lines])];
+    written.extend(errors.map(|errors| joined(&errors[..*lines])));
+    let kind = row.last().and_then(|last| last.strip_prefix(&reached));
+    kind.is_some_and(|kind| kind.is_empty() == error.is_none()) && row[..row.len() - 1] == written
 }
 
 fn joined(numbers: &[impl ToString]) -> String {

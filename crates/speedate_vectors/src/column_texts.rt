@@ -1,9 +1,7 @@
 //! Columns of numbers from texts at offsets.
 
 use crate::rows::{quoted, same, value, words};
-use speedate::{
-    DateReader, DurationReader, LineError, Progress, TimeConfig, read_texts,
-};
+use speedate::{DateReader, DurationReader, LineError, Progress, TimeConfig, read_texts};
 use std::process::Abort;
 
 /// Each row of texts and their days: the offsets; the bytes; how many texts are read, the offset at which

@@ -45,9 +45,7 @@ pub fn read_texts<R: LineReader>(
     }
     let texts = offsets.len().saturating_sub(1);
     let count = text_room(out.len(), errors.len()).min(texts);
-    Some(fill_with_texts(
-        bytes, offsets, count, reader, refused, out, errors,
-    ))
+    Some(fill_with_texts(bytes, offsets, count, reader, refused, out, errors))
 }
 
 /// Whether no offset is negative, less than the one before it, or beyond so many bytes.

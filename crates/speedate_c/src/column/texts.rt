@@ -70,7 +70,15 @@ pub extern "C" fn speedate_date_texts(
     let reader = config_or_return!(choices.date_reader(config));
     let kind = choices.parser.date_kind();
     write_texts(
-        bytes, offsets, &choices, &reader, kind, i32::MIN, out, errors, progress,
+        bytes,
+        offsets,
+        &choices,
+        &reader,
+        kind,
+        i32::MIN,
+        out,
+        errors,
+        progress,
     )
 }
 
@@ -103,7 +111,15 @@ pub extern "C" fn speedate_datetime_texts(
     let reader = choices.date_time_reader(&config);
     let kind = choices.parser.date_time_kind();
     write_texts(
-        bytes, offsets, &choices, &reader, kind, i64::MIN, out, errors, progress,
+        bytes,
+        offsets,
+        &choices,
+        &reader,
+        kind,
+        i64::MIN,
+        out,
+        errors,
+        progress,
     )
 }
 
@@ -133,7 +149,15 @@ pub extern "C" fn speedate_time_texts(
     let reader = TimeReader { parser };
     let kind = choices.parser.time_kind();
     write_texts(
-        bytes, offsets, &choices, &reader, kind, i64::MIN, out, errors, progress,
+        bytes,
+        offsets,
+        &choices,
+        &reader,
+        kind,
+        i64::MIN,
+        out,
+        errors,
+        progress,
     )
 }
 
@@ -161,6 +185,14 @@ pub extern "C" fn speedate_duration_texts(
     let choices = config_or_return!(column.to_choices());
     let reader = duration_reader(&config);
     write_texts(
-        bytes, offsets, &choices, &reader, CallKind::Duration, i64::MIN, out, errors, progress,
+        bytes,
+        offsets,
+        &choices,
+        &reader,
+        CallKind::Duration,
+        i64::MIN,
+        out,
+        errors,
+        progress,
     )
 }

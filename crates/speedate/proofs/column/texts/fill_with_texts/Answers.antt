@@ -71,7 +71,7 @@ returns-in-Err g c =
         lines = all.count;
         bytes = c.offset_at.ensures.offset;
         error = all.ends;
-        part = c.text_part.ensures.part
+        part = c.text_part-place.ensures.part
             ∙ ap (ended_part (g.R.LineReader.place c.args.reader.now) as_it_is
             (Some c.in-Err.error)) (sym next);
       };
