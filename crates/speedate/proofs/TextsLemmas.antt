@@ -1,10 +1,9 @@
 -- Texts that offsets cut out of bytes, and the column of them, text by text.
-use Rattle.std.proofs.Common.{Bool, true, false, ◌&&◌, ◌≡◌, ◌∙◌, ap, sym, refl, ℕ, zero, suc, ◌+◌, ◌-◌, ◌<◌, ◌≤◌, List, [], ◌∷◌, length, get_or, take, drop, add-one, ℤ, pos, ◌≤ℤ◌, int_le, arith, Option, Some, None, Result, Ok, Err}
+use Rattle.std.proofs.Common.{Bool, true, ◌&&◌, ◌≡◌, ◌∙◌, ap, sym, refl, ℕ, zero, suc, ◌+◌, ◌-◌, ◌<◌, List, [], ◌∷◌, length, get_or, take, drop, add-one, ℤ, pos, ◌≤ℤ◌, int_le, arith, Option, None, Result}
 use Rattle.std.proofs.lemmas.Bool.{and_parts}
 use Rattle.std.proofs.lemmas.Bool.Decides.{nat_tests}
 use Rattle.std.proofs.lemmas.Int.{ints}
-use Rattle.std.proofs.lemmas.List.{length-take}
-use Rattle.speedate.specs.Column.{Column, LineError, column, entry, onto_column}
+use Rattle.speedate.specs.Column.{LineError, column, entry, onto_column}
 use Rattle.speedate.specs.Texts.{bytes_between, cut_at, rise_within}
 
 at-most : (least most : ℤ) → int_le least most ≡ true → least ≤ℤ most

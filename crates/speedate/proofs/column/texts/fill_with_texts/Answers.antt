@@ -1,4 +1,4 @@
-use Rattle.std.proofs.Common.{◌+◌, ◌-◌, ◌<◌, ◌≡◌, ◌≤ℤ◌, ◌∙◌, ap, ℕ, List, drop, get_or, length, pos, set, take, None, Some, Ok, Err, arith, refl, sym}
+use Rattle.std.proofs.Common.{◌<◌, ◌≡◌, ◌≤ℤ◌, ◌∙◌, ap, ℕ, List, drop, length, pos, take, None, Some, Ok, Err, arith, refl, sym}
 use Rattle.std.proofs.lemmas.Int.{ints}
 use Rattle.std.proofs.lemmas.List.{length-set}
 use Rattle.speedate.specs.Column.{column, ended_part, entry}

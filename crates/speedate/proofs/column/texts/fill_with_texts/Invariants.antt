@@ -1,4 +1,4 @@
-use Rattle.std.proofs.Common.{◌+◌, ◌-◌, ◌≤◌, ℕ, List, drop, length, take}
+use Rattle.std.proofs.Common.{◌-◌, ◌≤◌, ℕ, List, drop, length, take}
 use Rattle.speedate.specs.Column.{column}
 use Rattle.speedate.specs.Texts.{cut_at}
 use Rattle.speedate.proofs.ColumnLemmas.{IsSoFar}

@@ -1,4 +1,4 @@
-use Rattle.std.proofs.Common.{◌+◌, ◌<◌, ◌≤◌, ◌≤ℤ◌, ◌∙◌, ◌∷◌, ap, arith, drop, get_or, length, pos, sym, List, ℕ, ℤ}
+use Rattle.std.proofs.Common.{◌+◌, ◌≤ℤ◌, ◌∙◌, ◌∷◌, ap, arith, drop, get_or, length, pos, sym, List, ℕ, ℤ}
 use Rattle.std.proofs.lemmas.Int.{ints}
 use Rattle.speedate.specs.Texts.{bytes_between, cut_at}
 use Rattle.speedate.proofs.TextsLemmas.{IsOffset-next, cut_at-next, offset-positive}
