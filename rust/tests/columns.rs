@@ -3,10 +3,10 @@
 use std::fmt::Debug;
 
 use speedate::{
-    read_column, read_column_with_errors, Date, DateConfig, DateReader, DateTime, DateTimeClockReader, DateTimeConfig,
-    DateTimeOffsetReader, DateTimeParser, DateTimeReader, Duration, DurationReader, LineConfig, LineError, LineReader,
-    MicrosecondsPrecisionOverflowBehavior, ParseError, Progress, Refused, Time, TimeConfig, TimeOffsetReader,
-    TimeParser, TimeReader, TimestampUnit,
+    read_column, read_column_with_errors, read_texts, read_texts_with_errors, Date, DateConfig, DateReader, DateTime,
+    DateTimeClockReader, DateTimeConfig, DateTimeOffsetReader, DateTimeParser, DateTimeReader, Duration,
+    DurationReader, LineConfig, LineError, LineReader, MicrosecondsPrecisionOverflowBehavior, ParseError, Progress,
+    Refused, TextReader, Time, TimeConfig, TimeOffsetReader, TimeParser, TimeReader, TimestampUnit,
 };
 
 const TEXTS: usize = 120_000;
@@ -33,13 +33,15 @@ fn dates() {
             true => DateReader::Text,
             false => DateReader::OrTimestamp(DateConfig { timestamp_unit: draws.unit() }),
         };
-        draws.compare(&lines, &reader, i32::MIN, |line| {
+        let answer = |line: &[u8]| {
             let date = match &reader {
                 DateReader::Text => Date::parse_or_place_rfc3339(line),
                 DateReader::OrTimestamp(config) => Date::parse_or_place(line, config),
             };
             Ok(date.map_err(parse_refusal)?.days_since(&epoch))
-        });
+        };
+        draws.compare(&lines, &reader, i32::MIN, answer);
+        draws.compare_texts(&lines, &reader, i32::MIN, answer);
     }
 }
 
@@ -69,13 +71,15 @@ fn date_times() {
     for seed in 1..=TEXTS {
         let mut draws = Draws::new(seed);
         let reader = DateTimeReader { parser: draws.parser(), assumes_utc: draws.flag() };
-        draws.compare(&DATE_TIMES, &reader, i64::MIN, |line| {
+        let answer = |line: &[u8]| {
             let value = date_time(line, &reader.parser)?;
             if value.time.tz_offset.is_none() && !reader.assumes_utc {
                 return Err(without_offset(line));
             }
             Ok(value.timestamp_tz_us())
-        });
+        };
+        draws.compare(&DATE_TIMES, &reader, i64::MIN, answer);
+        draws.compare_texts(&DATE_TIMES, &reader, i64::MIN, answer);
     }
 }
 
@@ -120,10 +124,12 @@ fn times() {
     for seed in 1..=TEXTS {
         let mut draws = Draws::new(seed);
         let reader = TimeReader { parser: draws.time_parser() };
-        draws.compare(&TIMES, &reader, i64::MIN, |line| {
+        let answer = |line: &[u8]| {
             let time = time(line, &reader.parser)?;
             Ok(i64::from(time.total_seconds()) * 1_000_000 + i64::from(time.microsecond))
-        });
+        };
+        draws.compare(&TIMES, &reader, i64::MIN, answer);
+        draws.compare_texts(&TIMES, &reader, i64::MIN, answer);
     }
 }
 
@@ -153,13 +159,15 @@ fn durations() {
     for seed in 1..=TEXTS {
         let mut draws = Draws::new(seed);
         let reader = DurationReader { config: draws.time_config() };
-        draws.compare(&lines, &reader, i64::MIN, |line| {
+        let answer = |line: &[u8]| {
             let duration = Duration::parse_or_place(line, &reader.config).map_err(parse_refusal)?;
             let seconds = i128::from(duration.signed_total_seconds());
             let amount = seconds * 1_000_000 + i128::from(duration.signed_microseconds());
             let number = i64::try_from(amount).ok().filter(|amount| *amount != i64::MIN);
             number.ok_or((LineError::NumberTooLarge, 0, line.len()))
-        });
+        };
+        draws.compare(&lines, &reader, i64::MIN, answer);
+        draws.compare_texts(&lines, &reader, i64::MIN, answer);
     }
 }
 
@@ -219,16 +227,21 @@ impl Draws {
         }
     }
 
+    /// A line, which may have another byte at a place.
+    fn line(&mut self, lines: &[&str]) -> Vec<u8> {
+        let mut line = self.one_of(lines).as_bytes().to_vec();
+        if self.below(4) == 0 && !line.is_empty() {
+            let place = self.below(line.len());
+            line[place] = self.one_of(b"0159-+:.,TZPDS \r\n\0\xE2");
+        }
+        line
+    }
+
     /// A text of a few lines, of which some have another byte at a place.
     fn text(&mut self, lines: &[&str]) -> Vec<u8> {
         let mut text = Vec::new();
         for _ in 0..self.below(6) {
-            let mut line = self.one_of(lines).as_bytes().to_vec();
-            if self.below(4) == 0 && !line.is_empty() {
-                let place = self.below(line.len());
-                line[place] = self.one_of(b"0159-+:.,TZPDS \r\n\0\xE2");
-            }
-            text.extend(line);
+            text.extend(self.line(lines));
             text.extend(self.one_of(&["\n", "\n", "\n", "\r\n", "\r\n", "\r", "\r\r\n", ""]).bytes());
         }
         text
@@ -278,6 +291,71 @@ impl Draws {
         let (mut out, mut errors) = (vec![kept; room], vec![77; error_room]);
         let progress = read_column_with_errors(&text, config, reader, &mut out, &mut errors);
         assert_eq!((progress, out, errors), (Ok(wanted), numbers, codes), "{about}");
+    }
+
+    /// Bytes, and offsets in them of a few texts that are lines, of which one may be wrong.
+    fn texts(&mut self, lines: &[&str]) -> (Vec<u8>, Vec<i32>) {
+        let (mut bytes, mut offsets) = (self.line(lines), vec![]);
+        for _ in 0..self.below(6) {
+            offsets.push(bytes.len() as i32);
+            bytes.extend(self.line(lines));
+        }
+        if self.below(4) == 0 && !offsets.is_empty() {
+            let place = self.below(offsets.len());
+            offsets[place] = self.one_of(&[-1, 0, bytes.len() as i32, bytes.len() as i32 + 1, i32::MIN, i32::MAX]);
+        }
+        (bytes, offsets)
+    }
+
+    /// The same of the columns of drawn texts at offsets.
+    fn compare_texts<R: TextReader<Number: From<u8> + PartialEq + Debug> + Debug>(
+        &mut self,
+        lines: &[&str],
+        reader: &R,
+        least: R::Number,
+        answer: impl Fn(&[u8]) -> Result<R::Number, Refusal>,
+    ) {
+        let (bytes, offsets) = self.texts(lines);
+        let about = format!("{:?}, {offsets:?}, {reader:?}", String::from_utf8_lossy(&bytes));
+        let kept = R::Number::from(77);
+        let (room, error_room) = (self.below(6), self.below(6));
+        let (mut out, mut errors) = (vec![kept; room], vec![77; error_room]);
+        if !offsets.is_sorted() || offsets.iter().any(|&it| it < 0 || it as usize > bytes.len()) {
+            assert_eq!(read_texts(&bytes, &offsets, reader, &mut out), Ok(None), "{about}");
+            assert_eq!(read_texts_with_errors(&bytes, &offsets, reader, &mut out, &mut errors), Ok(None), "{about}");
+            assert_eq!((out, errors), (vec![kept; room], vec![77; error_room]), "{about}");
+            return;
+        }
+        let texts = || offsets.windows(2).map(|it| &bytes[it[0] as usize..it[1] as usize]).take(room);
+
+        let first = offsets.first().map_or(0, |&it| it as usize);
+        let none = Progress { lines: 0, bytes: first, error: None, place: 0, end: 0 };
+        let mut wanted = none.clone();
+        let mut numbers = vec![kept; room];
+        for text in texts() {
+            match answer(text) {
+                Ok(number) => numbers[wanted.lines] = number,
+                Err((error, place, end)) => {
+                    wanted = Progress { error: Some(error), place, end, ..wanted };
+                    break;
+                }
+            }
+            wanted = Progress { lines: wanted.lines + 1, bytes: wanted.bytes + text.len(), ..wanted };
+        }
+        assert_eq!(read_texts(&bytes, &offsets, reader, &mut out), Ok(Some(wanted)), "{about}");
+        assert_eq!(out, numbers, "{about}");
+
+        let mut wanted = none;
+        let (mut numbers, mut codes) = (vec![kept; room], vec![77; error_room]);
+        for text in texts().take(error_room) {
+            let answer = answer(text);
+            codes[wanted.lines] = answer.as_ref().map_or_else(|refusal| refusal.0.number(), |_| 0);
+            numbers[wanted.lines] = answer.unwrap_or(least);
+            wanted = Progress { lines: wanted.lines + 1, bytes: wanted.bytes + text.len(), ..wanted };
+        }
+        out = vec![kept; room];
+        let progress = read_texts_with_errors(&bytes, &offsets, reader, &mut out, &mut errors);
+        assert_eq!((progress, out, errors), (Ok(Some(wanted)), numbers, codes), "{about}");
     }
 }
 

@@ -125,13 +125,16 @@ taken-none (one ∷ ones) (suc count) = taken-none ones count
 
 -- what is held of a text is put before the column of those after it
 pub column-next : {N : Type 0} → (answer : List ℕ → Result N LineError) (refused : Option N)
-    (texts : List (List ℕ)) (place : ℕ) (text : List ℕ) (held : Result (N × ℕ) LineError)
-    → drop place texts ≡ text ∷ drop (place + 1) texts → held ≡ entry refused (answer text)
+    (texts : List (List ℕ)) (place : ℕ) (text : List ℕ) (given : Result N LineError)
+    (held : Result (N × ℕ) LineError)
+    → drop place texts ≡ text ∷ drop (place + 1) texts → given ≡ answer text
+    → held ≡ entry refused given
     → column answer refused (drop place texts)
     ≡ onto_column held (column answer refused (drop (place + 1) texts))
-column-next {N = N} answer refused texts place text held next is =
+column-next {N = N} answer refused texts place text given held next answered is =
     let rest = column answer refused (drop (place + 1) texts) in
     ap (column answer refused) next
+    ∙ ap (λ (given : Result N LineError). onto_column (entry refused given) rest) (sym answered)
     ∙ ap (λ (held : Result (N × ℕ) LineError). onto_column held rest) (sym is)
 
 pub column-end : {N : Type 0} → (answer : List ℕ → Result N LineError) (refused : Option N)

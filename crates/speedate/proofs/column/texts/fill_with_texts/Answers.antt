@@ -1,7 +1,7 @@
 use Rattle.std.proofs.Common.{◌<◌, ◌≡◌, ◌≤ℤ◌, ◌∙◌, ap, ℕ, List, drop, length, pos, take, None, Some, Ok, Err, arith, refl, sym}
 use Rattle.std.proofs.lemmas.Int.{ints}
 use Rattle.std.proofs.lemmas.List.{length-set}
-use Rattle.speedate.specs.Column.{column, ended_part, entry}
+use Rattle.speedate.specs.Column.{column, ended_part}
 use Rattle.speedate.specs.Texts.{as_it_is, cut_at}
 use Rattle.speedate.proofs.ColumnLemmas.{IsSoFar-more, IsSoFar-none, IsSoFar-whole}
 use Rattle.speedate.proofs.TextsLemmas.{column-end, column-next, offset-positive, taken-next}
@@ -27,8 +27,8 @@ loop-lines-preserved g c =
     let next = taken-next texts lines c.args.count c.text_at-text.result.now inside
     c.text_at-text.ensures.text in
     let is = column-next (g.R.LineReader.answer c.args.reader.now) c.args.refused
-    (take c.args.count texts) lines c.text_at-text.result.now (Ok c.in-Ok.entry) next
-    (c.in-Ok.ensures.entry ∙ ap (entry c.args.refused) c.number.ensures.answer) in
+    (take c.args.count texts) lines c.text_at-text.result.now c.number.result (Ok c.in-Ok.entry)
+    next c.number.ensures.answer c.in-Ok.ensures.entry in
     record {
       read = omega (arith, inside);
       room = omega (arith, before.room, length-set c.loop-lines.out lines c.in-Ok.entry.0);
@@ -61,8 +61,8 @@ returns-in-Err g c =
     let next = taken-next texts lines c.args.count c.text_at-text.result.now inside
     c.text_at-text.ensures.text in
     let ended = column-next (g.R.LineReader.answer c.args.reader.now) c.args.refused
-    (take c.args.count texts) lines c.text_at-text.result.now (Err c.in-Err.error) next
-    (c.in-Err.ensures.entry ∙ ap (entry c.args.refused) c.number.ensures.answer) in
+    (take c.args.count texts) lines c.text_at-text.result.now c.number.result
+    (Err c.in-Err.error) next c.number.ensures.answer c.in-Err.ensures.entry in
     let all = IsSoFar-whole _ _ (Some c.in-Err.error) _ _ _ _ _ before.so_far ended in
     record {
       column = record {
