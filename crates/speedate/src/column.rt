@@ -78,7 +78,8 @@ impl LineError {
 pub struct Progress {
     /// How many lines have a number in the column.
     pub lines: usize,
-    /// How many bytes of the text these lines take, with their ends.
+    /// How many bytes of the text these lines take, with their ends. Of texts at offsets it is the offset at
+    /// which the last one ends.
     pub bytes: usize,
     /// The error of the next line, or of the next number, if it ends the column.
     pub error: Option<LineError>,

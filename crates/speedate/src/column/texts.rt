@@ -1,6 +1,6 @@
 //! The column of texts that offsets cut out of the same bytes.
 
-ghost use Rattle.std.specs.Prelude.{◌≡◌, ◌+◌, ◌-◌, ◌<◌, ◌≤◌, ◌≤ℤ◌, ◌∷◌, IfSome, IsSome, IsTrue};
+ghost use Rattle.std.specs.Prelude.{◌≡◌, ◌+◌, ◌-◌, ◌<◌, ◌≤◌, ◌≤ℤ◌, ◌∷◌, IsSomeAnd, IsTrue};
 ghost use Rattle.std.specs.Prelude.{MatchOption, None, drop, get_or, length, pos, take};
 ghost use Rattle.speedate.specs.Column.{line_part};
 ghost use Rattle.speedate.specs.Texts.{IsTextColumn, cut_at, rise_within, text_room, texts_of};
@@ -16,9 +16,10 @@ use super::{LineError, LineReader, Progress};
 /// one offset more than texts. The bytes outside the texts are not read.
 ///
 /// If `refused` is a number, a refused text gets it, and the column goes on; otherwise it ends the
-/// column, and the progress has its error, with the part of the text that it is about. If `errors` is not empty, the number of the error of each text
-/// is written too, by [`LineError::number`](crate::LineError::number), or 0 for none, and as many texts
-/// are read as both slices have room for. The other places of both stay as they are.
+/// column, and the progress has its error, with the part of the text that it is about. If `errors` is not
+/// empty, the number of the error of each text is written too, by
+/// [`LineError::number`](crate::LineError::number), or 0 for none, and as many texts are read as both
+/// slices have room for. The other places of both stay as they are.
 ///
 /// The progress counts the texts as `lines`, and its `bytes` is the offset at which the last of them ends.
 ///
@@ -35,9 +36,8 @@ pub fn read_texts<R: LineReader>(
 ) -> Option<Progress>
     ensures texts { MatchOption (texts_of offsets.now bytes.now)
         ((result ≡ None) × (out.new ≡ out.old) × (errors.new ≡ errors.old))
-        (λ texts. IsSome result × IfSome result (IsTextColumn (R.answer reader.now)
-        (R.place reader.now) refused
-        (take (text_room (length out.old) (length errors.old)) texts)
+        (λ texts. IsSomeAnd result (IsTextColumn (R.answer reader.now) (R.place reader.now)
+        refused (take (text_room (length out.old) (length errors.old)) texts)
         offsets.now out.old out.new errors.old errors.new)) }
 {
     if !rise_within(offsets, bytes.len()) {

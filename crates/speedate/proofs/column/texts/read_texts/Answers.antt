@@ -1,4 +1,4 @@
-use Rattle.std.proofs.Common.{rules, ◌≡◌, ◌∙◌, ap, arith, length, min, pos, refl, take, true, List, ℕ, ℤ}
+use Rattle.std.proofs.Common.{rules, ◌≡◌, ◌∙◌, ap, arith, length, min, pos, take, true, List, ℕ, ℤ}
 use Rattle.std.proofs.lemmas.List.{take_min}
 use Rattle.speedate.specs.Texts.{cut_at, rise_within, text_room}
 use Rattle.speedate.proofs.TextsLemmas.{length-cut_at}
@@ -22,4 +22,4 @@ returns g c =
     let same : take c.min-count.result texts ≡ take room texts =
     ap (λ (count : ℕ). take count texts) count ∙ take_min room texts in
     let column = rw same at c.fill_with_texts.ensures.column in
-    record { texts = rw rise (refl, column) }
+    record { texts = rw rise column }
