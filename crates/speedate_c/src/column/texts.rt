@@ -22,7 +22,7 @@ use speedate::{CallKind, DateTimeConfig, LineReader, TimeReader, read_texts};
 fn write_texts<R: LineReader>(
     bytes: &[u8],
     offsets: &[i32],
-    choices: &ColumnChoices,
+    column: &ColumnChoices,
     reader: &R,
     kind: CallKind,
     refused_number: R::Number,
@@ -32,10 +32,10 @@ fn write_texts<R: LineReader>(
 ) -> i32
     ensures texts { IsTextsCall
         (record { answer = R.answer reader.now; place = R.place reader.now; kind = kind })
-        choices.now refused_number bytes.now offsets.now out.old out.new errors.old errors.new
+        column.now refused_number bytes.now offsets.now out.old out.new errors.old errors.new
         progress.old progress.new result }
 {
-    let goes_on = choices.goes_on || !errors.is_empty();
+    let goes_on = column.goes_on || !errors.is_empty();
     let refused = goes_on.then_some(refused_number);
     match read_texts(bytes, offsets, reader, refused, out, errors) {
         Some(read) => {
