@@ -18,12 +18,12 @@ returns c =
     record {
       texts =
           IsTextsCall-same
-              (date_time_call (date_time_number_by chosen column) chosen column.parser)
-              (date_time_number reader) (date_time_place reader.parser)
-              c.date_time_kind-kind.result column least_of_64_bits c.args.bytes.now
-              c.args.offsets.now c.args.out.now c.write_texts.new.out c.args.errors.now
-              c.write_texts.new.errors c.args.progress.now c.write_texts.new.progress
-              c.write_texts.result (to_z w32 (of_z w32 c.write_texts.result))
-              c.date_time_reader-reader.ensures.reads c.date_time_reader-reader.ensures.places
-              c.date_time_kind-kind.ensures.kind code c.write_texts.ensures.texts;
+          (date_time_call (date_time_number_by chosen column) chosen column.parser)
+          (date_time_number reader) (date_time_place reader.parser)
+          c.date_time_kind-kind.result column least_of_64_bits c.args.bytes.now
+          c.args.offsets.now c.args.out.now c.write_texts.new.out c.args.errors.now
+          c.write_texts.new.errors c.args.progress.now c.write_texts.new.progress
+          c.write_texts.result (to_z w32 (of_z w32 c.write_texts.result))
+          c.date_time_reader-reader.ensures.reads c.date_time_reader-reader.ensures.places
+          c.date_time_kind-kind.ensures.kind code c.write_texts.ensures.texts;
     }
