@@ -2,16 +2,18 @@
 
 ghost use Rattle.std.specs.Prelude.{◌≡◌, MatchOption};
 ghost use Rattle.speedate.specs.ColumnText.{least_of_32_bits, least_of_64_bits};
+ghost use Rattle.speedate.specs.Config.{choices};
 ghost use Rattle.speedate_c.specs.Code.{config_out_of_range};
 ghost use Rattle.speedate_c.specs.Column.{chosen_for_date_times, chosen_for_dates};
 ghost use Rattle.speedate_c.specs.Column.{chosen_for_durations, chosen_for_times};
+ghost use Rattle.speedate_c.specs.Column.{date_time_call, date_time_number_by};
 ghost use Rattle.speedate_c.specs.Texts.{IsTextsCall};
 
 use super::duration::duration_reader;
 use super::{ColumnChoices, SpeedateColumnConfig, SpeedateProgress, ended_part};
 use crate::code::{SUCCESS, VALUE_OUT_OF_RANGE};
 use crate::config::SpeedateConfig;
-use speedate::{CallKind, LineReader, TimeReader, read_texts};
+use speedate::{CallKind, DateTimeConfig, LineReader, TimeReader, read_texts};
 
 /// Reads a column of texts, and writes how far it has come, and the number of each text's error too if there
 /// is a place for one, and gives the code. A refused text has the number `refused_number`, and the parser is
@@ -20,7 +22,7 @@ use speedate::{CallKind, LineReader, TimeReader, read_texts};
 fn write_texts<R: LineReader>(
     bytes: &[u8],
     offsets: &[i32],
-    choices: &ColumnChoices,
+    column: &ColumnChoices,
     reader: &R,
     kind: CallKind,
     refused_number: R::Number,
@@ -30,10 +32,10 @@ fn write_texts<R: LineReader>(
 ) -> i32
     ensures texts { IsTextsCall
         (record { answer = R.answer reader.now; place = R.place reader.now; kind = kind })
-        choices.now refused_number bytes.now offsets.now out.old out.new errors.old errors.new
+        column.now refused_number bytes.now offsets.now out.old out.new errors.old errors.new
         progress.old progress.new result }
 {
-    let goes_on = choices.goes_on || !errors.is_empty();
+    let goes_on = column.goes_on || !errors.is_empty();
     let refused = goes_on.then_some(refused_number);
     match read_texts(bytes, offsets, reader, refused, out, errors) {
         Some(read) => {
@@ -43,6 +45,37 @@ fn write_texts<R: LineReader>(
         }
         None => VALUE_OUT_OF_RANGE,
     }
+}
+
+/// Reads a column of date-times.
+#[inline(always)]
+fn write_instants(
+    bytes: &[u8],
+    offsets: &[i32],
+    config: &DateTimeConfig,
+    column: &ColumnChoices,
+    out: &mut [i64],
+    errors: &mut [u8],
+    progress: &mut SpeedateProgress,
+) -> i32
+    ensures texts { IsTextsCall
+        (date_time_call (date_time_number_by (choices config.now) column.now) (choices config.now)
+        column.now.parser) column.now least_of_64_bits bytes.now offsets.now out.old out.new
+        errors.old errors.new progress.old progress.new result }
+{
+    let reader = column.date_time_reader(config);
+    let kind = column.parser.date_time_kind();
+    write_texts(
+        bytes,
+        offsets,
+        column,
+        &reader,
+        kind,
+        i64::MIN,
+        out,
+        errors,
+        progress,
+    )
 }
 
 /// Reads texts as dates, and writes their days since 1970-01-01, as [`read_texts`] does by a
@@ -108,19 +141,7 @@ pub extern "C" fn speedate_datetime_texts(
 {
     let config = config_or_return!(config.to_config());
     let choices = config_or_return!(column.to_choices());
-    let reader = choices.date_time_reader(&config);
-    let kind = choices.parser.date_time_kind();
-    write_texts(
-        bytes,
-        offsets,
-        &choices,
-        &reader,
-        kind,
-        i64::MIN,
-        out,
-        errors,
-        progress,
-    )
+    write_instants(bytes, offsets, &config, &choices, out, errors, progress)
 }
 
 /// Reads texts as times, and writes the microseconds after midnight that their clocks show, whatever the
