@@ -1,12 +1,15 @@
 -- Lines in the order of the values of their entries are entries in the order of their values.
 use Rattle.std.proofs.Common.{◌≡◌, ◌∙◌, ap, sym, refl, ℤ, ℕ, Bool, true, false, List, [], ◌∷◌, ◌++◌, append_assoc, append-nil, if◌then◌else◌}
+use Rattle.speedate_cli.specs.Print.{Prefix}
 use Rattle.speedate_stream.specs.Machine.{head}
+use Rattle.speedate_cli.specs.Reading.{Bad, Found}
 use Rattle.speedate_cli.specs.Scan.{Line, Scan, is_value, keeps, line_of, passed}
-use Rattle.speedate_cli.specs.Entries.{Entry, Marked, entries, entry_and, lines_text, marked}
+use Rattle.speedate_cli.specs.Entries.{Entry, Marked, entries, entry_and, lines_text, mark, marked}
 use Rattle.speedate_cli.specs.Entries.{up_to_value}
-use Rattle.speedate_cli.specs.Sort.{AreKept, IsKept, Keyed, all_text, if_kept}
-use Rattle.speedate_cli.specs.Sort.{in_order, instant_after, is_earlier_entry}
-use Rattle.speedate_cli.specs.Sort.{keyed, no_prefix, sorted_entries, sorted_text, texts}
+use Rattle.speedate_cli.specs.Sort.{AreKept, IsKept, Keyed, Keys, all_text, file_lines, if_kept}
+use Rattle.speedate_cli.specs.Sort.{in_order, instant_after, is_earlier_entry, is_earlier_line}
+use Rattle.speedate_cli.specs.Sort.{keyed, keys_after, no_prefix, sorted_entries, sorted_text}
+use Rattle.speedate_cli.specs.Sort.{texts}
 use Rattle.speedate_cli.proofs.OrderLemmas.{AreSome, HaveKey, IsSome, blocks, blocks-first}
 
 -- the lines of an entry that are not left out

@@ -3,8 +3,10 @@ use Rattle.std.specs.Prelude.{◌≡◌, ℕ, ℤ, ◌-◌, ◌≤◌, Bool, tru
 use Rattle.std.specs.Io.KnownBytes.{Consumes}
 use Rattle.speedate_stream.specs.Machine.{head}
 use Rattle.speedate_cli.specs.Print.{Prefix}
-use Rattle.speedate_cli.specs.Scan.{Line, keeps, line_of, passed}
-use Rattle.speedate_cli.specs.Entries.{Entry, Marked, entries, lines_text, marked, up_to_value}
+use Rattle.speedate_cli.specs.Reading.{Bad, Found}
+use Rattle.speedate_cli.specs.Scan.{Line, Scan, keeps, line_of, passed}
+use Rattle.speedate_cli.specs.Entries.{Entry, Marked, entries, lines_text, mark, marked}
+use Rattle.speedate_cli.specs.Entries.{up_to_value}
 pub use Rattle.speedate_cli.specs.declared.sort.Keys.{Keys}
 pub use Rattle.speedate_cli.specs.declared.sort.Place.{Place}
 pub use Rattle.speedate_cli.specs.declared.sort.Unread.{Unread}

@@ -3,5 +3,6 @@ use Rattle.speedate_c.proofs.column.date_time.write_clocks.Goals as goal
 
 pub returns-clause-column : goal.returns-clause-column
 returns-clause-column c =
-    IsColumn-same _ _ _ _ _ _ _ _ _ _ _ _ c.date_time_parser-parser.ensures.clocks c.date_time_parser-parser.ensures.places
+    IsColumn-same _ _ _ _ _ _ _ _ _ _ _ _ c.date_time_parser-parser.ensures.clocks
+    c.date_time_parser-parser.ensures.places
     c.date_time_kind-kind.ensures.kind c.write_column.ensures.column

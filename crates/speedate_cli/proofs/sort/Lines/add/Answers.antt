@@ -1,6 +1,6 @@
 use Rattle.std.proofs.Common.{rules, ◌≡◌, ◌∙◌, ◌++◌, ap, sym, ℕ, List, drop, length}
 use Rattle.speedate.specs.Lines.{complete_lines, lines}
-use Rattle.speedate_cli.specs.Sort.{Keyed, Place, file_lines}
+use Rattle.speedate_cli.specs.Sort.{Keyed, Keys, Place, file_lines}
 use Rattle.speedate_cli.proofs.SortLemmas.{lines_at-read, ok_part}
 use Rattle.speedate_cli.proofs.sort.Lines.add.Goals as goal
 

@@ -1,8 +1,9 @@
-use Rattle.std.proofs.Common.{◌∙◌, ap, sym, subst, ℕ, List}
+use Rattle.std.proofs.Common.{◌≡◌, ◌∙◌, ap, sym, subst, ℕ, List}
 use Rattle.std.specs.Io.KnownBytes.{Appends}
 use Rattle.speedate_stream.specs.Run.{AppendsBeginning}
 use Rattle.speedate_stream.proofs.SentLemmas.{Appends-all}
-use Rattle.speedate_cli.specs.Sort.{Place, lines_at, sorted_text, texts}
+use Rattle.speedate_cli.specs.Entries.{Marked}
+use Rattle.speedate_cli.specs.Sort.{Place, lines_at, sorted_entries, sorted_text, texts}
 use Rattle.speedate_cli.proofs.SortLemmas.{err_part, lines-in_order, ok_part, placed-permutation}
 use Rattle.speedate_cli.proofs.SortedEntryLemmas.{entries_whole}
 use Rattle.speedate_cli.proofs.sort.Lines.print.Goals as goal
