@@ -239,7 +239,8 @@ static void columns() {
     const std::string_view moments = "1970-01-01T00:00:01Z\n1970-01-01T01:00+01:00\nago\n";
     Progress read = datetime_column(moments, numbers).value();
     CHECK(read.lines == 2 && read.bytes == moments.size() - 4 && read.error == Error(SPEEDATE_TOO_SHORT));
-    CHECK(read.part.place == 3 && read.part.end == 3 && read.error->expected(read.part) == "more");
+    CHECK(read.part.place == 3 && read.part.end == 3);
+    CHECK(read.error->expected(read.part) == "a date-time: YYYY-MM-DDTHH:MM or YYYY-MM-DDTHH:MM:SS");
     CHECK(numbers == std::vector<std::int64_t>({1000000, 0, 7}));
     column.goes_on = true;
     read = datetime_column(moments, numbers, {}, column).value();
@@ -362,7 +363,7 @@ static void columns_of_texts() {
     CHECK(datetime_texts("5", {0, 1}, numbers, errors, config, column).value().lines == 1 && numbers[0] == 5);
     CHECK(duration_texts("PT1S1M", {0, 6}, numbers, config).value().error == Error(SPEEDATE_DURATION_UNIT_ORDER));
     column.parser = Parser::Strict;
-    CHECK(time_texts("00:00", {0, 5}, numbers, {}, column).value().error == Error(SPEEDATE_TZ_REQUIRED));
+    CHECK(time_texts("00:00:00", {0, 8}, numbers, {}, column).value().error == Error(SPEEDATE_TZ_REQUIRED));
 }
 
 static void columns_in_print() {

@@ -234,7 +234,8 @@ impl Row<'_> {
     fn has_lines<P: LinePrinter<Number: FromStr<Err: Debug>>>(&self, printer: &P) -> bool {
         let numbers: Vec<P::Number> = self.0[2].split_whitespace().map(|it| it.parse().unwrap()).collect();
         let mut out = vec![b'-'; self.0[1].parse().unwrap()];
-        let Progress { lines, bytes, error, .. } = print_column(&numbers, printer, &mut out);
+        let Progress { lines, bytes, error, place, end } = print_column(&numbers, printer, &mut out);
+        assert_eq!((place, end), (0, 0), "a number has no part");
         let (text, rest) = out.split_at(bytes);
         let error = error.map_or("ok".to_owned(), |error| error.to_string());
         let written = [text.escape_ascii().to_string(), format!("{lines} {bytes} {error}")];
