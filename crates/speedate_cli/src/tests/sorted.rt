@@ -10,11 +10,12 @@ use std::alloc::AllocError;
 use std::io::{self, ErrorKind, Read};
 use std::process::Abort;
 
-/// Command lines, inputs, and what is printed of them.
-const SORTED: [(&str, [&str; 2], &str); 8] = [
+/// Command lines, two inputs of each, and what is printed of them.
+const SORTED: [(&str, &str, &str, &str); 8] = [
     (
         "sort",
-        [LOG, ""],
+        LOG,
+        "",
         "\
 [2026-11-22T07:09:00+01:00] b\n\
 2026-02-30T00:00Z c\n\
@@ -26,10 +27,8 @@ trace\n\
     // What comes before the first entry stays there, and entries of one value stay as they came.
     (
         "sort",
-        [
-            "x\n2026-11-22T06:10Z b\ny",
-            "z\n2026-11-22T07:10+01:00 c\n2026-11-22T06:09Z a\n",
-        ],
+        "x\n2026-11-22T06:10Z b\ny",
+        "z\n2026-11-22T07:10+01:00 c\n2026-11-22T06:09Z a\n",
         "\
 x\n\
 2026-11-22T06:09Z a\n\
@@ -41,7 +40,8 @@ z\n\
     ),
     (
         "sort --bad drop --undated drop",
-        [LOG, ""],
+        LOG,
+        "",
         "\
 [2026-11-22T07:09:00+01:00] b\n\
 2026-11-22T06:10:00Z a\n\
@@ -50,13 +50,15 @@ z\n\
     ),
     (
         "sort --header --field 2 --kind date",
-        ["n,date\n2,2026-02-02\n1,2026-01-01", ""],
+        "n,date\n2,2026-02-02\n1,2026-01-01",
+        "",
         "n,date\n1,2026-01-01\n2,2026-02-02\n",
     ),
     // The first value decides whether values are to have an offset.
     (
         "sort",
-        [CLOCKS, "2026-11-22T06:09Z z"],
+        CLOCKS,
+        "2026-11-22T06:09Z z",
         "\
 2026-11-22 06:10:00,1234567 a\n\
 2026-11-22T06:10:00.123456 b\n\
@@ -65,15 +67,16 @@ z\n\
     ),
     (
         "sort --digits refuse",
-        [CLOCKS, "2026-11-22T06:09 z"],
+        CLOCKS,
+        "2026-11-22T06:09 z",
         "\
 2026-11-22 06:10:00,1234567 a\n\
 2026-11-22T06:09 z\n\
 2026-11-22T06:10:00.123456 b\n\
 ",
     ),
-    ("sort", ["", ""], ""),
-    ("sort", ["\n", "\n"], "\n\n"),
+    ("sort", "", "", ""),
+    ("sort", "\n", "\n", "\n\n"),
 ];
 
 /// A reader that gives what one read gives, and then fails.
@@ -153,9 +156,9 @@ fn sorted_log<R: AllocGlobal + Abort, I: Read>(
 
 #[test]
 fn sort_prints(rt: HostRuntime) -> Result<(), AllocError> {
-    for (words, inputs, want) in SORTED {
+    for (words, first, second, want) in SORTED {
         for step in [1, 7, usize::MAX] {
-            let printed = sorted(&rt, words, &inputs, step)?;
+            let printed = sorted(&rt, words, &[first, second], step)?;
             assert_eq!(rt; printed.result, Ok(()), "{words}");
             assert_eq!(rt; printed.taken.as_slice(), want.as_bytes(), "{words}");
         }
