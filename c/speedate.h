@@ -789,10 +789,9 @@ SPEEDATE_NODISCARD int speedate_duration_texts(const char *bytes, size_t size, c
 /* Each call below prints `count` numbers as lines, in order, each with a line feed, as many as there is room for, and
  * writes to *progress how many they are, and how many bytes they take; the bytes after these stay as they are, and no
  * zero byte is written. It returns SPEEDATE_OK. The smallest number, which a column has of a refused line, is an empty
- * line. A number without a line ends the text, and progress->error is its code; progress->part is none. If that is
- * SPEEDATE_OK and
- * progress->lines is below `count`, the next line does not fit: empty the buffer, and go on with that number. 33 bytes
- * are room for any line.
+ * line. A number without a line ends the text, and progress->error is its code; progress->part is none. If
+ * progress->error is SPEEDATE_OK and progress->lines is below `count`, the next line does not fit: empty the buffer, and
+ * go on with that number. 33 bytes are room for any line.
  *
  * The column of the same name reads the lines back as the numbers. */
 
