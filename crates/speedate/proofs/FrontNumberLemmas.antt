@@ -1,11 +1,12 @@
 -- What the front of a text tells of the number of a line.
 use Rattle.std.proofs.Common.{◌≡◌, ◌∙◌, ap, refl, option_map, ℤ, ℕ, zero, suc, ◌<◌, List, [], take, Result, Ok, Err, arith}
+use Rattle.std.specs.Result.{result_and}
 use Rattle.speedate_civil.specs.Base.{Behavior, ParseError}
 use Rattle.speedate_base.specs.Ascii.{HasNoControl}
 use Rattle.speedate_base.specs.Numbers.{number_answer, whole_number}
 use Rattle.speedate_base.specs.Requirement.{fault_alone, first_fault_or, or_number}
 use Rattle.speedate_base.specs.Requirement.{result_and_then, result_map}
-use Rattle.speedate_base.proofs.RefusalLemmas.{refusal-all, refusal-ok}
+use Rattle.speedate_base.proofs.RefusalLemmas.{first_refusal_or-chain, refusal-all, refusal-ok}
 use Rattle.speedate_civil.specs.Calendar.{Ymd, days_between}
 use Rattle.speedate_civil.specs.Date.{date_answer, date_number_answer_or}
 use Rattle.speedate_civil.specs.DateTime.{DateAndTime, IsUtcFront, date_time_answer}
@@ -15,7 +16,7 @@ use Rattle.speedate.specs.declared.column.date.DateReader.{DateReader}
 use Rattle.speedate.specs.declared.column.date_time.DateTimeParser.{DateTimeParser}
 use Rattle.speedate.specs.declared.column.date_time.DateTimeReader.{DateTimeReader}
 use Rattle.speedate.specs.Column.{HasNoEnd, IsFront, as_number, date_number, date_time_number}
-use Rattle.speedate.specs.Column.{date_time_of_line, epoch, taken_answer}
+use Rattle.speedate.specs.Column.{date_time_of_line, epoch, taken_answer, text_behavior}
 use Rattle.speedate.proofs.LineLemmas.{IsOneLine-printed, no_return-printed}
 
 -- nothing is read of no bytes
@@ -53,21 +54,34 @@ date_number-of_date (DateReader.OrTimestamp config) line date read =
 
 -- a date-time that is read is that of the line, if the parser takes it
 pub date_time_of_line-read : (parser : DateTimeParser) (line : List ℕ) (value : DateAndTime)
-    → ((behavior : Behavior) → date_time_answer behavior line ≡ Ok value)
+    → date_time_answer (text_behavior parser) line ≡ Ok value
     → taken_answer parser line ≡ Ok tt → date_time_of_line parser line ≡ Ok value
-date_time_of_line-read (DateTimeParser.Text config) line value read taken = read _
+date_time_of_line-read (DateTimeParser.Text config) line value read taken = read
 date_time_of_line-read (DateTimeParser.OrTimestamp config) line value read taken =
     let time = config.time_config in
     let behavior = time.microseconds_precision_overflow_behavior in
     let offset = time.unix_timestamp_offset in
     let unit = config.timestamp_unit in
     let instant = number_instant_or fault_alone unit behavior line (number_answer line) in
-    ap (or_number (option_map (result_map (date_time_at offset)) instant)) (read _)
+    ap (or_number (option_map (result_map (date_time_at offset)) instant)) read
 date_time_of_line-read (DateTimeParser.Strict behavior) line value read taken =
     let table = strict_date_time line in
     let rows = (refusal-ok fault_alone table (Ok tt) tt taken).0 in
-    ap (result_and_then (λ found. first_fault_or table (Ok found))) (read behavior)
+    ap (result_and_then (λ found. first_fault_or table (Ok found))) read
     ∙ refusal-all fault_alone table (Ok value) rows
+
+-- if the parser does not take it, the line is refused for that
+pub date_time_of_line-untaken : (parser : DateTimeParser) (line : List ℕ) (value : DateAndTime)
+    (fault : ParseError) → date_time_answer (text_behavior parser) line ≡ Ok value
+    → taken_answer parser line ≡ Err fault → date_time_of_line parser line ≡ Err fault
+date_time_of_line-untaken (DateTimeParser.Text config) line value fault read untaken = absurd (cc)
+date_time_of_line-untaken (DateTimeParser.OrTimestamp config) line value fault read untaken =
+    absurd (cc)
+date_time_of_line-untaken (DateTimeParser.Strict behavior) line value fault read untaken =
+    let table = strict_date_time line in
+    ap (result_and_then (λ found. first_fault_or table (Ok found))) read
+    ∙ first_refusal_or-chain fault_alone table tt (Ok value)
+    ∙ ap (λ met. result_and met (Ok value)) untaken
 
 -- it is counted, if it has an offset or needs none
 pub IsFront-utc : (reader : DateTimeReader) (text : List ℕ) (front : ℤ × ℕ)
@@ -81,7 +95,8 @@ IsFront-utc reader text front found taken =
     record {
       within = found.within;
       answered = rw (
-        date_time_of_line-read reader.parser line value found.read taken,
+        date_time_of_line-read reader.parser line value
+            (found.read (text_behavior reader.parser)) taken,
         found.offset,
       ) (ap Ok found.number);
       no_end = HasNoEnd-read (date_time_answer behavior) text value front.1 refl

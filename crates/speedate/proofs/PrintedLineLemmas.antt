@@ -23,6 +23,7 @@ use Rattle.speedate_civil.proofs.TimeLemmas.{nothing-after, time_text-reads}
 use Rattle.speedate.specs.declared.column.date_time.DateTimeParser.{DateTimeParser}
 use Rattle.speedate.specs.Column.{LineError, as_number, clock_number}
 use Rattle.speedate.specs.Column.{date_time_number, date_time_of_line, epoch, taken_answer}
+use Rattle.speedate.specs.Column.{text_behavior}
 use Rattle.speedate.specs.Column.{with_offset}
 use Rattle.speedate.specs.ColumnText.{IsRelaxed, IsShownLine, ReadsClocks, ReadsDates}
 use Rattle.speedate.specs.ColumnText.{ReadsDateTimes, ReadsTimes}
@@ -109,7 +110,7 @@ date_time_of_line-shown : (parser : DateTimeParser) (value : DateAndTime) → Is
 date_time_of_line-shown parser value relaxed valid whole =
     let line = date_time_text value in
     date_time_of_line-read parser line value
-    (λ behavior. date_time_text-reads behavior value valid whole)
+    (date_time_text-reads (text_behavior parser) value valid whole)
     (relaxed-taken parser line relaxed)
 
 -- in UTC an instant is what the clock shows

@@ -3,7 +3,7 @@ use Rattle.std.specs.Prelude.{◌≡◌, ◌≢◌, ℕ, ◌-◌, ◌^◌, ◌<�
 use Rattle.std.specs.Option.{unwrap_or}
 use Rattle.speedate_civil.specs.Base.{Behavior, ParseError}
 use Rattle.speedate_base.specs.Ascii.{carriage_return}
-use Rattle.speedate_base.specs.Config.{time_choices}
+use Rattle.speedate_base.specs.Config.{choices, time_choices}
 use Rattle.speedate_base.specs.Fault.{fault_number}
 use Rattle.speedate_base.specs.Part.{part_end}
 use Rattle.speedate_base.specs.Refused.{placed, refused_place}
@@ -155,6 +155,12 @@ date_of_line (DateReader.OrTimestamp config) line = date_or_timestamp config.tim
 -- the number of a line in a column of dates: the days since 1970-01-01
 abbrev pub date_number : DateReader → List ℕ → Result ℤ LineError
 date_number reader line = as_number (days_between epoch) (date_of_line reader line)
+
+-- what a parser does with digits past the microsecond
+abbrev pub text_behavior : DateTimeParser → Behavior
+text_behavior (DateTimeParser.Text config) = (time_choices config).behavior
+text_behavior (DateTimeParser.OrTimestamp config) = (choices config).behavior
+text_behavior (DateTimeParser.Strict behavior) = behavior
 
 -- whether a line that is a date-time is one for a parser, or the fault
 abbrev pub taken_answer : DateTimeParser → List ℕ → Result (Unit {0}) ParseError

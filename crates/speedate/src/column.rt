@@ -125,6 +125,20 @@ pub trait LineReader {
         None
     }
 
+    /// The number of a text that offsets cut out, as [`LineReader::number`] gives it of a line. A reader whose
+    /// parser is long parses here by a function that others share, so that the loop over lines has the only
+    /// call of `number`, and the compiler copies it there.
+    ///
+    /// # Errors
+    ///
+    /// Those of [`LineReader::number`].
+    #[inline(always)]
+    fn text_number(&self, text: &[u8]) -> Result<Self::Number, LineError>
+        ensures answer { result ≡ answer self.now text.now }
+    {
+        self.number(text)
+    }
+
     /// The byte at which the error lies for which a line is refused: 5, the month's, for `b"1970-13-01"`.
     ///
     /// It is the place of the error of a text that the reader does not take. If an offset is missing, it is

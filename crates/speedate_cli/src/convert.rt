@@ -132,30 +132,18 @@ fn push_if_some(
 }
 
 impl Convert<'_> {
-    /// The value of a line as it is written, or what is bad about it.
-    #[tactic(auto, unfolding(crate::specs::Convert::written_value))]
-    fn written(&self, head: &[u8], found: &Found) -> Result<DateTime, Bad>
-        requires within { IsWithin found.now head.now }
-        ensures value { result_map date_and_time result
-            ≡ written_value self.now head.now found.now }
-    {
-        match self.scan.reader.value_of(head, found) {
-            Ok((value, _)) => self.target.targeted(found, value),
-            Err(bad) => Err(bad),
-        }
-    }
-
     /// What a line is, and its value as it is written: a line whose value cannot be written is bad.
+    #[tactic(auto, unfolding(crate::specs::Convert::written_value))]
     fn line(&self, head: &[u8]) -> (Line, Option<DateTime>)
         ensures line { result.0 ≡ convert_line self.now head.now }
         ensures within { IsFoundWithin result.0 head.now }
         ensures value { option_map date_and_time result.1 ≡ written_of self.now head.now result.0 }
     {
-        let line = self.scan.line(head);
-        let Line::Value(found) = &line else {
+        let (line, value) = self.scan.line_with_value(head);
+        let (Line::Value(found), Some(value)) = (&line, value) else {
             return (line, None);
         };
-        match self.written(head, found) {
+        match self.target.targeted(found, value) {
             Ok(value) => (line, Some(value)),
             Err(bad) => (Line::Bad(bad), None),
         }

@@ -1,13 +1,14 @@
 //! What is read of a line.
 
-ghost use Rattle.std.specs.Prelude.{◌≡◌, ◌+◌, ◌-◌, ◌≤◌, IfErr, IfOk, IfSome, length, nat_lt};
+ghost use Rattle.std.specs.Prelude.{◌≡◌, ◌+◌, ◌-◌, ◌≤◌, IfErr, IfOk, IfSome, IsSomeAnd, Ok, length};
+ghost use Rattle.std.specs.Prelude.{nat_lt};
 ghost use Rattle.speedate.specs.Base.{IsoOrder};
 ghost use Rattle.speedate.specs.Config.{time_choices};
 ghost use Rattle.speedate.specs.Requirement.{result_map, with_size};
 ghost use Rattle.speedate.specs.Date.{ymd};
 ghost use Rattle.speedate.specs.DateTime.{date_and_time};
 ghost use Rattle.speedate_cli.specs.Field.{IsFieldWithin};
-ghost use Rattle.speedate_cli.specs.Reading.{IsReadWithin, IsWithin};
+ghost use Rattle.speedate_cli.specs.Reading.{IsParsed, IsReadWithin, found_from};
 ghost use Rattle.speedate_cli.specs.Reading.{alone, assumed, bracket_length, claims, digit_at};
 ghost use Rattle.speedate_cli.specs.Reading.{found_at, not_within};
 ghost use Rattle.speedate_cli.specs.Reading.{end_of_word, fields_of, front_of, instant_of, is_cut};
@@ -244,74 +245,89 @@ pub fn without_field(head: &[u8]) -> Reading
     Reading::Undated(fields_of(head).len())
 }
 
+/// What is read of a line in which a value was parsed from a byte on, or refused.
+#[inline(always)]
+fn read_as(parsed: Result<(DateTime, usize), Bad>, from: usize) -> (Reading, Option<DateTime>)
+    ensures read { result.0 ≡ found_from from (result_map (with_size date_and_time) parsed) }
+    ensures value { ((found : Found) → result.0 ≡ Reading.Value found → IsSomeAnd result.1 (λ value.
+        result_map (with_size date_and_time) parsed ≡ Ok (date_and_time value, found.to))) }
+{
+    match parsed {
+        Ok((value, to)) => (Reading::Value(found_at(&value, from, to)), Some(value)),
+        Err(bad) => (Reading::Bad(bad), None),
+    }
+}
+
 impl Reader<'_> {
-    /// What is read of a line, by its head.
-    #[tactic(auto, unfolding(crate::specs::Reading::read))]
-    pub fn read(&self, head: &[u8]) -> Reading
-        ensures read { result ≡ read self.now head.now }
-        ensures within { IsReadWithin result head.now }
+    /// What is read of a line, by its head, and the value that was parsed, if it has one.
+    #[inline(always)]
+    #[tactic(auto, unfolding(crate::specs::Reading::read, crate::specs::Reading::value_of))]
+    pub fn parse(&self, head: &[u8]) -> (Reading, Option<DateTime>)
+        ensures read { result.0 ≡ read self.now head.now }
+        ensures within { IsReadWithin result.0 head.now }
+        ensures value { IsParsed (value_of self.now head.now) result.0 result.1 }
     {
         match self.place {
-            Place::Front => self.read_from(head, Some(bracket_length(seen(head)))),
-            Place::After(word) => self.read_from(head, end_of_word(word, seen(head))),
-            Place::Field(which) => self.read_field(head, which.find(fields_of(head))),
+            Place::Front => self.parse_from(head, Some(bracket_length(seen(head)))),
+            Place::After(word) => self.parse_from(head, end_of_word(word, seen(head))),
+            Place::Field(which) => self.parse_field(head, which.find(fields_of(head))),
         }
     }
 
     /// What is read of a line, by its head, whose value begins at this byte, if anywhere.
     #[inline(always)]
-    fn read_from(&self, head: &[u8], start: Option<usize>) -> Reading
+    fn parse_from(&self, head: &[u8], start: Option<usize>) -> (Reading, Option<DateTime>)
         requires start { IfSome start (λ start. start ≤ length (seen head.now)) }
-        ensures read { result ≡ read_from self.now head.now start }
-        ensures within { IsReadWithin result head.now }
+        ensures read { result.0 ≡ read_from self.now head.now start }
+        ensures within { IsReadWithin result.0 head.now }
+        ensures value { IsParsed (λ found. value_at self.now head.now found.from)
+            result.0 result.1 }
     {
         let text = seen(head);
         let Some(start) = start else {
-            return Reading::Undated(text.len());
+            return (Reading::Undated(text.len()), None);
         };
         if !claims(&text[start..]) {
-            return Reading::Undated(start);
+            return (Reading::Undated(start), None);
         }
-        match self.value_at(head, start) {
-            Ok((value, to)) => Reading::Value(found_at(&value, start, to)),
-            Err(bad) => Reading::Bad(bad),
-        }
+        read_as(self.value_at(head, start), start)
     }
 
     /// What is read of a line, by its head and where its field is, if it is there.
     #[tactic(auto, using(crate::proofs::SeenLemmas::fields_within))]
-    fn read_field(&self, head: &[u8], field: Option<Field>) -> Reading
+    fn parse_field(&self, head: &[u8], field: Option<Field>) -> (Reading, Option<DateTime>)
         requires within { IfSome field (λ field. IsFieldWithin field (fields_of head.now)) }
-        ensures read { result ≡ read_field self.now head.now field }
-        ensures within { IsReadWithin result head.now }
+        ensures read { result.0 ≡ read_field self.now head.now field }
+        ensures within { IsReadWithin result.0 head.now }
+        ensures value { IsParsed (λ found. value_between self.now head.now found.from found.to)
+            result.0 result.1 }
     {
         match field {
-            None => without_field(head),
+            None => (without_field(head), None),
             Some(field) => {
                 if is_cut(head, field.end) {
-                    return not_within(field.from);
+                    return (not_within(field.from), None);
                 }
-                self.read_whole(head, &field)
+                self.parse_whole(head, &field)
             }
         }
     }
 
     /// What is read of a line, by its head and its field, which lies within what is looked at.
     #[tactic(auto, using(crate::proofs::SeenLemmas::seen_within))]
-    fn read_whole(&self, head: &[u8], field: &Field) -> Reading
+    fn parse_whole(&self, head: &[u8], field: &Field) -> (Reading, Option<DateTime>)
         requires ordered { field.now.from ≤ field.now.to }
         requires ends { field.now.to ≤ field.now.end }
         requires within { field.now.end ≤ length (seen head.now) }
-        ensures read { result ≡ read_whole self.now head.now field.now }
-        ensures within { IsReadWithin result head.now }
+        ensures read { result.0 ≡ read_whole self.now head.now field.now }
+        ensures within { IsReadWithin result.0 head.now }
+        ensures value { IsParsed (λ found. value_between self.now head.now found.from found.to)
+            result.0 result.1 }
     {
         if !claims(&head[field.from..field.to]) {
-            return Reading::Undated(field.from);
+            return (Reading::Undated(field.from), None);
         }
-        match self.value_alone(head, field) {
-            Ok((value, to)) => Reading::Value(found_at(&value, field.from, to)),
-            Err(bad) => Reading::Bad(bad),
-        }
+        read_as(self.value_alone(head, field), field.from)
     }
 
     /// The value of a field of a line, by its head, and the byte up to which it stands; what stands after the
@@ -335,19 +351,6 @@ impl Reader<'_> {
                 Ok(found)
             }
             Err(bad) => Err(bad),
-        }
-    }
-
-    /// The value that was found in a line, by its head, and the byte up to which it stands.
-    #[tactic(auto, unfolding(crate::specs::Reading::value_of))]
-    pub fn value_of(&self, head: &[u8], found: &Found) -> Result<(DateTime, usize), Bad>
-        requires within { IsWithin found.now head.now }
-        ensures value { result_map (with_size date_and_time) result
-            ≡ value_of self.now head.now found.now }
-    {
-        match self.place {
-            Place::Field(_) => self.value_between(head, found.from, found.to),
-            _ => self.value_at(head, found.from),
         }
     }
 

@@ -2,13 +2,13 @@
 
 ghost use Rattle.std.specs.Prelude.{◌≡◌, ◌+◌, ◌++◌, ◌≤◌, length, is_some};
 ghost use Rattle.speedate_stream.specs.Watch.{one_more};
-ghost use Rattle.speedate_cli.specs.Reading.{IsReadWithin};
-ghost use Rattle.speedate_cli.specs.Scan.{IsFoundWithin, has_offsets, is_counted, keeps};
+ghost use Rattle.speedate_cli.specs.Reading.{IsReadWithin, value_of};
+ghost use Rattle.speedate_cli.specs.Scan.{IsFoundWithin, IsLineParsed, has_offsets, is_counted, keeps};
 ghost use Rattle.speedate_cli.specs.Scan.{counted, fits, is_stopped, is_value, judged, line_of};
 ghost use Rattle.speedate_cli.specs.Scan.{noted, passed, settled, unfit};
 
 use crate::reading::{Bad, Found, Reader, Reading, Why};
-use speedate::ParseError;
+use speedate::{DateTime, ParseError};
 
 /// How many bad values are reported one by one.
 pub const REPORTS_MAX: usize = 10;
@@ -209,18 +209,29 @@ impl Scan<'_> {
     }
 
     /// What a line is, by its head.
-    #[tactic(auto, unfolding(crate::specs::Scan::line_of))]
     pub fn line(&self, head: &[u8]) -> Line
         ensures line { result ≡ line_of self.now head.now }
         ensures within { IsFoundWithin result head.now }
     {
+        self.line_with_value(head).0
+    }
+
+    /// What a line is, by its head, and its value, if it has one.
+    #[inline(always)]
+    #[tactic(auto, unfolding(crate::specs::Scan::line_of))]
+    pub fn line_with_value(&self, head: &[u8]) -> (Line, Option<DateTime>)
+        ensures line { result.0 ≡ line_of self.now head.now }
+        ensures within { IsFoundWithin result.0 head.now }
+        ensures value { IsLineParsed (value_of self.now.reader head.now) result.0 result.1 }
+    {
         if self.is_stopped() {
-            return Line::Late;
+            return (Line::Late, None);
         }
         if self.has_header && self.number == 0 {
-            return Line::Header;
+            return (Line::Header, None);
         }
-        self.judged(self.reader.read(head), head)
+        let (reading, value) = self.reader.parse(head);
+        (self.judged(reading, head), value)
     }
 
     /// What a line is by what is read of it.

@@ -13,7 +13,9 @@ ghost use Rattle.speedate.specs.ColumnText.{IsShownLine, date_time_line};
 
 use super::{LINE_MAX, LineError, LinePrinter, LineReader};
 use arrayvec::ArrayString;
-use speedate_base::config::{DateTimeConfig, MicrosecondsPrecisionOverflowBehavior, TimeConfig};
+use speedate_base::config::{
+    DateTimeConfig, IsoOrder, MicrosecondsPrecisionOverflowBehavior, TimeConfig,
+};
 use speedate_base::faults::ParseError;
 use speedate_base::util::UnixTime;
 use speedate_civil::datetime::{
@@ -36,22 +38,55 @@ impl DateTimeParser {
     ghost use Rattle.std.specs.Prelude.{◌≡◌, IsTrue, Ok};
     ghost use Rattle.speedate_civil.specs.DateTime.{◌gives◌};
     ghost use Rattle.speedate.specs.Column.{date_time_of_line, date_time_place, taken_answer};
+    ghost use Rattle.speedate.specs.Column.{text_behavior};
+    ghost use Rattle.speedate_base.specs.Config.{time_choices};
 
     /// Parses a line as a date-time.
     pub(super) fn parse(&self, line: &[u8]) -> Result<DateTime, ParseError>
         ensures answer { result gives date_time_of_line self.now line.now }
     {
+        if let DateTimeParser::OrTimestamp(config) = self {
+            return DateTime::parse_bytes_with_config(line, config);
+        }
+        let value = DateTime::parse_bytes_rfc3339_with_config(line, &self.text_config())?;
+        match self.require(line) {
+            Ok(()) => Ok(value),
+            Err(fault) => Err(fault),
+        }
+    }
+
+    /// How the text of a date-time is parsed, of which `Strict` requires more.
+    #[inline(always)]
+    fn text_config(&self) -> TimeConfig
+        ensures behavior { (time_choices result).behavior ≡ text_behavior self.now }
+    {
         match self {
-            DateTimeParser::Text(config) => {
-                DateTime::parse_bytes_rfc3339_with_config(line, config)
-            }
-            DateTimeParser::OrTimestamp(config) => DateTime::parse_bytes_with_config(line, config),
-            DateTimeParser::Strict(behavior) => DateTime::parse_bytes_strict(line, *behavior),
+            DateTimeParser::Text(config) => *config,
+            DateTimeParser::OrTimestamp(config) => config.time_config,
+            DateTimeParser::Strict(behavior) => TimeConfig {
+                microseconds_precision_overflow_behavior: *behavior,
+                unix_timestamp_offset: None,
+                iso_order: IsoOrder::Lax,
+            },
+        }
+    }
+
+    /// Requires of a line that is a date-time what this parser requires besides: `Strict`, that it is of
+    /// RFC 3339.
+    #[inline(always)]
+    fn require(&self, line: &[u8]) -> Result<(), ParseError>
+        ensures required { result ≡ taken_answer self.now line.now }
+    {
+        match self {
+            DateTimeParser::Strict(_) => require_standard_date_time(line),
+            _ => Ok(()),
         }
     }
 
     /// The byte at which the error of a line lies: where the line ends if it is a date-time, which then
-    /// misses an offset.
+    /// misses an offset. It is not inlined, so that the readers of date-times share one copy.
+    #[cold]
+    #[inline(never)]
     pub(super) fn error_place(&self, line: &[u8]) -> usize
         ensures place { result ≡ date_time_place self.now line.now }
     {
@@ -63,15 +98,12 @@ impl DateTimeParser {
         place.unwrap_or(line.len())
     }
 
-    /// Whether a line that is a date-time is one for this parser: for `Strict` only if it is of RFC 3339.
+    /// Whether a line that is a date-time is one for this parser.
     #[inline(always)]
     fn takes(&self, line: &[u8]) -> bool
         ensures takes { IsTrue result → taken_answer self.now line.now ≡ Ok tt }
     {
-        match self {
-            DateTimeParser::Strict(_) => require_standard_date_time(line).is_ok(),
-            _ => true,
-        }
+        self.require(line).is_ok()
     }
 }
 
@@ -88,35 +120,48 @@ pub struct DateTimeReader {
 }
 
 impl DateTimeReader {
-    ghost use Rattle.std.specs.Prelude.{◌≡◌};
+    ghost use Rattle.std.specs.Prelude.{◌≡◌, Err, Ok};
     ghost use Rattle.speedate_base.specs.Config.{choices};
-    ghost use Rattle.speedate_base.specs.Requirement.{result_and_then, result_map};
     ghost use Rattle.speedate_base.specs.Timestamp.{IsInYears, unix_instant};
-    ghost use Rattle.speedate_civil.specs.DateTime.{date_and_time, date_time_at};
-    ghost use Rattle.speedate_civil.specs.DateTime.{date_time_by_config, utc_microsecond};
-    ghost use Rattle.speedate.specs.Column.{as_number, with_offset};
+    ghost use Rattle.speedate_civil.specs.DateTime.{date_and_time, date_time_answer, date_time_at};
+    ghost use Rattle.speedate_civil.specs.DateTime.{utc_microsecond};
+    ghost use Rattle.speedate.specs.Column.{as_number, date_time_number, text_behavior, with_offset};
 
-    /// Turns the answer of a parser into the line's number or error.
+    /// The number of a line. Its text is parsed at one place for all parsers, since the compiler copies the
+    /// parser into the loop.
     #[inline(always)]
-    fn number_of(&self, read: Result<DateTime, ParseError>) -> Result<i64, LineError>
-        ensures number { result ≡ as_number utc_microsecond (result_and_then
-            (with_offset self.now.assumes_utc) (result_map date_and_time read)) }
+    fn number_of(&self, line: &[u8]) -> Result<i64, LineError>
+        ensures number { result ≡ date_time_number self.now line.now }
     {
-        match read {
-            Ok(value) => utc_number(&value, self.assumes_utc),
+        match DateTime::parse_bytes_rfc3339_with_config(line, &self.parser.text_config()) {
+            Ok(value) => self.taken_number(line, &value),
+            Err(fault) => self.timestamp_or(line, fault),
+        }
+    }
+
+    /// The number of a line whose text is a date-time.
+    #[inline(always)]
+    fn taken_number(&self, line: &[u8], value: &DateTime) -> Result<i64, LineError>
+        requires parsed { date_time_answer (text_behavior self.now.parser) line.now
+            ≡ Ok (date_and_time value.now) }
+        ensures number { result ≡ date_time_number self.now line.now }
+    {
+        match self.parser.require(line) {
+            Ok(()) => utc_number(value, self.assumes_utc),
             Err(fault) => Err(LineError::Parse(fault)),
         }
     }
 
-    /// The number of a line that may be a timestamp, whose instant is counted without the calendar.
+    /// The number of a line whose text is refused, and which may be a timestamp, whose instant is counted
+    /// without the calendar.
     #[inline(always)]
-    fn number_or_timestamp(&self, line: &[u8], config: &DateTimeConfig) -> Result<i64, LineError>
-        ensures number { result ≡ as_number utc_microsecond (result_and_then
-            (with_offset self.now.assumes_utc) (date_time_by_config config.now line.now)) }
+    fn timestamp_or(&self, line: &[u8], fault: ParseError) -> Result<i64, LineError>
+        requires refused { date_time_answer (text_behavior self.now.parser) line.now ≡ Err fault }
+        ensures number { result ≡ date_time_number self.now line.now }
     {
-        match DateTime::parse_bytes_rfc3339_with_config(line, &config.time_config) {
-            Ok(value) => utc_number(&value, self.assumes_utc),
-            Err(fault) => match timestamp_instant(line, fault, config) {
+        match &self.parser {
+            DateTimeParser::Text(_) | DateTimeParser::Strict(_) => Err(LineError::Parse(fault)),
+            DateTimeParser::OrTimestamp(config) => match timestamp_instant(line, fault, config) {
                 Ok(time) => self.timestamp_microsecond(time, config),
                 Err(fault) => Err(LineError::Parse(fault)),
             },
@@ -152,15 +197,11 @@ impl LineReader for DateTimeReader {
     ghost place = { λ reader line. date_time_place reader.parser line };
 
     fn number(&self, line: &[u8]) -> Result<i64, LineError> {
-        match &self.parser {
-            DateTimeParser::Text(config) => {
-                self.number_of(DateTime::parse_bytes_rfc3339_with_config(line, config))
-            }
-            DateTimeParser::OrTimestamp(config) => self.number_or_timestamp(line, config),
-            DateTimeParser::Strict(behavior) => {
-                self.number_of(DateTime::parse_bytes_strict(line, *behavior))
-            }
-        }
+        self.number_of(line)
+    }
+
+    fn text_number(&self, text: &[u8]) -> Result<i64, LineError> {
+        self.number_of(text)
     }
 
     #[inline(always)]

@@ -18,6 +18,23 @@ pub struct DurationReader {
     pub config: TimeConfig,
 }
 
+impl DurationReader {
+    ghost use Rattle.std.specs.Prelude.{◌≡◌};
+    ghost use Rattle.speedate.specs.Column.{duration_number};
+
+    /// The number of a line, by a copy of the parser.
+    #[inline(always)]
+    fn number_of<const COPY: u8>(&self, line: &[u8]) -> Result<i64, LineError>
+        ensures number { result ≡ duration_number self.now line.now }
+    {
+        let behavior = self.config.microseconds_precision_overflow_behavior;
+        match Duration::parse::<COPY>(line, self.config.iso_order, behavior) {
+            Ok(duration) => duration_microseconds(&duration),
+            Err(fault) => Err(LineError::Parse(fault)),
+        }
+    }
+}
+
 impl LineReader for DurationReader {
     ghost use Rattle.speedate.specs.Column.{duration_number, duration_place};
 
@@ -28,11 +45,11 @@ impl LineReader for DurationReader {
     ghost place = { duration_place };
 
     fn number(&self, line: &[u8]) -> Result<i64, LineError> {
-        let behavior = self.config.microseconds_precision_overflow_behavior;
-        match Duration::parse::<true>(line, self.config.iso_order, behavior) {
-            Ok(duration) => duration_microseconds(&duration),
-            Err(fault) => Err(LineError::Parse(fault)),
-        }
+        self.number_of::<1>(line)
+    }
+
+    fn text_number(&self, text: &[u8]) -> Result<i64, LineError> {
+        self.number_of::<2>(text)
     }
 
     fn error_place(&self, line: &[u8]) -> usize {

@@ -96,7 +96,7 @@ fn fill_with_texts<R: LineReader>(
     let mut lines = 0;
     while lines < count {
         let text = text_at(bytes, offsets, lines);
-        let (number, code) = match entry(reader.number(text), refused) {
+        let (number, code) = match entry(reader.text_number(text), refused) {
             Ok(entry) => entry,
             Err(error) => {
                 let (place, end) = text_part(text, reader, error);

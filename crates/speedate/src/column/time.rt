@@ -37,7 +37,9 @@ impl TimeParser {
     }
 
     /// The byte at which the error of a line lies: where the line ends if it is a time, which then misses
-    /// an offset.
+    /// an offset. It is not inlined, so that the readers of times share one copy.
+    #[cold]
+    #[inline(never)]
     fn error_place(&self, line: &[u8]) -> usize
         ensures place { result ≡ time_place self.now line.now }
     {

@@ -71,7 +71,7 @@ impl Duration {
     {
         let (negative, size) = sign(bytes);
         let rest = &bytes[size..];
-        let amount = UnsignedDuration::parse::<Refused, false>(rest, order, size, behavior)?;
+        let amount = UnsignedDuration::parse::<Refused, 0>(rest, order, size, behavior)?;
         Self::normal_form(rest, order, size, !negative, amount)
     }
 
@@ -113,7 +113,7 @@ fn duration_error_place(bytes: &[u8], order: IsoOrder, behavior: Behavior) -> Op
 {
     let (_, size) = sign(bytes);
     let rest = &bytes[size..];
-    match UnsignedDuration::parse::<Refused, false>(rest, order, size, behavior) {
+    match UnsignedDuration::parse::<Refused, 0>(rest, order, size, behavior) {
         Err(refused) => Some(refused.place),
         Ok(amount) => match normal_error_place(rest, order, amount) {
             Some(place) => Some(size + place),

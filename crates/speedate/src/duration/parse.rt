@@ -88,7 +88,7 @@ impl Duration {
     pub fn parse_bytes(bytes: &[u8]) -> Result<Self, ParseError>
         ensures answer { result gives duration_answer IsoOrder.Lax Behavior.Error bytes.now }
     {
-        Self::parse::<false>(
+        Self::parse::<0>(
             bytes,
             IsoOrder::Lax,
             MicrosecondsPrecisionOverflowBehavior::Error,
@@ -131,7 +131,7 @@ impl Duration {
             → result gives duration_answer (time_choices config.now).order
             (time_choices config.now).behavior other }
     {
-        Self::parse::<false>(
+        Self::parse::<0>(
             bytes,
             config.iso_order,
             config.microseconds_precision_overflow_behavior,
@@ -141,11 +141,11 @@ impl Duration {
     /// Parses a duration, with or without a sign. The order and the behavior are arguments of their own,
     /// and no configuration: the compiler sees a constant argument, but none in a struct.
     ///
-    /// `OWN_COPY` changes no answer. It gives columns a copy of their own: functions as long as these are
+    /// `COPY` changes no answer. It gives columns copies of their own: functions as long as these are
     /// inlined only where they have one caller.
     #[inline(always)]
     #[tactic(auto, using(std::proofs::lemmas::List::take_rest))]
-    pub(crate) fn parse<const OWN_COPY: bool>(
+    pub(crate) fn parse<const COPY: u8>(
         bytes: &[u8],
         order: IsoOrder,
         behavior: MicrosecondsPrecisionOverflowBehavior,
@@ -154,7 +154,7 @@ impl Duration {
     {
         let (negative, size) = sign(bytes);
         let rest = &bytes[size..];
-        let amount = UnsignedDuration::parse::<ParseError, OWN_COPY>(rest, order, size, behavior)?;
+        let amount = UnsignedDuration::parse::<ParseError, COPY>(rest, order, size, behavior)?;
         Self::with_sign(!negative, amount)
     }
 

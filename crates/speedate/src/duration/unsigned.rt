@@ -28,7 +28,7 @@ impl UnsignedDuration {
     /// text has.
     #[inline(always)]
     #[tactic(auto, unfolding(crate::specs::Duration::unsigned_answer_or))]
-    pub(super) fn parse<E: Refusal, const OWN_COPY: bool>(
+    pub(super) fn parse<E: Refusal, const COPY: u8>(
         bytes: &[u8],
         order: IsoOrder,
         start: usize,
@@ -42,13 +42,13 @@ impl UnsignedDuration {
         if byte_at(bytes, 0) == b'P' {
             return Sums::parse(&bytes[1..], order, start + bytes.len());
         }
-        Self::days_or_clock::<E, OWN_COPY>(bytes, start, behavior)
+        Self::days_or_clock::<E, COPY>(bytes, start, behavior)
     }
 
     /// Parses a duration of days, or one that a clock shows, which begins at `start` of the whole text.
     #[inline(always)]
     #[tactic(auto, unfolding(crate::specs::Duration::days_or_clock_or))]
-    fn days_or_clock<E: Refusal, const OWN_COPY: bool>(
+    fn days_or_clock<E: Refusal, const COPY: u8>(
         bytes: &[u8],
         start: usize,
         behavior: Behavior,

@@ -27,8 +27,8 @@ loop-lines-preserved g c =
     let next = taken-next texts lines c.args.count c.text_at-text.result.now inside
     c.text_at-text.ensures.text in
     let is = column-next (g.R.LineReader.answer c.args.reader.now) c.args.refused
-    (take c.args.count texts) lines c.text_at-text.result.now c.number.result (Ok c.in-Ok.entry)
-    next c.number.ensures.answer c.in-Ok.ensures.entry in
+    (take c.args.count texts) lines c.text_at-text.result.now c.text_number.result
+    (Ok c.in-Ok.entry) next c.text_number.ensures.answer c.in-Ok.ensures.entry in
     record {
       read = omega (arith, inside);
       room = omega (arith, before.room, length-set c.loop-lines.out lines c.in-Ok.entry.0);
@@ -61,8 +61,8 @@ returns-in-Err g c =
     let next = taken-next texts lines c.args.count c.text_at-text.result.now inside
     c.text_at-text.ensures.text in
     let ended = column-next (g.R.LineReader.answer c.args.reader.now) c.args.refused
-    (take c.args.count texts) lines c.text_at-text.result.now c.number.result
-    (Err c.in-Err.error) next c.number.ensures.answer c.in-Err.ensures.entry in
+    (take c.args.count texts) lines c.text_at-text.result.now c.text_number.result
+    (Err c.in-Err.error) next c.text_number.ensures.answer c.in-Err.ensures.entry in
     let all = IsSoFar-whole _ _ (Some c.in-Err.error) _ _ _ _ _ before.so_far ended in
     record {
       column = record {
