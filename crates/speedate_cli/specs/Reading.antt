@@ -11,7 +11,7 @@ use Rattle.speedate.specs.Refused.{placed, refused_place}
 use Rattle.speedate_base.specs.declared.refusal.Refused.{Refused}
 use Rattle.speedate.specs.Calendar.{Ymd}
 use Rattle.speedate.specs.Date.{date_answer, date_answer_or, date_front, date_front_or}
-use Rattle.speedate.specs.DateTime.{DateAndTime, DateTime, date_and_time, date_time_answer}
+use Rattle.speedate.specs.DateTime.{DateAndTime, date_and_time, date_time_answer}
 use Rattle.speedate.specs.DateTime.{date_time_answer_or, date_time_front}
 use Rattle.speedate.specs.DateTime.{date_time_front_or, date_time_with_offset, utc_microsecond}
 use Rattle.speedate.specs.Lines.{without_return}
@@ -271,8 +271,9 @@ IsReadWithin (Reading.Bad bad) head = Unit {0}
 IsReadWithin (Reading.Undated place) head = Unit {0}
 
 -- the value that was parsed of a line is the one that was found in it
-abbrev pub IsParsed : (Found → Result (DateAndTime × ℕ) Bad) → Reading → Option DateTime → Type 0
+abbrev pub IsParsed : (Found → Result (DateAndTime × ℕ) Bad) → Reading → Option DateAndTime
+    → Type 0
 IsParsed value_of (Reading.Value found) value =
-    IsSomeAnd value (λ value. value_of found ≡ Ok (date_and_time value, found.to))
+    IsSomeAnd value (λ value. value_of found ≡ Ok (value, found.to))
 IsParsed value_of (Reading.Bad bad) value = Unit {0}
 IsParsed value_of (Reading.Undated place) value = Unit {0}

@@ -1,7 +1,7 @@
 -- What each line is to a command, and what is counted of the lines.
 use Rattle.std.specs.Prelude.{◌≡◌, ℕ, ◌+◌, ◌==◌, ◌&&◌, Bool, true, false, not, List, slice_set, nat_lt, Option, is_some, Result, if◌then◌else◌}
 use Rattle.speedate.specs.Base.{ParseError}
-use Rattle.speedate.specs.DateTime.{DateAndTime, DateTime}
+use Rattle.speedate.specs.DateTime.{DateAndTime}
 use Rattle.speedate_stream.specs.Watch.{one_more}
 use Rattle.speedate_cli.specs.Reading.{Bad, Found, IsParsed, IsWithin, Reader, Reading, Why}
 use Rattle.speedate_cli.specs.Reading.{read}
@@ -164,7 +164,8 @@ passed scan (Line.Bad bad) = record (noted scan bad) {
 passed scan Line.Unfit = record (counted scan) { stop = Stop.AtUnfit }
 
 -- the value that was parsed of a line is the one that was found in it
-abbrev pub IsLineParsed : (Found → Result (DateAndTime × ℕ) Bad) → Line → Option DateTime → Type 0
+abbrev pub IsLineParsed : (Found → Result (DateAndTime × ℕ) Bad) → Line → Option DateAndTime
+    → Type 0
 IsLineParsed value_of (Line.Value found) value = IsParsed value_of (Reading.Value found) value
 IsLineParsed value_of Line.Late value = Unit {0}
 IsLineParsed value_of Line.Header value = Unit {0}

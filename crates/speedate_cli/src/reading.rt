@@ -1,7 +1,8 @@
 //! What is read of a line.
 
-ghost use Rattle.std.specs.Prelude.{◌≡◌, ◌+◌, ◌-◌, ◌≤◌, IfErr, IfOk, IfSome, IsSomeAnd, Ok, length};
+ghost use Rattle.std.specs.Prelude.{◌≡◌, ◌+◌, ◌-◌, ◌≤◌, IfErr, IfOk, IfSome, length};
 ghost use Rattle.std.specs.Prelude.{nat_lt};
+ghost use Rattle.std.specs.Option.{option_map};
 ghost use Rattle.speedate.specs.Base.{IsoOrder};
 ghost use Rattle.speedate.specs.Config.{time_choices};
 ghost use Rattle.speedate.specs.Requirement.{result_map, with_size};
@@ -249,8 +250,8 @@ pub fn without_field(head: &[u8]) -> Reading
 #[inline(always)]
 fn read_as(parsed: Result<(DateTime, usize), Bad>, from: usize) -> (Reading, Option<DateTime>)
     ensures read { result.0 ≡ found_from from (result_map (with_size date_and_time) parsed) }
-    ensures value { ((found : Found) → result.0 ≡ Reading.Value found → IsSomeAnd result.1 (λ value.
-        result_map (with_size date_and_time) parsed ≡ Ok (date_and_time value, found.to))) }
+    ensures value { IsParsed (λ found. result_map (with_size date_and_time) parsed) result.0
+        (option_map date_and_time result.1) }
 {
     match parsed {
         Ok((value, to)) => (Reading::Value(found_at(&value, from, to)), Some(value)),
@@ -265,7 +266,8 @@ impl Reader<'_> {
     pub fn parse(&self, head: &[u8]) -> (Reading, Option<DateTime>)
         ensures read { result.0 ≡ read self.now head.now }
         ensures within { IsReadWithin result.0 head.now }
-        ensures value { IsParsed (value_of self.now head.now) result.0 result.1 }
+        ensures value { IsParsed (value_of self.now head.now) result.0
+            (option_map date_and_time result.1) }
     {
         match self.place {
             Place::Front => self.parse_from(head, Some(bracket_length(seen(head)))),
@@ -281,7 +283,7 @@ impl Reader<'_> {
         ensures read { result.0 ≡ read_from self.now head.now start }
         ensures within { IsReadWithin result.0 head.now }
         ensures value { IsParsed (λ found. value_at self.now head.now found.from)
-            result.0 result.1 }
+            result.0 (option_map date_and_time result.1) }
     {
         let text = seen(head);
         let Some(start) = start else {
@@ -300,7 +302,7 @@ impl Reader<'_> {
         ensures read { result.0 ≡ read_field self.now head.now field }
         ensures within { IsReadWithin result.0 head.now }
         ensures value { IsParsed (λ found. value_between self.now head.now found.from found.to)
-            result.0 result.1 }
+            result.0 (option_map date_and_time result.1) }
     {
         match field {
             None => (without_field(head), None),
@@ -322,7 +324,7 @@ impl Reader<'_> {
         ensures read { result.0 ≡ read_whole self.now head.now field.now }
         ensures within { IsReadWithin result.0 head.now }
         ensures value { IsParsed (λ found. value_between self.now head.now found.from found.to)
-            result.0 result.1 }
+            result.0 (option_map date_and_time result.1) }
     {
         if !claims(&head[field.from..field.to]) {
             return (Reading::Undated(field.from), None);

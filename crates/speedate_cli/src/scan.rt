@@ -1,6 +1,8 @@
 //! What each line is to a command, and what is counted of the lines.
 
 ghost use Rattle.std.specs.Prelude.{◌≡◌, ◌+◌, ◌++◌, ◌≤◌, length, is_some};
+ghost use Rattle.std.specs.Option.{option_map};
+ghost use Rattle.speedate.specs.DateTime.{date_and_time};
 ghost use Rattle.speedate_stream.specs.Watch.{one_more};
 ghost use Rattle.speedate_cli.specs.Reading.{IsReadWithin, value_of};
 ghost use Rattle.speedate_cli.specs.Scan.{IsFoundWithin, IsLineParsed, has_offsets, is_counted, keeps};
@@ -222,7 +224,8 @@ impl Scan<'_> {
     pub fn line_with_value(&self, head: &[u8]) -> (Line, Option<DateTime>)
         ensures line { result.0 ≡ line_of self.now head.now }
         ensures within { IsFoundWithin result.0 head.now }
-        ensures value { IsLineParsed (value_of self.now.reader head.now) result.0 result.1 }
+        ensures value { IsLineParsed (value_of self.now.reader head.now) result.0
+            (option_map date_and_time result.1) }
     {
         if self.is_stopped() {
             return (Line::Late, None);
