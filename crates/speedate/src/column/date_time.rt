@@ -127,10 +127,10 @@ impl DateTimeReader {
     ghost use Rattle.speedate_civil.specs.DateTime.{utc_microsecond};
     ghost use Rattle.speedate.specs.Column.{as_number, date_time_number, text_behavior, with_offset};
 
-    /// The number of a line. Its text is parsed at one place for all parsers, since the compiler copies the
-    /// parser into the loop.
+    /// The number of a line, by a copy of the parser. The text is parsed at one place, whatever else is
+    /// required, since the compiler copies that into the loop.
     #[inline(always)]
-    fn number_of(&self, line: &[u8]) -> Result<i64, LineError>
+    fn number_of<const COPY: u8>(&self, line: &[u8]) -> Result<i64, LineError>
         ensures number { result ≡ date_time_number self.now line.now }
     {
         match DateTime::parse_bytes_rfc3339_with_config(line, &self.parser.text_config()) {
@@ -197,11 +197,11 @@ impl LineReader for DateTimeReader {
     ghost place = { λ reader line. date_time_place reader.parser line };
 
     fn number(&self, line: &[u8]) -> Result<i64, LineError> {
-        self.number_of(line)
+        self.number_of::<0>(line)
     }
 
     fn text_number(&self, text: &[u8]) -> Result<i64, LineError> {
-        self.number_of(text)
+        self.number_of::<1>(text)
     }
 
     #[inline(always)]
