@@ -6,6 +6,7 @@ mod between;
 mod check;
 mod convert;
 mod field;
+mod merge;
 mod options;
 mod order;
 mod print;

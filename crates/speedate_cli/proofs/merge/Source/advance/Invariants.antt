@@ -1,0 +1,14 @@
+use Rattle.std.proofs.Common.{◌≡◌, IsSome}
+use Rattle.speedate_cli.specs.Merge.{unread}
+use Rattle.speedate_cli.proofs.merge.Source.advance.Given as goal
+
+-- the lines that were read so far are left out
+abbrev pub invariant-loop : goal.invariant-loop
+invariant-loop g l = record {
+  known : IsSome (g.R.Read.remaining l.initial.self.input)
+      → IsSome (g.R.Read.remaining l.self.input);
+  lines : IsSome (g.R.Read.remaining l.initial.self.input)
+      → unread (g.R.Read.remaining l.initial.self.input) l.initial.self.keys
+      ≡ unread (g.R.Read.remaining l.self.input) l.self.keys;
+  instant : l.self.keys.instant ≡ l.initial.self.keys.instant;
+}
