@@ -1,12 +1,13 @@
 -- The first of the least lines of files in order is the first of all lines in order.
-use Rattle.std.proofs.Common.{rules, ◌≡◌, ◌∙◌, ap, sym, subst, refl, ℕ, ℤ, zero, suc, ◌+◌, ◌-◌, ◌<◌, ◌≤◌, Bool, true, false, List, [], ◌∷◌, ◌++◌, length, get_or, set, arith, inl, inr, append_assoc, append-nil, Option, Some, None, if◌then◌else◌}
+use Rattle.std.proofs.Common.{rules, ◌≡◌, ◌∙◌, ap, sym, subst, refl, ℕ, ℤ, zero, suc, ◌+◌, ◌-◌, ◌<◌, ◌≤◌, ◌⊎◌, map, Bool, true, false, List, [], ◌∷◌, ◌++◌, length, get_or, set, arith, inl, inr, append_assoc, append-nil, Option, Some, None, if◌then◌else◌}
 use Rattle.std.specs.Prelude.{int_lt}
 use Rattle.std.specs.Ordering.{int_cmp, is_lt}
 use Rattle.std.proofs.lemmas.Cmp.{int_cmp_total}
 use Rattle.std.proofs.lemmas.Bool.{cases_Bool, false≢true, true≢false}
 use Rattle.std.proofs.lemmas.List.Sorted.{ranks_by}
 use Rattle.speedate_cli.specs.Sort.{Keyed, in_order, is_earlier_line, put_in_order, sorted_text, texts}
-use Rattle.speedate_cli.specs.Merge.{AreAllInOrder, AreInOrder, AreInOrderAfter, due, instant_of}
+use Rattle.speedate_cli.specs.Merge.{AreAllInOrder, AreInOrder, AreInOrderAfter, Best, best_from}
+use Rattle.speedate_cli.specs.Merge.{best_of, better, due, instant_of}
 use Rattle.speedate_cli.specs.Merge.{joined, line_and, merged_text, risen, risen_after, risen_joined}
 use Rattle.speedate_cli.proofs.OrderLemmas.{is_lt-int_cmp}
 
@@ -245,3 +246,207 @@ in_order-least zero x left (lines ∷ others) least ordered =
     (in_order-goes_on x lines left least.0 ordered.0, ordered.1)
 in_order-least (suc index) x left (lines ∷ others) least ordered =
     (ordered.0, in_order-least index x left others least.1 ordered.1)
+
+-- The best of sources.
+
+-- a file begins with a line of a value
+abbrev pub BeginsAt : ℤ → List Keyed → Type 0
+BeginsAt i [] = ⊥
+BeginsAt i (x ∷ xs) = x.instant ≡ i
+
+-- the file at an index begins with a value that is less than those of the files before it, and not
+-- after those of the files that follow
+abbrev pub IsFirst : ℕ → ℤ → List (List Keyed) → Type 0
+IsFirst index i [] = ⊥
+IsFirst zero i (lines ∷ others) = BeginsAt i lines × AllBeginNotBefore i others
+IsFirst (suc index) i (lines ∷ others) = BeginsAfter i lines × IsFirst index i others
+
+-- the value of the first line of a file
+abbrev pub first_instant : List Keyed → Option ℤ
+first_instant [] = None
+first_instant (x ∷ xs) = Some x.instant
+
+abbrev pub first_instants : List (List Keyed) → List (Option ℤ)
+first_instants files = map first_instant files
+
+-- a value is less than the best one so far
+abbrev IsBetter : ℤ → Option Best → Type 0
+IsBetter i None = Unit {0}
+IsBetter i (Some best) = int_lt i best.instant ≡ true
+
+-- the best of all is the best so far, or one of the files that follow
+abbrev Found : Option Best → ℕ → Best → List (List Keyed) → Type 0
+Found before index best files =
+    ((before ≡ Some best) × AllBeginNotBefore best.instant files)
+    ⊎ ((k : ℕ) × (best.index ≡ index + k) × IsFirst k best.instant files
+    × IsBetter best.instant before)
+
+found-none : (before : Option Best) (index : ℕ) (best : Best) (files : List (List Keyed))
+    → Found before (index + 1) best files → Found before index best ([] ∷ files)
+found-none before index best files found = elim found [
+  | inl same ↦ inl (same.0, (tt, same.1))
+  | inr new ↦ inr (suc new.0, omega (arith, new.1), (tt, new.2), new.3)
+]
+
+best_index : (a b : Best) → Some a ≡ Some b → a ≡ b
+best_index a b is = cc
+
+found-first : (index : ℕ) (best : Best) (x : Keyed) (xs : List Keyed)
+    (files : List (List Keyed))
+    → Found (Some (record { index = index; instant = x.instant })) (index + 1) best files
+    → Found None index best ((x ∷ xs) ∷ files)
+found-first index best x xs files found = elim found [
+  | inl same ↦
+      let is : record { index = index; instant = x.instant } ≡ best =
+      best_index (record { index = index; instant = x.instant }) best same.0 in
+      let place : index ≡ best.index = ap (λ (b : Best). b.index) is in
+      inr (0, omega (arith, place), (ap (λ (b : Best). b.instant) is, same.1), tt)
+  | inr new ↦ inr (suc new.0, omega (arith, new.1), (new.3, new.2), tt)
+]
+
+found-better : (before : Best) (index : ℕ) (best : Best) (x : Keyed) (xs : List Keyed)
+    (files : List (List Keyed)) → int_lt x.instant before.instant ≡ true
+    → Found (Some (record { index = index; instant = x.instant })) (index + 1) best files
+    → Found (Some before) index best ((x ∷ xs) ∷ files)
+found-better before index best x xs files less found = elim found [
+  | inl same ↦
+      let is : record { index = index; instant = x.instant } ≡ best =
+      best_index (record { index = index; instant = x.instant }) best same.0 in
+      let place : index ≡ best.index = ap (λ (b : Best). b.index) is in
+      let key : x.instant ≡ best.instant = ap (λ (b : Best). b.instant) is in
+      inr (0, omega (arith, place), (key, same.1),
+      ap (λ (n : ℤ). int_lt n before.instant) (sym key) ∙ less)
+  | inr new ↦ inr (suc new.0, omega (arith, new.1), (new.3, new.2),
+      less-chain best.instant x.instant before.instant new.3
+      (less-not_less x.instant before.instant less))
+]
+
+found-worse : (before : Best) (index : ℕ) (best : Best) (x : Keyed) (xs : List Keyed)
+    (files : List (List Keyed)) → int_lt x.instant before.instant ≡ false
+    → Found (Some before) (index + 1) best files
+    → Found (Some before) index best ((x ∷ xs) ∷ files)
+found-worse before index best x xs files after found = elim found [
+  | inl same ↦
+      let is = best_index before best same.0 in
+      inl (same.0,
+      (ap (λ (b : Best). int_lt x.instant b.instant) (sym is) ∙ after, same.1))
+  | inr new ↦ inr (suc new.0, omega (arith, new.1),
+      (less-chain best.instant before.instant x.instant new.3 after, new.2), new.3)
+]
+
+found-test : (test : Bool) (before : Best) (index : ℕ) (best : Best) (x : Keyed)
+    (xs : List Keyed) (files : List (List Keyed)) → int_lt x.instant before.instant ≡ test
+    → Found (if test then Some (record { index = index; instant = x.instant }) else Some before)
+    (index + 1) best files
+    → Found (Some before) index best ((x ∷ xs) ∷ files)
+found-test true before index best x xs files is found =
+    found-better before index best x xs files is found
+found-test false before index best x xs files is found =
+    found-worse before index best x xs files is found
+
+found : (before : Option Best) (index : ℕ) (best : Best) (files : List (List Keyed))
+    → best_from before index (first_instants files) ≡ Some best → Found before index best files
+found before index best [] is = inl (is, tt)
+found before index best ([] ∷ files) is =
+    found-none before index best files (found before (index + 1) best files is)
+found None index best ((x ∷ xs) ∷ files) is =
+    found-first index best x xs files
+    (found (Some (record { index = index; instant = x.instant })) (index + 1) best files is)
+found (Some before) index best ((x ∷ xs) ∷ files) is =
+    found-test (int_lt x.instant before.instant) before index best x xs files refl
+    (found (if int_lt x.instant before.instant
+    then Some (record { index = index; instant = x.instant }) else Some before)
+    (index + 1) best files is)
+
+-- the best of sources has the first of the least lines
+pub best-is_first : (best : Best) (files : List (List Keyed))
+    → best_of (first_instants files) ≡ Some best → IsFirst best.index best.instant files
+best-is_first best files is = elim (found None 0 best files is) [
+  | inl same ↦ absurd (none_some same.0)
+  | inr new ↦ subst (λ (k : ℕ). IsFirst k best.instant files) (omega (arith, new.1)) new.2
+]
+  where
+    none_some : {X : Type 0} {x : X} → None ≡ Some x → ⊥
+    none_some is = cc
+
+-- the files have no lines
+abbrev pub AreEmpty : List (List Keyed) → Type 0
+AreEmpty [] = Unit {0}
+AreEmpty (lines ∷ others) = (lines ≡ []) × AreEmpty others
+
+none-left : (before : Option Best) (index : ℕ) (files : List (List Keyed))
+    → best_from before index (first_instants files) ≡ None → (before ≡ None) × AreEmpty files
+none-left before index [] is = (is, tt)
+none-left before index ([] ∷ files) is =
+    let rest = none-left before (index + 1) files is in (rest.0, (refl, rest.1))
+none-left None index ((x ∷ xs) ∷ files) is =
+    let rest = none-left (Some (record { index = index; instant = x.instant })) (index + 1) files
+    is in absurd (some_none rest.0)
+  where
+    some_none : {X : Type 0} {x : X} → Some x ≡ None → ⊥
+    some_none is = cc
+none-left (Some before) index ((x ∷ xs) ∷ files) is =
+    absurd (at (int_lt x.instant before.instant)
+    (none-left (better (Some before) index (Some x.instant)) (index + 1) files is).0)
+  where
+    at : (test : Bool)
+        → (if test then Some (record { index = index; instant = x.instant }) else Some before)
+        ≡ None → ⊥
+    at true is = cc
+    at false is = cc
+
+empty-joined : (files : List (List Keyed)) → AreEmpty files → risen_joined files ≡ []
+empty-joined [] are = refl
+empty-joined (lines ∷ others) are =
+    ap (λ (l : List Keyed). risen l ++ risen_joined others) are.0 ∙ empty-joined others are.1
+
+empty-in_order : (files : List (List Keyed)) → AreEmpty files → AreAllInOrder files
+empty-in_order [] are = tt
+empty-in_order (lines ∷ others) are =
+    (subst AreInOrder (sym are.0) tt, empty-in_order others are.1)
+
+-- nothing is left to be printed
+pub due-none : (files : List (List Keyed)) → best_of (first_instants files) ≡ None
+    → (due files ≡ []) × AreAllInOrder files
+due-none files is =
+    let are = (none-left None 0 files is).1 in
+    (ap sorted_text (empty-joined files are), empty-in_order files are)
+
+-- the least one, by the file at its index
+least-from_first : (index : ℕ) (x : Keyed) (i : ℤ) (left : List Keyed)
+    (files : List (List Keyed)) → IsFirst index i files → get_or files index [] ≡ x ∷ left
+    → x.instant ≡ i → BeginsNotBefore i left
+    → IsLeast index x left files
+least-from_first index x i left [] first is same begins = absurd first
+least-from_first zero x i left (lines ∷ others) first is same begins = (
+  (is, subst (λ (n : ℤ). BeginsNotBefore n left) (sym same) begins),
+  subst (λ (n : ℤ). AllBeginNotBefore n others) (sym same) first.1,
+)
+least-from_first (suc index) x i left (lines ∷ others) first is same begins = (
+  subst (λ (n : ℤ). BeginsAfter n lines) (sym same) first.0,
+  least-from_first index x i left others first.1 is same begins,
+)
+
+begins-at : (index : ℕ) (i : ℤ) (files : List (List Keyed)) → IsFirst index i files
+    → BeginsAt i (get_or files index [])
+begins-at index i [] first = absurd first
+begins-at zero i (lines ∷ others) first = first.0
+begins-at (suc index) i (lines ∷ others) first = begins-at index i others first.1
+
+-- the line of the best source is printed, and the next one of its file is read
+pub due-step : (best : Best) (instant : ℤ) (line : List ℕ) (rest left : List Keyed)
+    (files : List (List Keyed)) → IsFirst best.index best.instant files
+    → get_or files best.index [] ≡ line_and instant line rest
+    → rest ≡ left → BeginsNotBefore instant left
+    → (due files ≡ line ++ due (set files best.index left))
+    × (AreAllInOrder (set files best.index left) → AreAllInOrder files)
+due-step best instant [] rest left files first is same begins =
+    absurd (subst (BeginsAt best.instant) is (begins-at best.index best.instant files first))
+due-step best instant (byte ∷ bytes) rest left files first is same begins =
+    let x : Keyed = record { instant = instant; text = byte ∷ bytes } in
+    let key : instant ≡ best.instant =
+    subst (BeginsAt best.instant) is (begins-at best.index best.instant files first) in
+    let least = least-from_first best.index x best.instant left files first
+    (is ∙ ap (λ (l : List Keyed). x ∷ l) same) key
+    (subst (λ (n : ℤ). BeginsNotBefore n left) key begins) in
+    (due-least best.index x left files least, in_order-least best.index x left files least)
