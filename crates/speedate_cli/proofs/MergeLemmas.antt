@@ -185,19 +185,45 @@ risen_joined-not_before i (lines ∷ others) begin =
     AreNotBefore-append i (risen lines) (risen_joined others)
     (risen-begins_not_before i lines begin.0) (risen_joined-not_before i others begin.1)
 
--- what is left of a file after its first line
-abbrev pub GoesOn : Keyed → List Keyed → List Keyed → Type 0
-GoesOn x lines left = (lines ≡ x ∷ left) × BeginsNotBefore x.instant left
+risen_after-test : (i : ℤ) (x : Keyed) (xs : List Keyed) (test : Bool)
+    → int_lt x.instant i ≡ test
+    → risen_after i (x ∷ xs) ≡ (if test then [] else x ∷ risen_after x.instant xs)
+risen_after-test i x xs test is =
+    ap (λ (t : Bool). if t then [] else x ∷ risen_after x.instant xs) is
 
 risen_after-risen : (i : ℤ) (xs : List Keyed) → BeginsNotBefore i xs → risen_after i xs ≡ risen xs
 risen_after-risen i [] begins = refl
-risen_after-risen i (x ∷ xs) begins =
-    ap (λ (test : Bool). if test then [] else x ∷ risen_after x.instant xs) begins
+risen_after-risen i (x ∷ xs) begins = risen_after-test i x xs false begins
 
-risen-goes_on : (x : Keyed) (lines left : List Keyed) → GoesOn x lines left
-    → risen lines ≡ x ∷ risen left
-risen-goes_on x lines left on =
-    ap risen on.0 ∙ ap (λ (l : List Keyed). x ∷ l) (risen_after-risen x.instant left on.1)
+risen_after-begins : (i : ℤ) (xs : List Keyed) → BeginsNotBefore i (risen_after i xs)
+risen_after-begins i [] = tt
+risen_after-begins i (x ∷ xs) = elim (cases_Bool (int_lt x.instant i)) [
+  | inl less ↦ subst (BeginsNotBefore i) (sym (risen_after-test i x xs true less)) tt
+  | inr after ↦ subst (BeginsNotBefore i) (sym (risen_after-test i x xs false after)) after
+]
+
+-- what was cut once is not cut again
+risen_after-twice : (i : ℤ) (xs : List Keyed) → risen_after i (risen_after i xs) ≡ risen_after i xs
+risen_after-twice i [] = refl
+risen_after-twice i (x ∷ xs) = elim (cases_Bool (int_lt x.instant i)) [
+  | inl less ↦
+      subst (λ (l : List Keyed). risen_after i l ≡ l)
+      (sym (risen_after-test i x xs true less)) refl
+  | inr after ↦
+      subst (λ (l : List Keyed). risen_after i l ≡ l)
+      (sym (risen_after-test i x xs false after))
+      (risen_after-test i x (risen_after x.instant xs) false after
+      ∙ ap (λ (l : List Keyed). x ∷ l) (risen_after-twice x.instant xs))
+]
+
+risen-cut : (i : ℤ) (xs : List Keyed) → risen_after i xs ≡ risen (risen_after i xs)
+risen-cut i xs =
+    sym (risen_after-twice i xs)
+    ∙ risen_after-risen i (risen_after i xs) (risen_after-begins i xs)
+
+-- what is left of a file after its first line
+abbrev pub GoesOn : Keyed → List Keyed → List Keyed → Type 0
+GoesOn x lines left = (risen lines ≡ x ∷ risen left) × BeginsNotBefore x.instant left
 
 -- of the file at an index the first line is less than those of the files before it, and not after
 -- those of the files that follow
@@ -214,7 +240,7 @@ least_after : (index : ℕ) (x : Keyed) (left before : List Keyed) (files : List
 least_after index x left before [] after least = absurd least
 least_after zero x left before (lines ∷ others) after least =
     ap (λ (l : List Keyed). in_order is_earlier_line (before ++ (l ++ risen_joined others)))
-    (risen-goes_on x lines left least.0)
+    least.0.0
     ∙ least-first before x (risen left ++ risen_joined others) after
     (AreNotBefore-append x.instant (risen left) (risen_joined others)
     (risen-begins_not_before x.instant left least.0.1)
@@ -233,19 +259,22 @@ pub due-least : (index : ℕ) (x : Keyed) (left : List Keyed) (files : List (Lis
     → IsLeast index x left files → due files ≡ x.text ++ due (set files index left)
 due-least index x left files least = ap texts (least_after index x left [] files tt least)
 
-in_order-goes_on : (x : Keyed) (lines left : List Keyed) → GoesOn x lines left → AreInOrder left
-    → AreInOrder lines
-in_order-goes_on x lines [] on ordered = subst AreInOrder (sym on.0) tt
-in_order-goes_on x lines (y ∷ ys) on ordered = subst AreInOrder (sym on.0) (on.1, ordered)
+in_order-goes_on : (x : Keyed) (left : List Keyed) → BeginsNotBefore x.instant left
+    → AreInOrder left → AreInOrder (x ∷ left)
+in_order-goes_on x [] begins ordered = tt
+in_order-goes_on x (y ∷ ys) begins ordered = (begins, ordered)
 
 -- the files are in order if they are after a line was printed
-pub in_order-least : (index : ℕ) (x : Keyed) (left : List Keyed) (files : List (List Keyed))
-    → IsLeast index x left files → AreAllInOrder (set files index left) → AreAllInOrder files
-in_order-least index x left [] least ordered = tt
-in_order-least zero x left (lines ∷ others) least ordered =
-    (in_order-goes_on x lines left least.0 ordered.0, ordered.1)
-in_order-least (suc index) x left (lines ∷ others) least ordered =
-    (ordered.0, in_order-least index x left others least.1 ordered.1)
+in_order-step : (index : ℕ) (x : Keyed) (left : List Keyed) (files : List (List Keyed))
+    → get_or files index [] ≡ x ∷ left → BeginsNotBefore x.instant left
+    → AreAllInOrder (set files index left) → AreAllInOrder files
+in_order-step index x left [] is begins ordered = tt
+in_order-step zero x left (lines ∷ others) is begins ordered = (
+  subst AreInOrder (sym is) (in_order-goes_on x left begins ordered.0),
+  ordered.1,
+)
+in_order-step (suc index) x left (lines ∷ others) is begins ordered =
+    (ordered.0, in_order-step index x left others is begins ordered.1)
 
 -- The best of sources.
 
@@ -413,18 +442,18 @@ due-none files is =
     (ap sorted_text (empty-joined files are), empty-in_order files are)
 
 -- the least one, by the file at its index
-least-from_first : (index : ℕ) (x : Keyed) (i : ℤ) (left : List Keyed)
-    (files : List (List Keyed)) → IsFirst index i files → get_or files index [] ≡ x ∷ left
-    → x.instant ≡ i → BeginsNotBefore i left
+least-from_first : (index : ℕ) (x : Keyed) (i : ℤ) (rest left : List Keyed)
+    (files : List (List Keyed)) → IsFirst index i files → get_or files index [] ≡ x ∷ rest
+    → x.instant ≡ i → risen_after x.instant rest ≡ risen left → BeginsNotBefore x.instant left
     → IsLeast index x left files
-least-from_first index x i left [] first is same begins = absurd first
-least-from_first zero x i left (lines ∷ others) first is same begins = (
-  (is, subst (λ (n : ℤ). BeginsNotBefore n left) (sym same) begins),
+least-from_first index x i rest left [] first is same on begins = absurd first
+least-from_first zero x i rest left (lines ∷ others) first is same on begins = (
+  (ap risen is ∙ ap (λ (l : List Keyed). x ∷ l) on, begins),
   subst (λ (n : ℤ). AllBeginNotBefore n others) (sym same) first.1,
 )
-least-from_first (suc index) x i left (lines ∷ others) first is same begins = (
+least-from_first (suc index) x i rest left (lines ∷ others) first is same on begins = (
   subst (λ (n : ℤ). BeginsAfter n lines) (sym same) first.0,
-  least-from_first index x i left others first.1 is same begins,
+  least-from_first index x i rest left others first.1 is same on begins,
 )
 
 begins-at : (index : ℕ) (i : ℤ) (files : List (List Keyed)) → IsFirst index i files
@@ -432,6 +461,22 @@ begins-at : (index : ℕ) (i : ℤ) (files : List (List Keyed)) → IsFirst inde
 begins-at index i [] first = absurd first
 begins-at zero i (lines ∷ others) first = first.0
 begins-at (suc index) i (lines ∷ others) first = begins-at index i others first.1
+
+-- the line of the best source is printed first
+pub due-line : (best : Best) (instant : ℤ) (line : List ℕ) (rest : List Keyed)
+    (files : List (List Keyed)) → IsFirst best.index best.instant files
+    → get_or files best.index [] ≡ line_and instant line rest
+    → (left : List ℕ) × (due files ≡ line ++ left)
+due-line best instant [] rest files first is =
+    absurd (subst (BeginsAt best.instant) is (begins-at best.index best.instant files first))
+due-line best instant (byte ∷ bytes) rest files first is =
+    let x : Keyed = record { instant = instant; text = byte ∷ bytes } in
+    let key : instant ≡ best.instant =
+    subst (BeginsAt best.instant) is (begins-at best.index best.instant files first) in
+    let left : List Keyed = risen_after instant rest in
+    let least = least-from_first best.index x best.instant rest left files first is key
+    (risen-cut instant rest) (risen_after-begins instant rest) in
+    (due (set files best.index left), due-least best.index x left files least)
 
 -- the line of the best source is printed, and the next one of its file is read
 pub due-step : (best : Best) (instant : ℤ) (line : List ℕ) (rest left : List Keyed)
@@ -446,7 +491,9 @@ due-step best instant (byte ∷ bytes) rest left files first is same begins =
     let x : Keyed = record { instant = instant; text = byte ∷ bytes } in
     let key : instant ≡ best.instant =
     subst (BeginsAt best.instant) is (begins-at best.index best.instant files first) in
-    let least = least-from_first best.index x best.instant left files first
-    (is ∙ ap (λ (l : List Keyed). x ∷ l) same) key
-    (subst (λ (n : ℤ). BeginsNotBefore n left) key begins) in
-    (due-least best.index x left files least, in_order-least best.index x left files least)
+    let next : get_or files best.index [] ≡ x ∷ left =
+    is ∙ ap (λ (l : List Keyed). x ∷ l) same in
+    let least = least-from_first best.index x best.instant left left files first next key
+    (risen_after-risen instant left begins) begins in
+    (due-least best.index x left files least,
+    in_order-step best.index x left files next begins)

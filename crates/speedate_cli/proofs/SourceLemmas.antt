@@ -1,23 +1,31 @@
 -- The lines of a source, read one by one.
-use Rattle.std.proofs.Common.{rules, ◌≡◌, ◌≢◌, ◌∙◌, ◌⊎◌, ap, sym, subst, refl, ℕ, ℤ, ◌+◌, ◌-◌, ◌<◌, ◌≤◌, Bool, true, false, ◌==◌, List, [], ◌∷◌, ◌++◌, length, take, get_or, slice_index, All, arith, inl, inr, append-nil, Option, Some, None, is_some, IfSome, IsSome, if◌then◌else◌}
-use Rattle.std.specs.Prelude.{int_lt}
+use Rattle.std.proofs.Common.{rules, ◌≡◌, ◌≢◌, ◌∙◌, ◌⊎◌, ap, sym, subst, refl, ℕ, ℤ, zero, suc, ◌+◌, ◌-◌, ◌<◌, ◌≤◌, Bool, true, false, ◌==◌, List, [], ◌∷◌, ◌++◌, length, take, get_or, slice_index, All, arith, inl, inr, append-nil, map, set, Option, Some, None, is_some, IfSome, IsSome, if◌then◌else◌}
+use Rattle.std.specs.Prelude.{int_lt, slice_get}
+use Rattle.std.specs.Io.KnownBytes.{Appends, Keeps}
 use Rattle.std.specs.Io.BufRead.{DropsThrough, drop_through, take_through}
 use Rattle.std.proofs.lemmas.Bool.{cases_Bool, eq-eqb, eqb-false, eqb-true, false≢true, ne_eqb, true≢false}
-use Rattle.std.proofs.lemmas.List.{length-append, take-append-le, take_all}
-use Rattle.std.proofs.lemmas.List.Elements.{All-cons, All-get_or, All-nil}
+use Rattle.std.proofs.lemmas.List.{get_or-map, length-append, map-set}
+use Rattle.std.proofs.lemmas.List.Elements.{All-cons, All-get_or, All-nil, All-set}
 use Rattle.std.proofs.Math.Seq.{get_or-append_seam, take-append_seam}
 use Rattle.speedate.specs.Ascii.{line_feed}
 use Rattle.speedate.specs.Lines.{Pieces, complete_lines, last_line, lines, onto_first, pieces}
 use Rattle.speedate.specs.Lines.{unfinished_line}
 use Rattle.speedate.proofs.LineLemmas.{EndsNoLine, IsFree}
 use Rattle.speedate_stream.specs.Machine.{head}
+use Rattle.speedate_stream.specs.Run.{AppendsBut}
+use Rattle.speedate_stream.proofs.SentLemmas.{Appends-all, AppendsBut-kept, AppendsBut-more}
+use Rattle.speedate_stream.proofs.SentLemmas.{AppendsBut-same, AppendsBut-trans}
 use Rattle.speedate_cli.specs.Scan.{Line, keeps, line_of}
 use Rattle.speedate_cli.specs.Sort.{Keyed, Keys, file_lines, instant_after, kept_instant, key_after}
 use Rattle.speedate_cli.specs.Sort.{key_of}
 use Rattle.speedate_cli.specs.Merge.{Moves, ReadsLine, bare, bytes_of, ended, line_and, lines_left}
 use Rattle.speedate_cli.specs.Merge.{unread, with_feed}
+use Rattle.speedate_cli.specs.Merge.{AreAllInOrder, AreKnown, Best, Halt, IsLate, IsLateIn, Source}
+use Rattle.speedate_cli.specs.Merge.{Halted, Merges, best_of, due, files_left, instant_of}
+use Rattle.speedate_cli.specs.Merge.{instants, merged_text}
 use Rattle.speedate_cli.proofs.SortLemmas.{file_lines-cons, no-line, one-line}
-use Rattle.speedate_cli.proofs.MergeLemmas.{int_not_less}
+use Rattle.speedate_cli.proofs.MergeLemmas.{BeginsNotBefore, IsFirst, best-is_first, due-all, due-line, due-none}
+use Rattle.speedate_cli.proofs.MergeLemmas.{due-step, first_instant, first_instants, int_not_less}
 
 -- The first line of a text.
 
@@ -274,3 +282,139 @@ moves-line first before after old keys new line reads some same instant is kept 
       ∙ ap (λ (now : Keys). lines_left after now line) (sym is);
   order = ap (λ (n : ℤ). int_lt new.instant n) (sym instant) ∙ order;
 }
+
+-- What is printed of sources.
+
+module _ {R : Type 0} (remaining : R → Option (List ℕ)) where
+  abbrev pub file_of : Source R → List Keyed
+  file_of source = lines_left (remaining source.input) source.keys source.line.items
+
+  first-file : (instant : ℤ) (line : List ℕ) (others : List Keyed)
+      → first_instant (line_and instant line others) ≡ instant_of instant line
+  first-file instant [] others = refl
+  first-file instant (byte ∷ bytes) others = refl
+
+  pub first-files : (sources : List (Source R))
+      → first_instants (files_left remaining sources) ≡ instants sources
+  first-files [] = refl
+  first-files (source ∷ sources) =
+      ap (λ (instant : Option ℤ). instant ∷ first_instants (files_left remaining sources))
+      (first-file source.keys.instant source.line.items
+      (unread (remaining source.input) source.keys))
+      ∙ ap (λ (l : List (Option ℤ)). instant_of source.keys.instant source.line.items ∷ l)
+      (first-files sources)
+
+  -- no source has a line
+  pub sources-none : (sources : List (Source R)) → best_of (instants sources) ≡ None
+      → (due (files_left remaining sources) ≡ [])
+      × AreAllInOrder (files_left remaining sources)
+  sources-none sources is =
+      due-none (files_left remaining sources) (ap best_of (first-files sources) ∙ is)
+
+  sources-first : (sources : List (Source R)) (best : Best)
+      → best_of (instants sources) ≡ Some best
+      → IsFirst best.index best.instant (files_left remaining sources)
+  sources-first sources best is =
+      best-is_first best (files_left remaining sources) (ap best_of (first-files sources) ∙ is)
+
+  file-at : (sources : List (Source R)) (index : ℕ) (source : Source R)
+      → index < length sources → source ≡ get_or sources index source
+      → get_or (files_left remaining sources) index [] ≡ file_of source
+  file-at sources index source below is =
+      get_or-map file_of sources index source [] below ∙ ap file_of (sym is)
+
+  -- the line of the best source is printed first
+  pub sources-line : (sources : List (Source R)) (best : Best) (source : Source R)
+      → best_of (instants sources) ≡ Some best → best.index < length sources
+      → source ≡ get_or sources best.index source
+      → (left : List ℕ) × (due (files_left remaining sources) ≡ source.line.items ++ left)
+  sources-line sources best source is below at =
+      due-line best source.keys.instant source.line.items
+      (unread (remaining source.input) source.keys) (files_left remaining sources)
+      (sources-first sources best is) (file-at sources best.index source below at)
+
+  begins-moves : (before : ℤ) (left : Option (List ℕ)) (keys : Keys) (line : List ℕ)
+      → int_lt keys.instant before ≡ false → BeginsNotBefore before (lines_left left keys line)
+  begins-moves before left keys [] order = tt
+  begins-moves before left keys (byte ∷ bytes) order = order
+
+  -- the line of the best source is printed, and the next one of it is read
+  pub sources-step : (sources : List (Source R)) (best : Best) (source new : Source R)
+      → best_of (instants sources) ≡ Some best → best.index < length sources
+      → source ≡ get_or sources best.index source
+      → Moves (remaining source.input) (remaining new.input) source.keys new.keys new.line.items
+      → (due (files_left remaining sources)
+      ≡ source.line.items ++ due (files_left remaining (set sources best.index new)))
+      × (AreAllInOrder (files_left remaining (set sources best.index new))
+      → AreAllInOrder (files_left remaining sources))
+  sources-step sources best source new is below at moves =
+      let files : List (List Keyed) = files_left remaining sources in
+      let step = due-step best source.keys.instant source.line.items
+      (unread (remaining source.input) source.keys) (file_of new) files
+      (sources-first sources best is) (file-at sources best.index source below at) moves.lines
+      (begins-moves source.keys.instant (remaining new.input) new.keys new.line.items
+      moves.order) in
+      let same : files_left remaining (set sources best.index new)
+          ≡ set files best.index (file_of new) = map-set file_of sources best.index new in
+      (
+        step.0 ∙ ap (λ (l : List (List Keyed)). source.line.items ++ due l) (sym same),
+        λ ordered. step.1 (subst AreAllInOrder same ordered),
+      )
+
+  -- the bytes of a source are known
+  pub source-known : (sources : List (Source R)) (index : ℕ) (source : Source R)
+      → index < length sources → source ≡ get_or sources index source
+      → AreKnown remaining sources → IsSome (remaining source.input)
+  source-known sources index source below at known =
+      subst (λ (s : Source R). IsSome (remaining s.input)) (sym at)
+      (All-get_or (λ (s : Source R). IsSome (remaining s.input)) sources index source below known)
+
+  pub sources-known : (sources : List (Source R)) (index : ℕ) (new : Source R)
+      → IsSome (remaining new.input) → AreKnown remaining sources
+      → AreKnown remaining (set sources index new)
+  sources-known sources index new is known =
+      All-set (λ (s : Source R). IsSome (remaining s.input)) sources index new is known
+
+-- the source that is named
+instant-at : {R : Type 0} (sources : List (Source R)) (index : ℕ) (new : Source R)
+    → index < length sources
+    → slice_get (map (λ source. source.keys.instant) (set sources index new)) index
+    ≡ Some new.keys.instant
+instant-at [] index new below = absurd (omega (arith, below))
+instant-at (source ∷ sources) zero new below = refl
+instant-at (source ∷ sources) (suc index) new below =
+    instant-at sources index new (omega (arith, below))
+
+pub late-in : {R : Type 0} (halt : Halt) (sources : List (Source R)) (index : ℕ) (old : Keys)
+    (new : Source R) → index < length sources → IsLate halt old new.keys
+    → IsLateIn (record { index = index; halt = halt }) (set sources index new)
+late-in (Halt.Unread cause) sources index old new below late = tt
+late-in Halt.Bad sources index old new below late = tt
+late-in (Halt.Late before) sources index old new below late =
+    subst (λ (o : Option ℤ). IfSome o (λ instant. int_lt instant before.instant ≡ true))
+    (sym (instant-at sources index new below)) late.1
+
+-- The end of a merge.
+
+-- what waited was written
+pub merges-sent : {a b c d : Option (List ℕ)} {files : List (List Keyed)}
+    {waited waiting : List ℕ} {halted : Option Halted} → waited ≡ []
+    → (merges : Merges files a b waited waiting halted) → AppendsBut [] b c waiting → Keeps c d
+    → AppendsBut merges.left a d (due files)
+merges-sent {a = a} {d = d} {files = files} none merges sent kept =
+    subst (λ (l : List ℕ). AppendsBut merges.left a d (l ++ due files)) none
+    (AppendsBut-kept (AppendsBut-trans merges.sent (AppendsBut-more merges.left sent)) kept)
+
+-- the merge did not end before its inputs
+pub merges-all : {a b c : Option (List ℕ)} (d : Option (List ℕ)) {files : List (List Keyed)}
+    {waited waiting : List ℕ} {halted : Option Halted} → halted ≡ None → waited ≡ []
+    → (merges : Merges files a b waited waiting halted) → AppendsBut [] b c waiting → Keeps c d
+    → AreAllInOrder files × Appends a d (merged_text files)
+merges-all {a = a} d {files = files} is none merges sent kept =
+    let all = merges.all (ap is_some is) in
+    let written = merges-sent none merges sent kept in
+    (
+      all.1,
+      subst (Appends a d) (due-all files all.1)
+          (Appends-all (AppendsBut-same written all.0)),
+    )
