@@ -390,6 +390,7 @@ pub late-in : {R : Type 0} (halt : Halt) (sources : List (Source R)) (index : �
     → IsLateIn (record { index = index; halt = halt }) (set sources index new)
 late-in (Halt.Unread cause) sources index old new below late = tt
 late-in Halt.Bad sources index old new below late = tt
+late-in Halt.Unlike sources index old new below late = tt
 late-in (Halt.Late before) sources index old new below late =
     subst (λ (o : Option ℤ). IfSome o (λ instant. int_lt instant before.instant ≡ true))
     (sym (instant-at sources index new below)) late.1

@@ -1,8 +1,9 @@
 -- The command `merge`: the lines of files that are each in order.
-use Rattle.std.specs.Prelude.{◌≡◌, ℕ, ◌+◌, ◌-◌, ◌==◌, ℤ, Bool, true, false, List, [], ◌∷◌, ◌++◌, length, map, take, slice_index, int_lt, Option, Some, None, All, IfSome, IsNone, IsSome, slice_get, if◌then◌else◌}
+use Rattle.std.specs.Prelude.{◌≡◌, ℕ, ◌+◌, ◌-◌, ◌==◌, ℤ, Bool, true, false, not, List, [], ◌∷◌, ◌++◌, length, map, take, slice_index, int_lt, Option, Some, None, All, IfSome, IsNone, IsSome, slice_get, if◌then◌else◌}
 use Rattle.speedate.specs.Ascii.{line_feed}
 use Rattle.speedate.specs.Lines.{lines}
 use Rattle.speedate_stream.specs.Run.{AppendsBut}
+use Rattle.speedate_cli.specs.Scan.{Offsets}
 use Rattle.speedate_cli.specs.Sort.{Keyed, Keys, file_lines, sorted_text}
 pub use Rattle.speedate_cli.specs.declared.merge.Before.{Before}
 pub use Rattle.speedate_cli.specs.declared.merge.Best.{Best}
@@ -119,6 +120,17 @@ IsLate (Halt.Late before) old new =
     (before.instant ≡ old.instant) × (int_lt new.instant before.instant ≡ true)
 IsLate (Halt.Unread cause) old new = Unit {0}
 IsLate Halt.Bad old new = Unit {0}
+IsLate Halt.Unlike old new = Unit {0}
+
+-- one kind of values has offsets, and the other has none
+abbrev pub are_unlike : Offsets → Offsets → Bool
+are_unlike (Offsets.Only first) (Offsets.Only second) = if first then not second else second
+are_unlike (Offsets.Only first) Offsets.Any = false
+are_unlike (Offsets.Only first) Offsets.AsFirst = false
+are_unlike (Offsets.Only first) (Offsets.AsBounds second) = false
+are_unlike Offsets.Any second = false
+are_unlike Offsets.AsFirst second = false
+are_unlike (Offsets.AsBounds first) second = false
 
 -- The source with the least line.
 
@@ -170,6 +182,7 @@ IsLateAs (Halt.Late before) instant =
     IfSome instant (λ instant. int_lt instant before.instant ≡ true)
 IsLateAs (Halt.Unread cause) instant = Unit {0}
 IsLateAs Halt.Bad instant = Unit {0}
+IsLateAs Halt.Unlike instant = Unit {0}
 
 -- of the source that is named the last value is earlier than the value before it, if that ended the
 -- merge

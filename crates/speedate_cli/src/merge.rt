@@ -1,13 +1,15 @@
 //! The command `merge`: the lines of files that are each in order.
 
-ghost use Rattle.std.specs.Prelude.{◌≡◌, ◌<◌, ◌++◌, IfErr, IfOk, IfSome, IsNone, IsSome, None, Ok, OnErr, OnOk, is_some, length, true};
+ghost use Rattle.std.specs.Prelude.{◌≡◌, ◌<◌, ◌++◌, Err, IfErr, IfOk, IfSome, IsNone, IsSome, None, Ok, OnErr, OnOk, false, is_some, length, true};
 ghost use Rattle.std.specs.Io.KnownBytes.{Appends};
-ghost use Rattle.speedate_cli.specs.Merge.{AreAllInOrder, AreKnown, IsLate, IsLateIn, Merges, Moves};
-ghost use Rattle.speedate_cli.specs.Merge.{ReadsLine, best_of, better, due, ended, files_left};
-ghost use Rattle.speedate_cli.specs.Merge.{instant_of, instants, merged_text};
+ghost use Rattle.speedate_cli.specs.Merge.{AreAllInOrder, AreKnown, Halt, IsLate, IsLateIn, Merges};
+ghost use Rattle.speedate_cli.specs.Merge.{Moves, ReadsLine, are_unlike, best_of, better, due, ended};
+ghost use Rattle.speedate_cli.specs.Merge.{files_left, instant_of, instants, merged_text};
+ghost use Rattle.speedate_cli.specs.Scan.{is_stopped};
 ghost use Rattle.speedate_cli.specs.Sort.{key_after, key_of};
 ghost use Rattle.speedate_stream.specs.Run.{AppendsBeginning, OnlyWrites};
 
+use crate::scan::Offsets;
 use crate::sort::{Keys, Unread};
 use speedate_stream::run::{head, pass, send};
 use speedate_stream::{Failed, Pending, Watched};
@@ -32,6 +34,8 @@ pub enum Halt {
     Bad,
     /// A value is less than the one before it.
     Late(Before),
+    /// The first value has an offset, and those of other sources have none, or the other way round.
+    Unlike,
 }
 
 /// A source that may have the least line.
@@ -128,12 +132,46 @@ impl<'a, R> Source<'a, R> {
 }
 
 impl<R: BufRead> Source<'_, R> {
-    /// Reads up to the next line that is not left out.
-    pub fn advance(&mut self) -> Result<(), Halt>
+    /// Reads up to the next line that is not left out. Its value is to have an offset as those of the
+    /// other sources have one, which the first value of them all decides.
+    ///
+    /// The lines of the source end before its input if a read fails or memory runs out, after a bad
+    /// value if that is to end the run, at a value that is less than the one before it, and at one
+    /// that is unlike those of the others.
+    pub fn next(&mut self, offsets: &mut Offsets) -> Result<(), Halt>
         ensures moves { OnOk result (IsSome (R.remaining self.old.input) →
             Moves (R.remaining self.old.input) (R.remaining self.new.input)
             self.old.keys self.new.keys self.new.line.items) }
         ensures late { IfErr result (λ halt. IsLate halt self.old.keys self.new.keys) }
+        // A bad value that is to end the run has ended it.
+        ensures stopped { OnOk result (is_stopped self.old.keys.scan.stop ≡ false →
+            is_stopped self.new.keys.scan.stop ≡ false) }
+        ensures unlike { result ≡ Err Halt.Unlike →
+            are_unlike offsets.old self.new.keys.scan.offsets ≡ true }
+    {
+        match self.advance() {
+            Ok(()) => {}
+            Err(halt) => return Err(halt),
+        }
+        let own = self.keys.scan.offsets;
+        if is_unlike(*offsets, own) {
+            return Err(Halt::Unlike);
+        }
+        if !matches!(offsets, Offsets::Only(_)) {
+            *offsets = own;
+        }
+        Ok(())
+    }
+
+    /// Reads up to the next line that is not left out.
+    fn advance(&mut self) -> Result<(), Halt>
+        ensures moves { OnOk result (IsSome (R.remaining self.old.input) →
+            Moves (R.remaining self.old.input) (R.remaining self.new.input)
+            self.old.keys self.new.keys self.new.line.items) }
+        ensures late { IfErr result (λ halt. IsLate halt self.old.keys self.new.keys) }
+        ensures stopped { OnOk result (is_stopped self.old.keys.scan.stop ≡ false →
+            is_stopped self.new.keys.scan.stop ≡ false) }
+        ensures alike { result ≡ Err Halt.Unlike → ⊥ }
     {
         for _ in 0..u64::MAX {
             if let Err(unread) = read_line(&mut self.input, &mut self.line) {
@@ -194,9 +232,20 @@ fn choose<R>(sources: &[Source<'_, R>]) -> Option<Best>
     best
 }
 
+/// Whether one kind of values has offsets, and the other has none.
+fn is_unlike(first: Offsets, second: Offsets) -> bool
+    ensures { result ≡ are_unlike first second }
+{
+    match (first, second) {
+        (Offsets::Only(first), Offsets::Only(second)) => first != second,
+        _ => false,
+    }
+}
+
 /// Prints the line of a source, and reads up to the next one that is not left out.
 fn step<R: BufRead, W: Write>(
     source: &mut Source<'_, R>,
+    offsets: &mut Offsets,
     pending: &mut Pending,
     output: &mut Watched<W>,
 ) -> Result<Option<Halt>, Failed>
@@ -209,7 +258,7 @@ fn step<R: BufRead, W: Write>(
         IsLate halt source.old.keys source.new.keys)) }
 {
     pass(&source.line, pending, output)?;
-    Ok(match source.advance() {
+    Ok(match source.next(offsets) {
         Ok(()) => None,
         Err(halt) => Some(halt),
     })
@@ -218,6 +267,7 @@ fn step<R: BufRead, W: Write>(
 /// Prints the lines of sources in the order of their values, up to the first line that is out of order.
 fn merge_lines<R: BufRead, W: Write>(
     sources: &mut [Source<'_, R>],
+    offsets: &mut Offsets,
     pending: &mut Pending,
     output: &mut Watched<W>,
 ) -> Result<Option<Halted>, Failed>
@@ -234,7 +284,7 @@ fn merge_lines<R: BufRead, W: Write>(
         let Some(best) = choose(sources) else {
             return Ok(None);
         };
-        if let Some(halt) = step(&mut sources[best.index], pending, output)? {
+        if let Some(halt) = step(&mut sources[best.index], offsets, pending, output)? {
             return Ok(Some(Halted {
                 index: best.index,
                 halt,
@@ -255,6 +305,7 @@ fn merge_lines<R: BufRead, W: Write>(
 /// the flush fails.
 pub fn merge<R: BufRead, W: Write>(
     sources: &mut [Source<'_, R>],
+    mut offsets: Offsets,
     output: &mut Watched<W>,
 ) -> Result<Option<Halted>, Failed>
     // The lines of each source are in order, and what was written are the lines in the order of their
@@ -273,7 +324,7 @@ pub fn merge<R: BufRead, W: Write>(
     ensures flushed { OnOk result (output.new.flushed ≡ true) }
 {
     let mut pending = Pending::new();
-    let halted = merge_lines(sources, &mut pending, output)?;
+    let halted = merge_lines(sources, &mut offsets, &mut pending, output)?;
     send(&mut pending, output)?;
     output.flush()?;
     Ok(halted)

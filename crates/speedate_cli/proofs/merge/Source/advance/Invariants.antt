@@ -1,4 +1,5 @@
-use Rattle.std.proofs.Common.{◌≡◌, IsSome}
+use Rattle.std.proofs.Common.{◌≡◌, IsSome, false}
+use Rattle.speedate_cli.specs.Scan.{is_stopped}
 use Rattle.speedate_cli.specs.Merge.{unread}
 use Rattle.speedate_cli.proofs.merge.Source.advance.Given as goal
 
@@ -10,5 +11,7 @@ invariant-loop g l = record {
   lines : IsSome (g.R.Read.remaining l.initial.self.input)
       → unread (g.R.Read.remaining l.initial.self.input) l.initial.self.keys
       ≡ unread (g.R.Read.remaining l.self.input) l.self.keys;
+  stopped : is_stopped l.initial.self.keys.scan.stop ≡ false
+      → is_stopped l.self.keys.scan.stop ≡ false;
   instant : l.self.keys.instant ≡ l.initial.self.keys.instant;
 }
