@@ -5,10 +5,12 @@ use Rattle.std.specs.Ordering.{int_cmp, is_lt}
 use Rattle.std.proofs.lemmas.Cmp.{int_cmp_total}
 use Rattle.std.proofs.lemmas.Bool.{cases_Bool, false≢true, true≢false}
 use Rattle.std.proofs.lemmas.List.Sorted.{ranks_by}
-use Rattle.speedate_cli.specs.Sort.{Keyed, in_order, is_earlier_line, put_in_order, sorted_text, texts}
+use Rattle.speedate_cli.specs.Sort.{Keyed, in_order, is_earlier_line, put_in_order, sorted_text}
+use Rattle.speedate_cli.specs.Sort.{texts}
 use Rattle.speedate_cli.specs.Merge.{AreAllInOrder, AreInOrder, AreInOrderAfter, Best, best_from}
 use Rattle.speedate_cli.specs.Merge.{best_of, better, due, instant_of}
-use Rattle.speedate_cli.specs.Merge.{joined, line_and, merged_text, risen, risen_after, risen_joined}
+use Rattle.speedate_cli.specs.Merge.{joined, line_and, merged_text, risen, risen_after}
+use Rattle.speedate_cli.specs.Merge.{risen_joined}
 use Rattle.speedate_cli.proofs.OrderLemmas.{is_lt-int_cmp}
 
 -- Numbers.

@@ -24,8 +24,9 @@ use Rattle.speedate_cli.specs.Merge.{AreAllInOrder, AreKnown, Best, Halt, IsLate
 use Rattle.speedate_cli.specs.Merge.{Halted, Merges, best_of, due, files_left, instant_of}
 use Rattle.speedate_cli.specs.Merge.{instants, merged_text}
 use Rattle.speedate_cli.proofs.SortLemmas.{file_lines-cons, no-line, one-line}
-use Rattle.speedate_cli.proofs.MergeLemmas.{BeginsNotBefore, IsFirst, best-is_first, due-all, due-line, due-none}
-use Rattle.speedate_cli.proofs.MergeLemmas.{due-step, first_instant, first_instants, int_not_less}
+use Rattle.speedate_cli.proofs.MergeLemmas.{BeginsNotBefore, IsFirst, best-is_first, due-all}
+use Rattle.speedate_cli.proofs.MergeLemmas.{due-line, due-none, due-step, first_instant}
+use Rattle.speedate_cli.proofs.MergeLemmas.{first_instants, int_not_less}
 
 -- The first line of a text.
 

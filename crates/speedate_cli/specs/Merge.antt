@@ -168,8 +168,8 @@ files_left remaining sources =
 abbrev pub AreKnown : {R : Type 0} → (R → Option (List ℕ)) → List (Source R) → Type 0
 AreKnown remaining sources = All (λ source. IsSome (remaining source.input)) sources
 
--- what is printed of files was written, but for what waits and what is left of it; nothing is if the
--- merge did not end before, and then the files are in order
+-- what is printed of files was written, but for what waits and what is left of it; nothing is left
+-- if the merge did not end before, and then the files are in order
 pub record Merges (files : List (List Keyed)) (before after : Option (List ℕ))
     (waited waiting : List ℕ) (halted : Option Halted) : Type 0 where
   pub left : List ℕ

@@ -143,7 +143,8 @@ impl<R: BufRead> Source<'_, R> {
             Moves (R.remaining self.old.input) (R.remaining self.new.input)
             self.old.keys self.new.keys self.new.line.items) }
         ensures late { IfErr result (λ halt. IsLate halt self.old.keys self.new.keys) }
-        // A bad value that is to end the run has ended it.
+        // A bad value that is to end the run ends the lines, and nothing else does so.
+        ensures bad { result ≡ Err Halt.Bad → is_stopped self.new.keys.scan.stop ≡ true }
         ensures stopped { OnOk result (is_stopped self.old.keys.scan.stop ≡ false →
             is_stopped self.new.keys.scan.stop ≡ false) }
         ensures unlike { result ≡ Err Halt.Unlike →
@@ -171,6 +172,7 @@ impl<R: BufRead> Source<'_, R> {
         ensures late { IfErr result (λ halt. IsLate halt self.old.keys self.new.keys) }
         ensures stopped { OnOk result (is_stopped self.old.keys.scan.stop ≡ false →
             is_stopped self.new.keys.scan.stop ≡ false) }
+        ensures bad { result ≡ Err Halt.Bad → is_stopped self.new.keys.scan.stop ≡ true }
         ensures alike { result ≡ Err Halt.Unlike → ⊥ }
     {
         for _ in 0..u64::MAX {

@@ -5,7 +5,7 @@ use super::sorted::Breaking;
 use super::words_of;
 use crate::merge::{Before, Halt, Halted, Source as FileSource, merge};
 use crate::scan::Offsets;
-use crate::sort::Unread;
+use crate::sort::{Keys, Unread};
 use crate::{first_merge, options};
 use speedate_stream::{Failed, Watched};
 use std::alloc::AllocError;
@@ -136,27 +136,45 @@ fn merged<R: AllocGlobal + Abort, I: Read + Drop>(
     let matches = matches.ok().expect(rt, words);
     let (_, given) = matches.subcommand().expect(rt, words);
     let keys = first_merge(given).ok().expect(rt, words);
-    let first = BufReader::new(rt.alloc(), first).ok().expect(rt, words);
+    Ok(merged_with(rt, keys, first, second, sink))
+}
+
+/// What a run leaves that a source ended before the merge.
+fn ended_at(index: usize, halt: Halt, sink: Sink) -> Ended {
+    Ended {
+        halted: Ok(Some(Halted { index, halt })),
+        taken: sink.taken,
+    }
+}
+
+/// A merge of two readers.
+fn merged_with<R: AllocGlobal + Abort, I: Read + Drop>(
+    rt: &R,
+    keys: Keys<'_>,
+    first: I,
+    second: I,
+    sink: Sink,
+) -> Ended {
+    let first = BufReader::new(rt.alloc(), first).ok().expect(rt, "merge");
     let second = BufReader::new(rt.alloc(), second)
         .ok()
-        .expect(rt, words);
-    let mut sources = [
-        FileSource::new(keys, first, rt.alloc()),
-        FileSource::new(keys, second, rt.alloc()),
-    ];
+        .expect(rt, "merge");
+    let mut first = FileSource::new(keys, first, rt.alloc());
+    let mut second = FileSource::new(keys, second, rt.alloc());
     let mut offsets = Offsets::AsFirst;
-    for index in 0..2 {
-        if let Err(halt) = sources[index].next(&mut offsets) {
-            return Ok(Ended {
-                halted: Ok(Some(Halted { index, halt })),
-                taken: sink.taken,
-            });
-        }
+    if let Err(halt) = first.next(&mut offsets) {
+        return ended_at(0, halt, sink);
     }
+    if let Err(halt) = second.next(&mut offsets) {
+        return ended_at(1, halt, sink);
+    }
+    let mut sources = Vec::new(rt.alloc());
+    sources.push(first).ok().expect(rt, "merge");
+    sources.push(second).ok().expect(rt, "merge");
     let mut output = Watched::new(sink);
     let halted = merge(&mut sources, offsets, &mut output);
     let taken = output.into_inner().taken;
-    Ok(Ended { halted, taken })
+    Ended { halted, taken }
 }
 
 #[test]

@@ -28,7 +28,8 @@ returns-in_err-flush-clause-beginning g c = λ known.
 pub returns-clause-merged : goal.returns-clause-merged
 returns-clause-merged g c = λ is known.
     let ended : c.in_ok-halted.halted ≡ None = cc in
-    merges-all (g.W.Write.contents c.flush.new.self.inner) ended c.new-pending.ensures.empty (c.in_ok-halted.ensures.merged known)
+    merges-all (g.W.Write.contents c.flush.new.self.inner) ended c.new-pending.ensures.empty
+    (c.in_ok-halted.ensures.merged known)
     c.in_ok-send.ensures.sent.writes.sent c.in_ok-flush.ensures.bytes
 
 pub returns-clause-beginning : goal.returns-clause-beginning

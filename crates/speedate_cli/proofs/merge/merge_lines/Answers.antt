@@ -65,7 +65,8 @@ loop-preserved g c =
     let source = get_or c.loop.sources best.index c.index-sources-best.result in
     let new = c.step.new.source in
     let waiting : List ℕ = c.loop.pending.items in
-    let is_known = λ (known : AreKnown g.R.Read.remaining c.args.sources.now). source-known g.R.Read.remaining c.loop.sources best.index source
+    let is_known = λ (known : AreKnown g.R.Read.remaining c.args.sources.now).
+    source-known g.R.Read.remaining c.loop.sources best.index source
     c.in-Some.ensures.within at (c.loop.invariant.known known) in
     let moves = λ (known : AreKnown g.R.Read.remaining c.args.sources.now).
     c.in_ok-halt.ensures.moves (ap is_some c.in_default-2.is) (is_known known) in

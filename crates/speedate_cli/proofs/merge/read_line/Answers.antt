@@ -13,5 +13,5 @@ returns-else-is_err g c =
     let some : 0 < length line =
     omega (arith, c.in-Ok.ensures.ok, c.in-Ok.field-0-test.1, c.read_until.new.buf.ok.0) in
     let is = ok_part c.end_line.result (sym c.if-is_err.ensures.value) c.end_line.ensures in
-    λ known. subst (ReadsLine before after) (sym is)
+    λ known. subst (ReadsLine before after) (sym {A = List ℕ} is)
     (reads-line before after line taken c.in-Ok.ensures.rest some known)
