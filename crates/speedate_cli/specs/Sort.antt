@@ -99,11 +99,14 @@ key_after keys line =
     let what = line_of keys.scan (head line) in
     record { scan = passed keys.scan what; instant = instant_after keys.instant what }
 
--- the value of the entry of a line, unless the line is left out
-abbrev pub key_of : Keys → List ℕ → Option ℤ
-key_of keys line =
-    let what = line_of keys.scan (head line) in
+-- the value of the entry of a line by what it is, unless the line is left out
+abbrev pub kept_instant : Keys → Line → Option ℤ
+kept_instant keys what =
     if keeps keys.scan what then Some (instant_after keys.instant what) else None
+
+-- the same by its text
+abbrev pub key_of : Keys → List ℕ → Option ℤ
+key_of keys line = kept_instant keys (line_of keys.scan (head line))
 
 -- what is known after lines
 abbrev pub keys_after : Keys → List (List ℕ) → Keys

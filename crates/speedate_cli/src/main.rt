@@ -6,6 +6,8 @@ mod between;
 mod check;
 mod convert;
 mod field;
+mod merge;
+mod merge_session;
 mod options;
 mod order;
 mod print;
@@ -67,6 +69,7 @@ fn run(rt: &HostRuntime, name: &str, given: &ArgMatches<'_>) -> Result<u8, Refus
         "between" => session::run_files(rt, &mut first_between(given)?, files),
         "check" => session::run_files(rt, &mut first_check(given)?, files),
         "convert" => session::run_files(rt, &mut first_convert(given)?, files),
+        "merge" => merge_session::run_merge(rt, &first_merge(given)?, files),
         "order" => session::run_files(rt, &mut first_order(given)?, files),
         "sum" => session::run_files(rt, &mut first_sum(given)?, files),
         "sort" => sort_session::run_sort(rt, &mut first_keys(given)?, files),
@@ -106,6 +109,22 @@ fn first_convert<'a>(given: &ArgMatches<'a>) -> Result<Convert<'a>, Refusal> {
         target: options::target(given)?,
         digits,
     })
+}
+
+/// What the command `merge` knows before the first line of each file.
+fn first_merge<'a>(given: &ArgMatches<'a>) -> Result<Keys<'a>, Refusal> {
+    let files = given.get_strs("FILE").unwrap_or(&[]);
+    if given.get_flag("header") && files.len() > 1 {
+        return Err("merge takes --header with one FILE");
+    }
+    let mut is_given = false;
+    for &name in files {
+        if name == "-" && is_given {
+            return Err("merge takes standard input once");
+        }
+        is_given = is_given || name == "-";
+    }
+    first_keys(given)
 }
 
 /// The command `order` before the first line.

@@ -53,6 +53,7 @@ pub fn program<'a>(alloc: Global) -> Result<Command<'a>, AllocError> {
         .subcommand(between(alloc)?)?
         .subcommand(check(alloc)?)?
         .subcommand(convert(alloc)?)?
+        .subcommand(merge(alloc)?)?
         .subcommand(order(alloc)?)?
         .subcommand(sort(alloc)?)?
         .subcommand(sum(alloc)?)?
@@ -87,6 +88,14 @@ fn convert<'a>(alloc: Global) -> Result<Command<'a>, AllocError> {
             "Exactly 0, 3 or 6 digits of a second, rounded down; implies --digits truncate",
         ))?;
     with_common(alloc, command, Prints::Lines)
+}
+
+/// The command `merge`.
+fn merge<'a>(alloc: Global) -> Result<Command<'a>, AllocError> {
+    let command = Command::new(alloc, "merge").about(
+        "Prints the entries of all files in the order of their values; each file is in order",
+    );
+    with_common(alloc, command, Prints::Reports)
 }
 
 /// The command `order`.

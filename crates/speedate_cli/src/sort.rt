@@ -7,7 +7,8 @@ ghost use Rattle.speedate.specs.Ascii.{line_feed};
 ghost use Rattle.speedate.specs.Lines.{complete_lines, lines, unfinished_line};
 ghost use Rattle.speedate_cli.specs.Entries.{Marked};
 ghost use Rattle.speedate_cli.specs.Sort.{Adds, AreKept, IsPlaced, Keyed, file_lines, in_order};
-ghost use Rattle.speedate_cli.specs.Sort.{instant_after, keyed, sorted_entries};
+ghost use Rattle.speedate_cli.specs.Scan.{passed};
+ghost use Rattle.speedate_cli.specs.Sort.{instant_after, kept_instant, keyed, sorted_entries};
 ghost use Rattle.speedate_cli.specs.Sort.{is_earlier, key_after, key_of, keys_after, lines_at, part};
 ghost use Rattle.speedate_cli.specs.Sort.{sorted_text, texts};
 ghost use Rattle.speedate_stream.specs.Run.{AppendsBeginning, OnlyWrites, Writes};
@@ -91,6 +92,18 @@ impl Keys<'_> {
         ensures after { self.new ≡ key_after self.old line.now }
     {
         let line = self.scan.line(head(line));
+        self.pass_line(line)
+    }
+
+    /// Counts a line by what it is, and returns the value of its entry, or `None` if the line is left
+    /// out.
+    pub fn pass_line(&mut self, line: Line) -> Option<i64>
+        ensures key { result ≡ kept_instant self.old line }
+        ensures after { self.new ≡ record {
+          scan = passed self.old.scan line;
+          instant = instant_after self.old.instant line;
+        } }
+    {
         let instant = self.instant_after(&line);
         let is_kept = self.scan.keeps(&line);
         self.scan.pass(line);

@@ -1,6 +1,7 @@
 //! The commands over readers and writers in memory.
 
 mod ends;
+mod merged;
 mod rows;
 mod sorted;
 

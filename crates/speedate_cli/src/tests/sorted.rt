@@ -81,8 +81,8 @@ z\n\
 
 /// A reader that gives what one read gives, and then fails.
 #[derive(Drop)]
-struct Breaking<'a> {
-    source: Source<'a>,
+pub struct Breaking<'a> {
+    pub source: Source<'a>,
 }
 
 impl Read for Breaking<'_> {
