@@ -10,3 +10,5 @@ mod SumLemmas
 mod OrderLemmas
 mod SortLemmas
 mod SortedEntryLemmas
+mod InOrderLemmas
+mod SearchLemmas

@@ -12,3 +12,4 @@ pub mod Runs
 pub mod Amount
 pub mod Sum
 pub mod Sort
+pub mod InOrder

@@ -11,6 +11,7 @@ mod order;
 mod print;
 mod reading;
 mod scan;
+mod search;
 mod session;
 mod sort;
 mod sort_session;
