@@ -40,7 +40,7 @@ entry_and-append (Line.Bad bad) line some others first second begins = refl
 entry_and-append Line.Unfit line some others first second begins = refl
 entry_and-append Line.Undated line some others first second begins = refl
 
-entries-append : (some others : List Marked) → up_to_value others ≡ []
+pub entries-append : (some others : List Marked) → up_to_value others ≡ []
     → entries (some ++ others) ≡ entries some ++ entries others
 entries-append [] others begins = refl
 entries-append (line ∷ some) others begins =
@@ -124,7 +124,7 @@ after-second bounds to entry others is after ordered =
     none-open bounds to entry.instant (entry ∷ others) is after
     (same_le entry.instant, ordered.0)
 
-later-ordered : (some others : List Entry) → AreInOrder (some ++ others) → AreInOrder others
+pub later-ordered : (some others : List Entry) → AreInOrder (some ++ others) → AreInOrder others
 later-ordered [] others ordered = ordered
 later-ordered (first ∷ some) others ordered = later-ordered some others ordered.1
 
@@ -142,7 +142,7 @@ no_more : (what : Line) (found : Found) (line : Marked) (lines : List Marked)
     → what ≡ Line.Value found → (if is_value what then [] else line ∷ up_to_value lines) ≡ []
 no_more what found line lines is = rw is refl
 
-begins-no_more : (instant : ℤ) (lines : List Marked) → BeginsEntry instant lines
+pub begins-no_more : (instant : ℤ) (lines : List Marked) → BeginsEntry instant lines
     → up_to_value lines ≡ []
 begins-no_more instant lines begins =
     ap up_to_value begins.is
@@ -348,7 +348,7 @@ asked-line has_offset scan line asked =
     asked-chosen has_offset (is_stopped scan.stop) (scan.has_header && (scan.number == 0)) scan
     (read scan.reader line) asked
 
-asked-after : (has_offset : Bool) (scan : Scan) (lines : List (List ℕ))
+pub asked-after : (has_offset : Bool) (scan : Scan) (lines : List (List ℕ))
     → AskFor has_offset scan.offsets → AskFor has_offset (scan_after scan lines).offsets
 asked-after has_offset scan [] asked = asked
 asked-after has_offset scan (line ∷ lines) asked =
@@ -593,10 +593,10 @@ pub record BeginsWith (reader : Reader) (has_offset : Bool) (instant : ℤ)
   pub is : lines ≡ line ∷ others
   pub value : line_value reader has_offset line ≡ Some instant
 
-reader-after : (scan : Scan) (lines : List (List ℕ)) → (scan_after scan lines).reader ≡ scan.reader
+pub reader-after : (scan : Scan) (lines : List (List ℕ)) → (scan_after scan lines).reader ≡ scan.reader
 reader-after scan lines = ap (λ (now : Scan). now.reader) (fixed-after scan lines)
 
-begins-marked : (prefix : Prefix) (scan : Scan) (has_offset : Bool) (instant : ℤ)
+pub begins-marked : (prefix : Prefix) (scan : Scan) (has_offset : Bool) (instant : ℤ)
     (lines : List (List ℕ)) → BeginsWith scan.reader has_offset instant lines
     → AskFor has_offset scan.offsets → awaits_header scan ≡ false
     → is_stopped scan.stop ≡ false → BeginsEntry instant (marked prefix scan lines)

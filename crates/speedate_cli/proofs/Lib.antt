@@ -12,3 +12,4 @@ mod SortLemmas
 mod SortedEntryLemmas
 mod InOrderLemmas
 mod SearchLemmas
+mod FoundLemmas

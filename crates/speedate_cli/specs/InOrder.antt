@@ -1,14 +1,15 @@
 -- A file whose values are in order: a line is found in it by its value, and what stands before that
 -- line need not be read.
-use Rattle.std.specs.Prelude.{◌≡◌, ℕ, ℤ, ◌+◌, ◌-◌, ◌<◌, ◌≤◌, ◌&&◌, not, Bool, true, false, List, [], ◌∷◌, length, take, drop, slice_index, int_le, int_lt, Option, Some, None, Result, OnOk, IfOk, IfSome, if◌then◌else◌}
+use Rattle.std.specs.Prelude.{◌≡◌, ℕ, ℤ, ◌+◌, ◌-◌, ◌<◌, ◌≤◌, ◌^◌, ◌⊎◌, ◌&&◌, not, Bool, true, false, List, [], ◌∷◌, length, take, drop, slice_index, int_le, int_lt, Option, Some, None, Result, OnOk, IfOk, IfSome, if◌then◌else◌}
+use Rattle.std.specs.Io.KnownBytes.{Appends}
 use Rattle.speedate.specs.Ascii.{line_feed}
-use Rattle.speedate.specs.Lines.{IsLineEnd}
-use Rattle.speedate_stream.specs.Machine.{head}
+use Rattle.speedate.specs.Lines.{IsLineEnd, lines}
+use Rattle.speedate_stream.specs.Machine.{head, state_after}
 use Rattle.speedate_cli.specs.Reading.{Bad, Found, Reader, Reading, part, read}
 use Rattle.speedate_cli.specs.Scan.{Line, Offsets, Scan, has_as, is_stopped, line_of, passed}
-use Rattle.speedate_cli.specs.Scan.{stop_at_bad}
-use Rattle.speedate_cli.specs.Between.{Between}
-use Rattle.speedate_cli.specs.Entries.{Entry, entries, marked}
+use Rattle.speedate_cli.specs.Scan.{has_offsets, stop_at_bad}
+use Rattle.speedate_cli.specs.Between.{Between, between_machine}
+use Rattle.speedate_cli.specs.Entries.{Entry, entries, file_text, marked}
 
 -- A text that is read at any byte.
 
@@ -95,3 +96,42 @@ abbrev pub is_searched : Between → Bool
 is_searched between =
     not between.is_kept && (is_settled between.scan.offsets
     && not (is_stopped (stop_at_bad between.scan.bad_lines)))
+
+-- Which part of a file is read.
+
+-- the part that is read starts where it may, or with a line whose value is before the first bound
+abbrev pub StartsAt : Between → Option (List ℕ) → ℕ → ℕ → Type 0
+StartsAt between known begin start = (start ≡ begin) ⊎ IfSome known (λ text.
+    (from : ℤ) × ((between.bounds.from ≡ Some from) × IsBefore between.scan.reader
+    (has_offsets between.scan.offsets) text start from))
+
+-- the part that is read ends before a line whose value is not before the second bound, or with the
+-- file
+abbrev pub EndsAt : Between → Option (List ℕ) → ℕ → ℕ → Type 0
+EndsAt between known start end = (end ≡ 2 ^ 64 - 1) ⊎ ((start ≤ end) × IfSome known (λ text.
+    (to : ℤ) × ((between.bounds.to ≡ Some to) × IsFrom between.scan.reader
+    (has_offsets between.scan.offsets) text end to)))
+
+-- the lines of a part of a file were printed, unless the run has ended
+abbrev pub EndsFound : Between → Between → Option (List ℕ) → Option (List ℕ) → List ℕ → Type 0
+EndsFound before after old new text = (is_stopped after.scan.stop ≡ true)
+    ⊎ Appends old new (file_text before (lines text))
+
+-- the same, and what is known after them
+abbrev pub EndsPart : Between → Between → Option (List ℕ) → Option (List ℕ) → List ℕ → Type 0
+EndsPart before after old new text = (is_stopped after.scan.stop ≡ true)
+    ⊎ ((after ≡ state_after between_machine before (lines text))
+    × Appends old new (file_text before (lines text)))
+
+-- If the values of a file are in order, and no line ends the run, then what is printed is what
+-- `between` prints of all its lines.
+abbrev pub PrintsFile : Between → Between → Option (List ℕ) → Option (List ℕ) → List ℕ → Type 0
+PrintsFile before after old new text = length text < 2 ^ 64 → is_stopped after.scan.stop ≡ false
+    → IsInOrder before (lines text) → Appends old new (file_text before (lines text))
+
+-- the same of lines of a file that may be searched
+abbrev pub PrintsRest : Between → Between → Option (List ℕ) → Option (List ℕ) → List ℕ
+    → List (List ℕ) → Type 0
+PrintsRest before after old new text rest = is_searched before ≡ true → length text < 2 ^ 64
+    → is_stopped after.scan.stop ≡ false → IsInOrder before rest
+    → Appends old new (file_text before rest)

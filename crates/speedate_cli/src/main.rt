@@ -6,6 +6,7 @@ mod between;
 mod check;
 mod convert;
 mod field;
+mod in_order;
 mod options;
 mod order;
 mod print;
