@@ -4,7 +4,7 @@ use Rattle.std.proofs.lemmas.Bool.{and_parts, cases_lt, eqb-false, ne_eqb}
 use Rattle.std.proofs.lemmas.Bool.{not-true, true≢false}
 use Rattle.std.proofs.lemmas.List.{append_cancel_right, drop-drop, get_or-drop, length-drop, take_more, take-append-drop, drop_all}
 use Rattle.std.proofs.KnownBytes.{Appends-trans}
-use Rattle.std.specs.Prelude.{◌&&◌, ◌==◌, ◌⊎◌, not, int_le, int_lt, Option, Some, None, IfSome, if◌then◌else◌}
+use Rattle.std.specs.Prelude.{◌&&◌, ◌==◌, ◌⊎◌, not, int_le, int_lt, Option, Some, None, IfSome, Result, Ok, Err, OnOk, if◌then◌else◌}
 use Rattle.std.specs.Io.KnownBytes.{Appends, Consumes, IsAtEnd}
 use Rattle.speedate.specs.Ascii.{line_feed}
 use Rattle.speedate.specs.Lines.{IsLineEnd, Pieces, complete_lines, last_line, lines, pieces}
@@ -21,7 +21,7 @@ use Rattle.speedate_cli.specs.Between.{Between, Bounds, between_after, between_m
 use Rattle.speedate_cli.specs.Entries.{Entry, Marked, awaits_header, between_lines, entries}
 use Rattle.speedate_cli.specs.Entries.{entries_text, file_text, mark, marked, printed_line}
 use Rattle.speedate_cli.specs.InOrder.{AreInOrder, EndsAt, EndsFirstLine, EndsFound, EndsPart}
-use Rattle.speedate_cli.specs.InOrder.{HasValueAt, IsBefore, IsFrom, IsInOrder, PrintsFile}
+use Rattle.speedate_cli.specs.InOrder.{HasValueAt, IsBefore, IsFrom, IsInOrder, IsNumber, PrintsFile}
 use Rattle.speedate_cli.specs.InOrder.{PrintsRest, StartsAt, is_searched, is_settled, known_part}
 use Rattle.speedate_cli.specs.InOrder.{line_value, scan_after}
 use Rattle.speedate_cli.proofs.EntryLemmas.{between_prints, header_passed, line_is_header}
@@ -494,29 +494,167 @@ searched_parts between searched =
     let later = and_parts _ _ parts.1 in
     (not-true between.is_kept parts.0, later.0)
 
--- the number of the first line of the part: counted if it is printed, and otherwise as it was
-abbrev pub IsNumber : Between → List ℕ → ℕ → ℕ → ℕ → Type 0
-IsNumber between text begin start number =
-    (number ≡ min (between.scan.number + length (complete_lines (part text begin start))) most)
-    ⊎ ((number ≡ between.scan.number) × (between.prefix.has_number ≡ false))
-
-pub prints-rest : (before after : Between) (known old new : Option (List ℕ))
-    (begin start end number : ℕ) → begin ≤ start → before.scan.number < 2 ^ 64
-    → StartsAt before known begin start → EndsAt before known start end
-    → IfSome known (λ text. IsNumber before text begin start number)
-    → IfSome known (λ text. EndsFound (record before {
-      scan = record before.scan { number = number };
-    }) after old new (part text start end))
+pub prints-rest : (before found after : Between) (known old new : Option (List ℕ))
+    (begin start end : ℕ) → begin ≤ start → before.scan.number < 2 ^ 64
+    → StartsAt before known begin start
+    → EndsAt found known start end
+    → found ≡ record before { scan = record before.scan { number = found.scan.number } }
+    → IfSome known (λ text. IsNumber before text begin start found.scan.number)
+    → IfSome known (λ text. EndsFound found after old new (part text start end))
     → awaits_header before.scan ≡ false
     → IfSome known (λ text. PrintsRest before after old new text (lines (drop begin text)))
-prints-rest before after None old new begin start end number ordered fits starts ends number_is
-    found came = tt
-prints-rest before after (Some text) old new begin start end number ordered fits starts ends
-    number_is found came = λ searched short goes_on in_order. elim found [
+prints-rest before found after None old new begin start end ordered fits starts ends is number_is
+    sent came = tt
+prints-rest before found after (Some text) old new begin start end ordered fits starts ends is
+    number_is sent came = λ searched short goes_on in_order. elim sent [
   | inl stopped ↦ absurd (true≢false (sym stopped ∙ goes_on))
   | inr sent ↦
       let parts = searched_parts before searched in
+      let ends_same = subst (λ (now : Between). EndsAt now (Some text) start end) is ends in
       subst (Appends old new)
-      (part-printed before text begin start came parts.1 ordered starts in_order end short ends
-      number fits number_is parts.0) sent
+      (ap (λ (now : Between). file_text now (lines (part text start end))) is
+      ∙ part-printed before text begin start came parts.1 ordered starts in_order end short
+      ends_same found.scan.number fits number_is parts.0) sent
 ]
+
+-- What is left of a call that ended well.
+
+pub ok-after : {A E P Q : Type 0} (result : Result A E) → (P → Q) → OnOk result P → OnOk result Q
+ok-after (Ok value) next holds = next holds
+ok-after (Err fault) next holds = tt
+
+-- A file that is not searched.
+
+pub whole-rest : (before after : Between) (known old new : Option (List ℕ))
+    → IfSome known (λ text. EndsPart before after old new (part text 0 most))
+    → IfSome known (λ text. PrintsRest before after old new text (lines text))
+whole-rest before after None old new ends = tt
+whole-rest before after (Some text) old new ends = λ searched short goes_on in_order. elim ends [
+  | inl stopped ↦ absurd (true≢false (sym stopped ∙ goes_on))
+  | inr printed ↦
+      subst (λ (l : List ℕ). Appends old new (file_text before (lines l)))
+      (part-past text 0 most (omega (arith, short))) printed.1
+]
+
+pub whole-file : (before after : Between) (known old new : Option (List ℕ))
+    → IfSome known (λ text. EndsPart before after old new (part text 0 most))
+    → IfSome known (λ text. PrintsFile before after old new text)
+whole-file before after None old new ends = tt
+whole-file before after (Some text) old new ends = λ short goes_on in_order. elim ends [
+  | inl stopped ↦ absurd (true≢false (sym stopped ∙ goes_on))
+  | inr printed ↦
+      subst (λ (l : List ℕ). Appends old new (file_text before (lines l)))
+      (part-past text 0 most (omega (arith, short))) printed.1
+]
+
+pub rest-file : (before after : Between) (known old new : Option (List ℕ))
+    → is_searched before ≡ true
+    → IfSome known (λ text. PrintsRest before after old new text (lines text))
+    → IfSome known (λ text. PrintsFile before after old new text)
+rest-file before after None old new searched rest = tt
+rest-file before after (Some text) old new searched rest =
+    λ short goes_on in_order. rest searched short goes_on in_order
+
+-- A file with a header.
+
+-- the first line of a text, and the others
+headed-lines : (text : List ℕ) (begin : ℕ) → EndsFirstLine text begin
+    → lines text ≡ take (begin - 1) text ∷ lines (drop begin text)
+headed-lines text begin first =
+    let place : begin - 1 + 1 ≡ begin = omega (arith, first.0) in
+    let none : begin - 1 - 0 ≡ begin - 1 = omega arith in
+    ap (λ (all : Pieces). all.complete ++ last_line all.unfinished)
+    (pieces-from text 0 0 (begin - 1) (omega arith)
+    (λ k after below same. absurd (omega (arith, after, below))) first.1)
+    ∙ ap (λ (n : ℕ). take n text ∷ lines (drop (begin - 1 + 1) text)) none
+    ∙ ap (λ (n : ℕ). take (begin - 1) text ∷ lines (drop n text)) place
+
+header-alone : (text : List ℕ) (begin : ℕ) → EndsFirstLine text begin
+    → lines (part text 0 begin) ≡ take (begin - 1) text ∷ []
+header-alone text begin first =
+    append_cancel_right (lines (part text 0 begin)) (take (begin - 1) text ∷ [])
+    (lines (drop begin text))
+    (sym (splits-later text 0 begin (omega (arith, first.0))
+    (omega (arith, first.0, first.1.within)) first.1.ends)
+    ∙ headed-lines text begin first)
+
+taken : (test : Bool) (one other : List ℕ) → test ≡ true → (if test then one else other) ≡ one
+taken true one other is = refl
+taken false one other is = cc
+
+header-text : (before : Between) (line : List ℕ) (lines : List (List ℕ))
+    → awaits_header before.scan ≡ true
+    → file_text before (line ∷ lines) ≡ printed_line before.prefix before.scan line
+    ++ between_lines before.bounds before.is_kept
+    (marked before.prefix (passed before.scan Line.Header) lines)
+header-text before line lines awaited = taken (awaits_header before.scan) _ _ awaited
+
+header-searched : (before : Between)
+    → is_searched (between_after before Line.Header) ≡ is_searched before
+unfolding passed
+header-searched before = refl
+
+header-in_order : (before : Between) (line : List ℕ) (lines : List (List ℕ))
+    → awaits_header before.scan ≡ true → IsInOrder before (line ∷ lines)
+    → IsInOrder (between_after before Line.Header) lines
+header-in_order before line lines awaited in_order =
+    let is = line_is_header before.scan (head line) awaited in
+    record {
+      ordered = subst (λ (what : Line). AreInOrder (entries
+          (mark before.prefix before.scan line what
+          ∷ marked before.prefix (passed before.scan what) lines))) is in_order.ordered;
+      goes_on = subst (λ (what : Line).
+          is_stopped (scan_after (passed before.scan what) lines).stop ≡ false) is in_order.goes_on;
+    }
+
+headed-text : (before found after : Between) (text : List ℕ) (old middle new : Option (List ℕ))
+    (begin : ℕ) → awaits_header before.scan ≡ true → EndsFirstLine text begin
+    → EndsPart before found old middle (part text 0 begin)
+    → is_stopped found.scan.stop ≡ false
+    → (awaits_header found.scan ≡ false
+    → PrintsRest found after middle new text (lines (drop begin text)))
+    → PrintsRest before after old new text (lines text)
+headed-text before found after text old middle new begin awaited first ends went rest searched
+    short goes_on in_order = elim ends [
+  | inl stopped ↦ absurd (true≢false (sym stopped ∙ went))
+  | inr printed ↦
+      let line : List ℕ = take (begin - 1) text in
+      let others : List (List ℕ) = lines (drop begin text) in
+      let next : Between = between_after before Line.Header in
+      let alone = header-alone text begin first in
+      let all = headed-lines text begin first in
+      let is : found ≡ next = printed.0
+      ∙ ap (λ (l : List (List ℕ)). state_after between_machine before l) alone
+      ∙ ap (between_after before) (line_is_header before.scan (head line) awaited) in
+      let came = header_passed before.scan in
+      let sent_first = subst (Appends old middle)
+      (ap (file_text before) alone
+      ∙ header-text before line [] awaited
+      ∙ ap (λ (l : List ℕ). printed_line before.prefix before.scan line ++ l)
+      (nothing before.is_kept)
+      ∙ append-nil (printed_line before.prefix before.scan line)) printed.1 in
+      let later = subst (λ (now : Between). awaits_header now.scan ≡ false
+      → PrintsRest now after middle new text others) is rest in
+      let sent_rest = subst (Appends middle new) (text-came next others came)
+      (later came (header-searched before ∙ searched) short goes_on
+      (header-in_order before line others awaited (subst (IsInOrder before) all in_order))) in
+      subst (Appends old new)
+      (sym (ap (file_text before) all ∙ header-text before line others awaited))
+      (Appends-trans old middle new _ _ sent_first sent_rest)
+]
+
+pub headed-rest : {A E : Type 0} (before found after : Between) (known old middle new : Option (List ℕ))
+    (result : Result A E) (begin : ℕ) → awaits_header before.scan ≡ true
+    → IfSome known (λ text. EndsFirstLine text begin)
+    → IfSome known (λ text. EndsPart before found old middle (part text 0 begin))
+    → is_stopped found.scan.stop ≡ false
+    → (awaits_header found.scan ≡ false → OnOk result (IfSome known (λ text.
+    PrintsRest found after middle new text (lines (drop begin text)))))
+    → OnOk result (IfSome known (λ text. PrintsRest before after old new text (lines text)))
+headed-rest before found after known old middle new (Err fault) begin awaited first ends went rest =
+    tt
+headed-rest before found after None old middle new (Ok value) begin awaited first ends went rest =
+    tt
+headed-rest before found after (Some text) old middle new (Ok value) begin awaited first ends went
+    rest =
+    headed-text before found after text old middle new begin awaited first ends went rest

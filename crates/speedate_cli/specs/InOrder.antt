@@ -1,9 +1,9 @@
 -- A file whose values are in order: a line is found in it by its value, and what stands before that
 -- line need not be read.
-use Rattle.std.specs.Prelude.{◌≡◌, ℕ, ℤ, ◌+◌, ◌-◌, ◌<◌, ◌≤◌, ◌^◌, ◌⊎◌, ◌&&◌, not, Bool, true, false, List, [], ◌∷◌, length, take, drop, slice_index, int_le, int_lt, Option, Some, None, Result, OnOk, IfOk, IfSome, if◌then◌else◌}
+use Rattle.std.specs.Prelude.{◌≡◌, ℕ, ℤ, ◌+◌, ◌-◌, ◌<◌, ◌≤◌, ◌^◌, ◌⊎◌, ◌&&◌, not, Bool, true, false, List, [], ◌∷◌, length, min, take, drop, slice_index, int_le, int_lt, Option, Some, None, Result, OnOk, IfOk, IfSome, if◌then◌else◌}
 use Rattle.std.specs.Io.KnownBytes.{Appends}
 use Rattle.speedate.specs.Ascii.{line_feed}
-use Rattle.speedate.specs.Lines.{IsLineEnd, lines}
+use Rattle.speedate.specs.Lines.{IsLineEnd, complete_lines, lines}
 use Rattle.speedate_stream.specs.Machine.{head, state_after}
 use Rattle.speedate_cli.specs.Reading.{Bad, Found, Reader, Reading, part, read}
 use Rattle.speedate_cli.specs.Scan.{Line, Offsets, Scan, has_as, is_stopped, line_of, passed}
@@ -111,6 +111,13 @@ abbrev pub EndsAt : Between → Option (List ℕ) → ℕ → ℕ → Type 0
 EndsAt between known start end = (end ≡ 2 ^ 64 - 1) ⊎ ((start ≤ end) × IfSome known (λ text.
     (to : ℤ) × ((between.bounds.to ≡ Some to) × IsFrom between.scan.reader
     (has_offsets between.scan.offsets) text end to)))
+
+-- how many lines come before the part that is read: they are counted if numbers are printed
+abbrev pub IsNumber : Between → List ℕ → ℕ → ℕ → ℕ → Type 0
+IsNumber between text begin start number =
+    (number ≡ min (between.scan.number + length (complete_lines (part text begin start)))
+    (2 ^ 64 - 1))
+    ⊎ ((number ≡ between.scan.number) × (between.prefix.has_number ≡ false))
 
 -- the lines of a part of a file were printed, unless the run has ended
 abbrev pub EndsFound : Between → Between → Option (List ℕ) → Option (List ℕ) → List ℕ → Type 0

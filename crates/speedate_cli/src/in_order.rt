@@ -5,7 +5,8 @@ ghost use Rattle.std.specs.Prelude.{◌≡◌, ℕ, ℤ, ◌+◌, ◌-◌, ◌^�
 ghost use Rattle.std.specs.Io.KnownBytes.{Appends};
 ghost use Rattle.speedate.specs.Lines.{lines};
 ghost use Rattle.speedate_cli.specs.Entries.{awaits_header, file_text};
-ghost use Rattle.speedate_cli.specs.InOrder.{EndsAt, EndsFound, EndsPart, PrintsFile, PrintsRest};
+ghost use Rattle.speedate_cli.specs.InOrder.{EndsAt, EndsFound, EndsPart, IsNumber, PrintsFile};
+ghost use Rattle.speedate_cli.specs.InOrder.{PrintsRest};
 ghost use Rattle.speedate_cli.specs.InOrder.{StartsAt, is_searched, is_settled};
 ghost use Rattle.speedate_cli.specs.Reading.{part};
 ghost use Rattle.speedate_cli.specs.Scan.{has_offsets};
@@ -146,6 +147,31 @@ fn print_found<'a, S: ReadAt, W: Write>(
     Ok(())
 }
 
+/// Counts the lines of a part of a file that is not read otherwise, if numbers of lines are printed.
+fn count_skipped<S: ReadAt>(
+    command: &mut Between<'_>,
+    source: &S,
+    begin: u64,
+    start: u64,
+) -> Result<(), RunError>
+    requires ordered { begin ≤ start }
+    ensures fits { command.old.scan.number < 2 ^ 64 }
+    ensures scan { OnOk result (command.new ≡ record command.old {
+        scan = record command.old.scan { number = command.new.scan.number };
+    }) }
+    ensures number { OnOk result (IfSome (S.text source.now) (λ text.
+        IsNumber command.old text begin start command.new.scan.number)) }
+{
+    let number = command.scan.number;
+    if command.prefix.has_number {
+        let Ok(number) = count_lines(source, number, begin, start) else {
+            return Err(RunError::Read);
+        };
+        command.scan.number = number;
+    }
+    Ok(())
+}
+
 /// Prints what `between` prints of a file from a byte on, at which a line begins.
 fn print_rest<'a, S: ReadAt, W: Write>(
     command: &mut Between<'a>,
@@ -161,15 +187,10 @@ fn print_rest<'a, S: ReadAt, W: Write>(
     let Ok(start) = command.start(source, begin, size) else {
         return Err(RunError::Read);
     };
+    count_skipped(command, source, begin, start)?;
     let Ok(end) = command.end(source, start, size) else {
         return Err(RunError::Read);
     };
-    if command.prefix.has_number {
-        let Ok(number) = count_lines(source, command.scan.number, begin, start) else {
-            return Err(RunError::Read);
-        };
-        command.scan.number = number;
-    }
     print_found(command, source, begin, start, end, output)
 }
 
