@@ -607,14 +607,14 @@ header-in_order before line lines awaited in_order =
           is_stopped (scan_after (passed before.scan what) lines).stop ≡ false) is in_order.goes_on;
     }
 
-headed-text : (before found after : Between) (text : List ℕ) (old middle new : Option (List ℕ))
+headed-text : (before found after : Between) (text : List ℕ) (old halfway new : Option (List ℕ))
     (begin : ℕ) → awaits_header before.scan ≡ true → EndsFirstLine text begin
-    → EndsPart before found old middle (part text 0 begin)
+    → EndsPart before found old halfway (part text 0 begin)
     → is_stopped found.scan.stop ≡ false
     → (awaits_header found.scan ≡ false
-    → PrintsRest found after middle new text (lines (drop begin text)))
+    → PrintsRest found after halfway new text (lines (drop begin text)))
     → PrintsRest before after old new text (lines text)
-headed-text before found after text old middle new begin awaited first ends went rest searched
+headed-text before found after text old halfway new begin awaited first ends went rest searched
     short goes_on in_order = elim ends [
   | inl stopped ↦ absurd (true≢false (sym stopped ∙ went))
   | inr printed ↦
@@ -627,34 +627,34 @@ headed-text before found after text old middle new begin awaited first ends went
       ∙ ap (λ (l : List (List ℕ)). state_after between_machine before l) alone
       ∙ ap (between_after before) (line_is_header before.scan (head line) awaited) in
       let came = header_passed before.scan in
-      let sent_first = subst (Appends old middle)
+      let sent_first = subst (Appends old halfway)
       (ap (file_text before) alone
       ∙ header-text before line [] awaited
       ∙ ap (λ (l : List ℕ). printed_line before.prefix before.scan line ++ l)
       (nothing before.is_kept)
       ∙ append-nil (printed_line before.prefix before.scan line)) printed.1 in
       let later = subst (λ (now : Between). awaits_header now.scan ≡ false
-      → PrintsRest now after middle new text others) is rest in
-      let sent_rest = subst (Appends middle new) (text-came next others came)
+      → PrintsRest now after halfway new text others) is rest in
+      let sent_rest = subst (Appends halfway new) (text-came next others came)
       (later came (header-searched before ∙ searched) short goes_on
       (header-in_order before line others awaited (subst (IsInOrder before) all in_order))) in
       subst (Appends old new)
       (sym (ap (file_text before) all ∙ header-text before line others awaited))
-      (Appends-trans old middle new _ _ sent_first sent_rest)
+      (Appends-trans old halfway new _ _ sent_first sent_rest)
 ]
 
-pub headed-rest : {A E : Type 0} (before found after : Between) (known old middle new : Option (List ℕ))
+pub headed-rest : {A E : Type 0} (before found after : Between) (known old halfway new : Option (List ℕ))
     (result : Result A E) (begin : ℕ) → awaits_header before.scan ≡ true
     → IfSome known (λ text. EndsFirstLine text begin)
-    → IfSome known (λ text. EndsPart before found old middle (part text 0 begin))
+    → IfSome known (λ text. EndsPart before found old halfway (part text 0 begin))
     → is_stopped found.scan.stop ≡ false
     → (awaits_header found.scan ≡ false → OnOk result (IfSome known (λ text.
-    PrintsRest found after middle new text (lines (drop begin text)))))
+    PrintsRest found after halfway new text (lines (drop begin text)))))
     → OnOk result (IfSome known (λ text. PrintsRest before after old new text (lines text)))
-headed-rest before found after known old middle new (Err fault) begin awaited first ends went rest =
+headed-rest before found after known old halfway new (Err fault) begin awaited first ends went rest =
     tt
-headed-rest before found after None old middle new (Ok value) begin awaited first ends went rest =
+headed-rest before found after None old halfway new (Ok value) begin awaited first ends went rest =
     tt
-headed-rest before found after (Some text) old middle new (Ok value) begin awaited first ends went
+headed-rest before found after (Some text) old halfway new (Ok value) begin awaited first ends went
     rest =
-    headed-text before found after text old middle new begin awaited first ends went rest
+    headed-text before found after text old halfway new begin awaited first ends went rest

@@ -15,7 +15,7 @@ use crate::between::Between;
 use crate::scan::{BadLines, Offsets, REPORTS_MAX, Scan};
 use crate::search::{ReadAt, Values, Window, count_lines, second_line};
 use speedate_stream::run::{RunError, run};
-use speedate_stream::{NoObserver, Observer, Watched};
+use speedate_stream::{NoObserver, Watched};
 use std::io::{self, Write};
 
 /// Whether values are to have an offset, or to have none, as the bounds have it.
@@ -102,13 +102,12 @@ impl Scan<'_> {
 }
 
 /// Prints what `between` prints of the lines of a part of a file.
-fn print_part<'a, S: ReadAt, W: Write, O: Observer<Between<'a>>>(
-    command: &mut Between<'a>,
+fn print_part<S: ReadAt, W: Write>(
+    command: &mut Between<'_>,
     source: &S,
     from: u64,
     to: u64,
     output: &mut Watched<W>,
-    observer: &mut O,
 ) -> Result<(), RunError>
     ensures ended { OnOk result (IfSome (S.text source.now) (λ text. EndsPart command.old command.new
         (W.contents output.old.inner) (W.contents output.new.inner) (part text from to))) }
@@ -118,13 +117,13 @@ fn print_part<'a, S: ReadAt, W: Write, O: Observer<Between<'a>>>(
         at: from,
         end: to,
     });
-    run(command, &mut window, output, observer)
+    run(command, &mut window, output, &mut NoObserver)
 }
 
 /// Prints the lines of a part of a file, before which others were not read. If one of them is bad,
 /// these are counted, for the numbers of the reports.
-fn print_found<'a, S: ReadAt, W: Write>(
-    command: &mut Between<'a>,
+fn print_found<S: ReadAt, W: Write>(
+    command: &mut Between<'_>,
     source: &S,
     begin: u64,
     start: u64,
@@ -136,7 +135,7 @@ fn print_found<'a, S: ReadAt, W: Write>(
         (W.contents output.old.inner) (W.contents output.new.inner) (part text start end))) }
 {
     let told = command.scan.bad;
-    print_part(command, source, start, end, output, &mut NoObserver)?;
+    print_part(command, source, start, end, output)?;
     if command.scan.bad > told && !command.prefix.has_number {
         let Ok(skipped) = count_lines(source, 0, begin, start) else {
             command.scan.bad = told;
@@ -173,8 +172,8 @@ fn count_skipped<S: ReadAt>(
 }
 
 /// Prints what `between` prints of a file from a byte on, at which a line begins.
-fn print_rest<'a, S: ReadAt, W: Write>(
-    command: &mut Between<'a>,
+fn print_rest<S: ReadAt, W: Write>(
+    command: &mut Between<'_>,
     source: &S,
     begin: u64,
     size: u64,
@@ -195,8 +194,8 @@ fn print_rest<'a, S: ReadAt, W: Write>(
 }
 
 /// Prints what `between` prints of a file with a header.
-fn print_headed<'a, S: ReadAt, W: Write>(
-    command: &mut Between<'a>,
+fn print_headed<S: ReadAt, W: Write>(
+    command: &mut Between<'_>,
     source: &S,
     size: u64,
     output: &mut Watched<W>,
@@ -209,9 +208,9 @@ fn print_headed<'a, S: ReadAt, W: Write>(
         return Err(RunError::Read);
     };
     let Some(begin) = second else {
-        return print_part(command, source, 0, u64::MAX, output, &mut NoObserver);
+        return print_part(command, source, 0, u64::MAX, output);
     };
-    print_part(command, source, 0, begin, output, &mut NoObserver)?;
+    print_part(command, source, 0, begin, output)?;
     if command.scan.is_stopped() {
         return Ok(());
     }
@@ -219,15 +218,15 @@ fn print_headed<'a, S: ReadAt, W: Write>(
 }
 
 /// Prints what `between` prints of a file of so many bytes, whose values never fall. What is before the
-/// bounds is not read, nor what is after them, unless it has to be.
+/// bounds is not read, nor what is after them, unless it has to be. Bad values of what is not read are
+/// not noted.
 ///
 /// Fails with `RunError::Read` if a read fails, with `RunError::Write` if a write or the flush does.
-pub fn print_in_order<'a, S: ReadAt, W: Write, O: Observer<Between<'a>>>(
-    command: &mut Between<'a>,
+pub fn print_in_order<S: ReadAt, W: Write>(
+    command: &mut Between<'_>,
     source: &S,
     size: u64,
     output: &mut Watched<W>,
-    observer: &mut O,
 ) -> Result<(), RunError>
     // If the values of the file are in order, and no line ends the run, what is printed is what is
     // printed of all lines.
@@ -235,7 +234,7 @@ pub fn print_in_order<'a, S: ReadAt, W: Write, O: Observer<Between<'a>>>(
         (W.contents output.old.inner) (W.contents output.new.inner) text)) }
 {
     if !command.is_searched() {
-        return print_part(command, source, 0, u64::MAX, output, observer);
+        return print_part(command, source, 0, u64::MAX, output);
     }
     if awaits_header(&command.scan) {
         return print_headed(command, source, size, output);

@@ -87,6 +87,7 @@ fn first_between<'a>(given: &ArgMatches<'a>) -> Result<Between<'a>, Refusal> {
         is_kept: false,
         has_value: false,
         before: 0,
+        is_in_order: given.get_flag("in-order"),
     })
 }
 
