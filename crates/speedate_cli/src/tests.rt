@@ -2,6 +2,7 @@
 
 mod ends;
 mod rows;
+mod searched;
 mod sorted;
 
 use crate::session::{Session, write_end};
