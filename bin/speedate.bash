@@ -18,7 +18,7 @@ _speedate() {
         if [ "$COMP_CWORD" = 1 ]; then
             words=$(speedate --help 2>/dev/null | sed -n 's/^  \([a-z]\{1,\}\) .*/\1/p')
         elif [ "${word#-}" != "$word" ]; then
-            words=$(speedate "${COMP_WORDS[1]}" --help 2>/dev/null | grep -o -e '--[a-z]*')
+            words=$(speedate "${COMP_WORDS[1]}" --help 2>/dev/null | grep -o -e '--[a-z-]*')
         fi
         ;;
     esac

@@ -212,7 +212,7 @@ counted_once stopped header number =
     ends_false stopped header (one_more number == 0) (no_zero (one_more number) (omega arith))
 
 -- after a line a file's header has come
-header_came : (scan : Scan) (what : Line) → awaits_header scan ≡ false
+pub header_came : (scan : Scan) (what : Line) → awaits_header scan ≡ false
     → awaits_header (passed scan what) ≡ false
 unfolding passed
 header_came scan Line.Late came = came
@@ -228,7 +228,7 @@ header_came scan (Line.Bad bad) came =
 header_came scan Line.Unfit came =
     counted_once (not (is_stopped (passed scan Line.Unfit).stop)) scan.has_header scan.number
 
-header_passed : (scan : Scan) → awaits_header (passed scan Line.Header) ≡ false
+pub header_passed : (scan : Scan) → awaits_header (passed scan Line.Header) ≡ false
 unfolding passed
 header_passed scan = counted_once (not (is_stopped scan.stop)) scan.has_header scan.number
 
@@ -247,7 +247,7 @@ chosen_header true header other awaited = cc
 chosen_header false true other awaited = refl
 chosen_header false false other awaited = cc
 
-line_is_header : (scan : Scan) (line : List ℕ) → awaits_header scan ≡ true
+pub line_is_header : (scan : Scan) (line : List ℕ) → awaits_header scan ≡ true
     → line_of scan line ≡ Line.Header
 unfolding line_of
 line_is_header scan line awaited =

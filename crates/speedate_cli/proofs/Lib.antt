@@ -12,3 +12,6 @@ mod SortLemmas
 mod SortedEntryLemmas
 mod MergeLemmas
 mod SourceLemmas
+mod InOrderLemmas
+mod SearchLemmas
+mod FoundLemmas

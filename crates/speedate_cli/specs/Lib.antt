@@ -13,3 +13,4 @@ pub mod Amount
 pub mod Sum
 pub mod Sort
 pub mod Merge
+pub mod InOrder

@@ -41,6 +41,8 @@ pub struct Between<'a> {
     pub has_value: bool,
     /// How many lines came before the first value.
     pub before: u64,
+    /// Whether the values of a file never fall, so that it is searched.
+    pub is_in_order: bool,
 }
 
 impl Bounds {

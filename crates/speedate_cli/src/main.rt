@@ -6,6 +6,7 @@ mod between;
 mod check;
 mod convert;
 mod field;
+mod in_order;
 mod merge;
 mod merge_session;
 mod options;
@@ -13,6 +14,7 @@ mod order;
 mod print;
 mod reading;
 mod scan;
+mod search;
 mod session;
 mod sort;
 mod sort_session;
@@ -88,6 +90,7 @@ fn first_between<'a>(given: &ArgMatches<'a>) -> Result<Between<'a>, Refusal> {
         is_kept: false,
         has_value: false,
         before: 0,
+        is_in_order: given.get_flag("in-order"),
     })
 }
 

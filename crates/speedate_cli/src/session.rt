@@ -6,17 +6,19 @@ ghost use Rattle.arrayvec.specs.ArrayVec.{array_vec_len};
 use crate::between::{Between, print_entries};
 use crate::check::{Check, print_reports};
 use crate::convert::{Convert, print_converted};
+use crate::in_order::print_in_order;
 use crate::order::{Order, print_late};
 use crate::print::{push_line_place, push_report};
 use crate::reading::Form;
 use crate::scan::{Offsets, Report, Scan, Stop};
+use crate::search::{ReadAt, Seeking};
 use crate::sum::{Sum, add_durations};
 use crate::summary::{SUMMARY_MAX, Summary, add_lines};
 use speedate::CallKind;
 use speedate_stream::run::RunError;
 use speedate_stream::{LineMachine, Observer, PENDING_MAX, Pending, Watched, push_bytes};
 use std::fs;
-use std::io::{self, ErrorKind, Read, Write};
+use std::io::{self, ErrorKind, Read, Seek, SeekFrom, Write};
 use std::os::unix::fs::MetadataExt;
 
 /// The status of a run in which a value was bad, or values were out of order.
@@ -53,6 +55,21 @@ pub trait Closing {
         0
     }
 
+    /// Whether the values of each file never fall, so that it is searched.
+    fn is_in_order(&self) -> bool {
+        false
+    }
+
+    /// Prints what the command prints of a file of so many bytes, which is searched.
+    fn search<S: ReadAt, W: Write>(
+        &mut self,
+        _source: &S,
+        _size: u64,
+        _output: &mut Watched<W>,
+    ) -> Result<(), RunError> {
+        Ok(())
+    }
+
     /// Whether what was to be printed after the last file has too many days.
     fn is_too_large(&self) -> bool {
         false
@@ -84,6 +101,19 @@ pub trait Session<'a>: LineMachine + Closing + Sized {
 impl Closing for Between<'_> {
     fn left_out(&self) -> u64 {
         self.before
+    }
+
+    fn is_in_order(&self) -> bool {
+        self.is_in_order
+    }
+
+    fn search<S: ReadAt, W: Write>(
+        &mut self,
+        source: &S,
+        size: u64,
+        output: &mut Watched<W>,
+    ) -> Result<(), RunError> {
+        print_in_order(self, source, size, output)
     }
 }
 
@@ -318,7 +348,7 @@ fn run_file<'a, M: Session<'a>, W: Write>(
         machine.print(&mut Watched::new(rt.stdin()), output, &mut reports)
     } else {
         match fs::open(rt, name) {
-            Ok(file) => machine.print(&mut Watched::new(file), output, &mut reports),
+            Ok(file) => print_file(machine, file, output, &mut reports),
             Err(_) => {
                 let _ = eprintln!(rt; "speedate: {name}: cannot be opened");
                 return READ;
@@ -334,6 +364,22 @@ fn run_file<'a, M: Session<'a>, W: Write>(
         }
         Err(RunError::Write) => WRITE,
     }
+}
+
+/// Prints what a command prints of a file. One that cannot be moved in is read as a whole.
+fn print_file<'a, M: Session<'a>, F: Read + Seek + Drop, W: Write, O: Observer<M>>(
+    machine: &mut M,
+    file: F,
+    output: &mut Watched<W>,
+    observer: &mut O,
+) -> Result<(), RunError> {
+    let mut file = file;
+    if machine.is_in_order() {
+        if let Ok(size) = file.seek(SeekFrom::End(0)) {
+            return machine.search(&Seeking::new(file), size, output);
+        }
+    }
+    machine.print(&mut Watched::new(file), output, observer)
 }
 
 /// Whether a file is the one that standard output goes to: reading it would never end.

@@ -3,6 +3,7 @@
 mod ends;
 mod merged;
 mod rows;
+mod searched;
 mod sorted;
 
 use crate::session::{Session, write_end};
