@@ -260,6 +260,14 @@ fn read_as(parsed: Result<(DateTime, usize), Bad>, from: usize) -> (Reading, Opt
 }
 
 impl Reader<'_> {
+    /// What is read of a line, by its head.
+    pub fn read(&self, head: &[u8]) -> Reading
+        ensures read { result ≡ read self.now head.now }
+        ensures within { IsReadWithin result head.now }
+    {
+        self.parse(head).0
+    }
+
     /// What is read of a line, by its head, and the value that was parsed, if it has one.
     #[inline(always)]
     #[tactic(auto, unfolding(crate::specs::Reading::read, crate::specs::Reading::value_of))]
