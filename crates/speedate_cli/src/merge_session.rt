@@ -45,6 +45,10 @@ pub fn run_merge<'a>(rt: &HostRuntime, keys: &Keys<'a>, files: &[&'a str]) -> u8
             continue;
         };
         let begun = source.next(&mut offsets);
+        if begun.is_err() {
+            // After a failed read it may hold the beginning of a line.
+            source.line.clear();
+        }
         if sources.push(source).is_err() {
             return tell_memory(rt);
         }
