@@ -120,48 +120,53 @@ pub struct DateTimeReader {
 }
 
 impl DateTimeReader {
-    ghost use Rattle.std.specs.Prelude.{◌≡◌, Err, Ok};
+    ghost use Rattle.std.specs.Prelude.{◌≡◌};
     ghost use Rattle.speedate_base.specs.Config.{choices};
+    ghost use Rattle.speedate_base.specs.Requirement.{result_and_then, result_map};
     ghost use Rattle.speedate_base.specs.Timestamp.{IsInYears, unix_instant};
-    ghost use Rattle.speedate_civil.specs.DateTime.{date_and_time, date_time_answer, date_time_at};
-    ghost use Rattle.speedate_civil.specs.DateTime.{utc_microsecond};
-    ghost use Rattle.speedate.specs.Column.{as_number, date_time_number, text_behavior, with_offset};
+    ghost use Rattle.speedate_civil.specs.DateTime.{date_and_time, date_time_at};
+    ghost use Rattle.speedate_civil.specs.DateTime.{date_time_by_config, utc_microsecond};
+    ghost use Rattle.speedate.specs.Column.{as_number, date_time_number, with_offset};
 
-    /// The number of a line, by a copy of the parser. The text is parsed at one place, whatever else is
-    /// required, since the compiler copies that into the loop.
+    /// The number of a line, by a copy of the parser.
     #[inline(always)]
     fn number_of<const COPY: u8>(&self, line: &[u8]) -> Result<i64, LineError>
         ensures number { result ≡ date_time_number self.now line.now }
     {
-        match DateTime::parse_bytes_rfc3339_with_config(line, &self.parser.text_config()) {
-            Ok(value) => self.taken_number(line, &value),
-            Err(fault) => self.timestamp_or(line, fault),
+        match &self.parser {
+            DateTimeParser::Text(config) => {
+                self.counted(DateTime::parse_bytes_rfc3339_with_config(line, config))
+            }
+            DateTimeParser::OrTimestamp(config) => self.number_or_timestamp::<COPY>(line, config),
+            DateTimeParser::Strict(_) => self.counted(self.parser.parse(line)),
         }
     }
 
-    /// The number of a line whose text is a date-time.
+    /// Turns the answer of a parser into the line's number or error.
     #[inline(always)]
-    fn taken_number(&self, line: &[u8], value: &DateTime) -> Result<i64, LineError>
-        requires parsed { date_time_answer (text_behavior self.now.parser) line.now
-            ≡ Ok (date_and_time value.now) }
-        ensures number { result ≡ date_time_number self.now line.now }
+    fn counted(&self, read: Result<DateTime, ParseError>) -> Result<i64, LineError>
+        ensures number { result ≡ as_number utc_microsecond (result_and_then
+            (with_offset self.now.assumes_utc) (result_map date_and_time read)) }
     {
-        match self.parser.require(line) {
-            Ok(()) => utc_number(value, self.assumes_utc),
+        match read {
+            Ok(value) => utc_number(&value, self.assumes_utc),
             Err(fault) => Err(LineError::Parse(fault)),
         }
     }
 
-    /// The number of a line whose text is refused, and which may be a timestamp, whose instant is counted
-    /// without the calendar.
+    /// The number of a line that may be a timestamp, whose instant is counted without the calendar.
     #[inline(always)]
-    fn timestamp_or(&self, line: &[u8], fault: ParseError) -> Result<i64, LineError>
-        requires refused { date_time_answer (text_behavior self.now.parser) line.now ≡ Err fault }
-        ensures number { result ≡ date_time_number self.now line.now }
+    fn number_or_timestamp<const COPY: u8>(
+        &self,
+        line: &[u8],
+        config: &DateTimeConfig,
+    ) -> Result<i64, LineError>
+        ensures number { result ≡ as_number utc_microsecond (result_and_then
+            (with_offset self.now.assumes_utc) (date_time_by_config config.now line.now)) }
     {
-        match &self.parser {
-            DateTimeParser::Text(_) | DateTimeParser::Strict(_) => Err(LineError::Parse(fault)),
-            DateTimeParser::OrTimestamp(config) => match timestamp_instant(line, fault, config) {
+        match DateTime::parse_bytes_rfc3339_with_config(line, &config.time_config) {
+            Ok(value) => utc_number(&value, self.assumes_utc),
+            Err(fault) => match timestamp_instant(line, fault, config) {
                 Ok(time) => self.timestamp_microsecond(time, config),
                 Err(fault) => Err(LineError::Parse(fault)),
             },
