@@ -1,10 +1,11 @@
 -- A file whose values are in order: a line is found in it by its value, and what stands before that
 -- line need not be read.
-use Rattle.std.specs.Prelude.{◌≡◌, ℕ, ℤ, ◌+◌, ◌-◌, ◌<◌, ◌≤◌, ◌^◌, ◌⊎◌, ◌&&◌, not, Bool, true, false, List, [], ◌∷◌, length, min, take, drop, slice_index, int_le, int_lt, Option, Some, None, Result, OnOk, IfOk, IfSome, if◌then◌else◌}
+use Rattle.std.specs.Prelude.{◌≡◌, ℕ, ℤ, ◌+◌, ◌-◌, ◌<◌, ◌≤◌, ◌^◌, ◌⊎◌, ◌&&◌, not, Bool, true, false, List, [], ◌∷◌, length, min, take, drop, slice_index, int_le, int_lt, Option, Some, None, Result, Ok, Err, OnOk, IfOk, IfSome, if◌then◌else◌}
 use Rattle.std.specs.Io.KnownBytes.{Appends}
 use Rattle.speedate.specs.Ascii.{line_feed}
 use Rattle.speedate.specs.Lines.{IsLineEnd, complete_lines, lines}
 use Rattle.speedate_stream.specs.Machine.{head, state_after}
+use Rattle.speedate_stream.specs.declared.run.RunError.{RunError}
 use Rattle.speedate_cli.specs.Reading.{Bad, Found, Reader, Reading, part, read}
 use Rattle.speedate_cli.specs.Scan.{Line, Offsets, Scan, has_as, is_stopped, line_of, passed}
 use Rattle.speedate_cli.specs.Scan.{has_offsets, stop_at_bad}
@@ -142,3 +143,9 @@ abbrev pub PrintsRest : Between → Between → Option (List ℕ) → Option (Li
 PrintsRest before after old new text rest = is_searched before ≡ true → length text < 2 ^ 64
     → is_stopped after.scan.stop ≡ false → IsInOrder before rest
     → Appends old new (file_text before rest)
+
+-- which of the two has failed of an input and an output: the output, by this answer, or not
+abbrev pub FailsBy : Result (Unit {0}) RunError → Bool → Type 0
+FailsBy (Ok ended) output = output ≡ false
+FailsBy (Err RunError.Read) output = output ≡ false
+FailsBy (Err RunError.Write) output = output ≡ true

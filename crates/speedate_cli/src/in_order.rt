@@ -5,7 +5,8 @@ ghost use Rattle.std.specs.Prelude.{◌≡◌, ℕ, ℤ, ◌+◌, ◌-◌, ◌^�
 ghost use Rattle.std.specs.Io.KnownBytes.{Appends};
 ghost use Rattle.speedate.specs.Lines.{lines};
 ghost use Rattle.speedate_cli.specs.Entries.{awaits_header, file_text};
-ghost use Rattle.speedate_cli.specs.InOrder.{EndsAt, EndsFound, EndsPart, IsNumber, PrintsFile};
+ghost use Rattle.speedate_cli.specs.InOrder.{EndsAt, EndsFound, EndsPart, FailsBy, IsNumber};
+ghost use Rattle.speedate_cli.specs.InOrder.{PrintsFile};
 ghost use Rattle.speedate_cli.specs.InOrder.{PrintsRest};
 ghost use Rattle.speedate_cli.specs.InOrder.{StartsAt, is_searched, is_settled};
 ghost use Rattle.speedate_cli.specs.Reading.{part};
@@ -84,6 +85,22 @@ impl Between<'_> {
             None => Ok(u64::MAX),
         }
     }
+
+    /// The number of the line before a part of a file. The lines before it are counted if numbers of
+    /// lines are printed.
+    fn number_at<S: ReadAt>(&self, source: &S, begin: u64, start: u64) -> io::Result<u64>
+        requires ordered { begin ≤ start }
+        ensures fits { self.now.scan.number < 2 ^ 64 }
+        ensures number { IfOk result (λ number. IfSome (S.text source.now) (λ text.
+            IsNumber self.now text begin start number)) }
+    {
+        let number = self.scan.number;
+        if self.prefix.has_number {
+            count_lines(source, number, begin, start)
+        } else {
+            Ok(number)
+        }
+    }
 }
 
 impl Scan<'_> {
@@ -111,6 +128,8 @@ fn print_part<S: ReadAt, W: Write>(
 ) -> Result<(), RunError>
     ensures ended { OnOk result (IfSome (S.text source.now) (λ text. EndsPart command.old command.new
         (W.contents output.old.inner) (W.contents output.new.inner) (part text from to))) }
+    ensures flushed { OnOk result (output.new.flushed ≡ true) }
+    ensures failed { output.old.failed ≡ false → FailsBy result output.new.failed }
 {
     let mut window = Watched::new(Window {
         source,
@@ -133,6 +152,8 @@ fn print_found<S: ReadAt, W: Write>(
     requires ordered { begin ≤ start }
     ensures ended { OnOk result (IfSome (S.text source.now) (λ text. EndsFound command.old command.new
         (W.contents output.old.inner) (W.contents output.new.inner) (part text start end))) }
+    ensures flushed { OnOk result (output.new.flushed ≡ true) }
+    ensures failed { output.old.failed ≡ false → FailsBy result output.new.failed }
 {
     let told = command.scan.bad;
     print_part(command, source, start, end, output)?;
@@ -142,31 +163,6 @@ fn print_found<S: ReadAt, W: Write>(
             return Err(RunError::Read);
         };
         command.scan.renumber(told, skipped);
-    }
-    Ok(())
-}
-
-/// Counts the lines of a part of a file that is not read otherwise, if numbers of lines are printed.
-fn count_skipped<S: ReadAt>(
-    command: &mut Between<'_>,
-    source: &S,
-    begin: u64,
-    start: u64,
-) -> Result<(), RunError>
-    requires ordered { begin ≤ start }
-    ensures fits { command.old.scan.number < 2 ^ 64 }
-    ensures scan { OnOk result (command.new ≡ record command.old {
-        scan = record command.old.scan { number = command.new.scan.number };
-    }) }
-    ensures number { OnOk result (IfSome (S.text source.now) (λ text.
-        IsNumber command.old text begin start command.new.scan.number)) }
-{
-    let number = command.scan.number;
-    if command.prefix.has_number {
-        let Ok(number) = count_lines(source, number, begin, start) else {
-            return Err(RunError::Read);
-        };
-        command.scan.number = number;
     }
     Ok(())
 }
@@ -182,11 +178,16 @@ fn print_rest<S: ReadAt, W: Write>(
     ensures same { awaits_header command.old.scan ≡ false → OnOk result (IfSome (S.text source.now)
         (λ text. PrintsRest command.old command.new (W.contents output.old.inner)
         (W.contents output.new.inner) text (lines (drop begin text)))) }
+    ensures flushed { OnOk result (output.new.flushed ≡ true) }
+    ensures failed { output.old.failed ≡ false → FailsBy result output.new.failed }
 {
     let Ok(start) = command.start(source, begin, size) else {
         return Err(RunError::Read);
     };
-    count_skipped(command, source, begin, start)?;
+    let Ok(number) = command.number_at(source, begin, start) else {
+        return Err(RunError::Read);
+    };
+    command.scan.number = number;
     let Ok(end) = command.end(source, start, size) else {
         return Err(RunError::Read);
     };
@@ -203,6 +204,8 @@ fn print_headed<S: ReadAt, W: Write>(
     requires awaits { awaits_header command.old.scan ≡ true }
     ensures same { OnOk result (IfSome (S.text source.now) (λ text. PrintsRest command.old command.new
         (W.contents output.old.inner) (W.contents output.new.inner) text (lines text))) }
+    ensures flushed { OnOk result (output.new.flushed ≡ true) }
+    ensures failed { output.old.failed ≡ false → FailsBy result output.new.failed }
 {
     let Ok(second) = second_line(source) else {
         return Err(RunError::Read);
@@ -222,7 +225,7 @@ fn print_headed<S: ReadAt, W: Write>(
 /// not noted.
 ///
 /// Fails with `RunError::Read` if a read fails, with `RunError::Write` if a write or the flush does.
-pub fn print_in_order<S: ReadAt, W: Write>(
+pub fn between_in_order<S: ReadAt, W: Write>(
     command: &mut Between<'_>,
     source: &S,
     size: u64,
@@ -232,6 +235,9 @@ pub fn print_in_order<S: ReadAt, W: Write>(
     // printed of all lines.
     ensures same { OnOk result (IfSome (S.text source.now) (λ text. PrintsFile command.old command.new
         (W.contents output.old.inner) (W.contents output.new.inner) text)) }
+    ensures flushed { OnOk result (output.new.flushed ≡ true) }
+    // If the output had not failed before, it has failed if and only if the answer says so.
+    ensures failed { output.old.failed ≡ false → FailsBy result output.new.failed }
 {
     if !command.is_searched() {
         return print_part(command, source, 0, u64::MAX, output);

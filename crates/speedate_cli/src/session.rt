@@ -6,7 +6,7 @@ ghost use Rattle.arrayvec.specs.ArrayVec.{array_vec_len};
 use crate::between::{Between, print_entries};
 use crate::check::{Check, print_reports};
 use crate::convert::{Convert, print_converted};
-use crate::in_order::print_in_order;
+use crate::in_order::between_in_order;
 use crate::order::{Order, print_late};
 use crate::print::{push_line_place, push_report};
 use crate::reading::Form;
@@ -113,7 +113,7 @@ impl Closing for Between<'_> {
         size: u64,
         output: &mut Watched<W>,
     ) -> Result<(), RunError> {
-        print_in_order(self, source, size, output)
+        between_in_order(self, source, size, output)
     }
 }
 

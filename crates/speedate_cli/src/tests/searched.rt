@@ -2,7 +2,7 @@
 
 use super::ends::Sink;
 use super::{whole, words_of};
-use crate::in_order::print_in_order;
+use crate::in_order::between_in_order;
 use crate::scan::Report;
 use crate::search::{ReadAt, Seeking};
 use crate::session::Session;
@@ -71,7 +71,7 @@ fn search_text<R: AllocGlobal + Abort, S: ReadAt>(
     let mut command = first_between(given).ok().expect(rt, words);
     command.begin(b"app.log");
     let mut output = Watched::new(Sink::new(rt.alloc(), usize::MAX));
-    let result = print_in_order(&mut command, source, size, &mut output);
+    let result = between_in_order(&mut command, source, size, &mut output);
     Ok(Searched {
         result,
         taken: output.into_inner().taken,
@@ -128,7 +128,7 @@ fn a_search_counts_the_lines_that_it_skips(rt: HostRuntime) -> Result<(), AllocE
     assert_eq!(rt; bare.bad, numbered.bad);
     assert_eq!(rt; bare.first.number, numbered.first.number);
     let lines = log.as_slice().split(|&byte| byte == b'\n');
-    let line = lines.skip(bare.first.number as usize - 1).next();
+    let line = lines.skip((bare.first.number as usize).saturating_sub(1)).next();
     assert_eq!(rt; line, Some(b"trace".as_slice()));
     Ok(())
 }
