@@ -1,14 +1,13 @@
 -- The first of the least lines of files in order is the first of all lines in order.
-use Rattle.std.proofs.Common.{rules, ◌≡◌, ◌∙◌, ap, sym, subst, refl, ℕ, ℤ, zero, suc, ◌+◌, ◌-◌, ◌<◌, ◌≤◌, ◌⊎◌, map, Bool, true, false, List, [], ◌∷◌, ◌++◌, length, get_or, set, arith, inl, inr, append_assoc, append-nil, Option, Some, None, if◌then◌else◌}
+use Rattle.std.proofs.Common.{◌≡◌, ◌∙◌, ap, sym, subst, refl, ℕ, ℤ, zero, suc, ◌+◌, ◌⊎◌, map, Bool, true, false, List, [], ◌∷◌, ◌++◌, get_or, set, arith, inl, inr, append_assoc, Option, Some, None, if◌then◌else◌}
 use Rattle.std.specs.Prelude.{int_lt}
-use Rattle.std.specs.Ordering.{int_cmp, is_lt}
 use Rattle.std.proofs.lemmas.Cmp.{int_cmp_total}
-use Rattle.std.proofs.lemmas.Bool.{cases_Bool, false≢true, true≢false}
+use Rattle.std.proofs.lemmas.Bool.{cases_Bool, false≢true}
 use Rattle.std.proofs.lemmas.List.Sorted.{ranks_by}
 use Rattle.speedate_cli.specs.Sort.{Keyed, in_order, is_earlier_line, put_in_order, sorted_text}
 use Rattle.speedate_cli.specs.Sort.{texts}
 use Rattle.speedate_cli.specs.Merge.{AreAllInOrder, AreInOrder, AreInOrderAfter, Best, best_from}
-use Rattle.speedate_cli.specs.Merge.{best_of, better, due, instant_of}
+use Rattle.speedate_cli.specs.Merge.{best_of, better, due}
 use Rattle.speedate_cli.specs.Merge.{joined, line_and, merged_text, risen, risen_after}
 use Rattle.speedate_cli.specs.Merge.{risen_joined}
 use Rattle.speedate_cli.proofs.OrderLemmas.{is_lt-int_cmp}
@@ -345,11 +344,19 @@ found-better before index best x xs files less found = elim found [
       best_index (record { index = index; instant = x.instant }) best same.0 in
       let place : index ≡ best.index = ap (λ (b : Best). b.index) is in
       let key : x.instant ≡ best.instant = ap (λ (b : Best). b.instant) is in
-      inr (0, omega (arith, place), (key, same.1),
-      ap (λ (n : ℤ). int_lt n before.instant) (sym key) ∙ less)
-  | inr new ↦ inr (suc new.0, omega (arith, new.1), (new.3, new.2),
-      less-chain best.instant x.instant before.instant new.3
-      (less-not_less x.instant before.instant less))
+      inr (
+        0,
+        omega (arith, place),
+        (key, same.1),
+        ap (λ (n : ℤ). int_lt n before.instant) (sym key) ∙ less,
+      )
+  | inr new ↦ inr (
+    suc new.0,
+    omega (arith, new.1),
+    (new.3, new.2),
+    less-chain best.instant x.instant before.instant new.3
+        (less-not_less x.instant before.instant less),
+  )
 ]
 
 found-worse : (before : Best) (index : ℕ) (best : Best) (x : Keyed) (xs : List Keyed)
@@ -359,10 +366,16 @@ found-worse : (before : Best) (index : ℕ) (best : Best) (x : Keyed) (xs : List
 found-worse before index best x xs files after found = elim found [
   | inl same ↦
       let is = best_index before best same.0 in
-      inl (same.0,
-      (ap (λ (b : Best). int_lt x.instant b.instant) (sym is) ∙ after, same.1))
-  | inr new ↦ inr (suc new.0, omega (arith, new.1),
-      (less-chain best.instant before.instant x.instant new.3 after, new.2), new.3)
+      inl (
+        same.0,
+        (ap (λ (b : Best). int_lt x.instant b.instant) (sym is) ∙ after, same.1),
+      )
+  | inr new ↦ inr (
+    suc new.0,
+    omega (arith, new.1),
+    (less-chain best.instant before.instant x.instant new.3 after, new.2),
+    new.3,
+  )
 ]
 
 found-test : (test : Bool) (before : Best) (index : ℕ) (best : Best) (x : Keyed)
@@ -496,6 +509,7 @@ due-step best instant (byte ∷ bytes) rest left files first is same begins =
     let next : get_or files best.index [] ≡ x ∷ left =
     is ∙ ap (λ (l : List Keyed). x ∷ l) same in
     let least = least-from_first best.index x best.instant left left files first next key
-    (risen_after-risen instant left begins) begins in
-    (due-least best.index x left files least,
-    in_order-step best.index x left files next begins)
+    (risen_after-risen instant left begins) begins in (
+      due-least best.index x left files least,
+      in_order-step best.index x left files next begins,
+    )

@@ -1,14 +1,14 @@
 -- The lines of a source, read one by one.
-use Rattle.std.proofs.Common.{rules, ◌≡◌, ◌≢◌, ◌∙◌, ◌⊎◌, ap, sym, subst, refl, ℕ, ℤ, zero, suc, ◌+◌, ◌-◌, ◌<◌, ◌≤◌, Bool, true, false, ◌==◌, List, [], ◌∷◌, ◌++◌, length, take, get_or, slice_index, All, arith, inl, inr, append-nil, map, set, Option, Some, None, is_some, IfSome, IsSome, if◌then◌else◌}
+use Rattle.std.proofs.Common.{◌≡◌, ◌∙◌, ◌⊎◌, ap, sym, subst, refl, ℕ, ℤ, zero, suc, ◌-◌, ◌<◌, ◌≤◌, Bool, true, false, ◌==◌, List, [], ◌∷◌, ◌++◌, length, take, get_or, slice_index, arith, inl, inr, map, set, Option, Some, None, is_some, IfSome, IsSome, if◌then◌else◌}
 use Rattle.std.specs.Prelude.{int_lt, slice_get}
 use Rattle.std.specs.Io.KnownBytes.{Appends, Keeps}
 use Rattle.std.specs.Io.BufRead.{DropsThrough, drop_through, take_through}
-use Rattle.std.proofs.lemmas.Bool.{cases_Bool, eq-eqb, eqb-false, eqb-true, false≢true, ne_eqb, true≢false}
+use Rattle.std.proofs.lemmas.Bool.{eq-eqb, eqb-false, eqb-true, false≢true, ne_eqb, true≢false}
 use Rattle.std.proofs.lemmas.List.{get_or-map, length-append, map-set}
 use Rattle.std.proofs.lemmas.List.Elements.{All-cons, All-get_or, All-nil, All-set}
 use Rattle.std.proofs.Math.Seq.{get_or-append_seam, take-append_seam}
 use Rattle.speedate.specs.Ascii.{line_feed}
-use Rattle.speedate.specs.Lines.{Pieces, complete_lines, last_line, lines, onto_first, pieces}
+use Rattle.speedate.specs.Lines.{Pieces, complete_lines, last_line, lines, onto_first}
 use Rattle.speedate.specs.Lines.{unfinished_line}
 use Rattle.speedate.proofs.LineLemmas.{EndsNoLine, IsFree}
 use Rattle.speedate_stream.specs.Machine.{head}
@@ -198,7 +198,6 @@ reads-none (Some (byte ∷ bytes)) after line taken dropped none known =
 
 -- What a line is to the source.
 
-
 -- a line that is left out does not change the value of the entry
 same_instant : (keys : Keys) (what : Line) → is_some (kept_instant keys what) ≡ false
     → instant_after keys.instant what ≡ keys.instant
@@ -356,8 +355,7 @@ module _ {R : Type 0} (remaining : R → Option (List ℕ)) where
       (begins-moves source.keys.instant (remaining new.input) new.keys new.line.items
       moves.order) in
       let same : files_left remaining (set sources best.index new)
-          ≡ set files best.index (file_of new) = map-set file_of sources best.index new in
-      (
+      ≡ set files best.index (file_of new) = map-set file_of sources best.index new in (
         step.0 ∙ ap (λ (l : List (List Keyed)). source.line.items ++ due l) (sym same),
         λ ordered. step.1 (subst AreAllInOrder same ordered),
       )
@@ -414,8 +412,7 @@ pub merges-all : {a b c : Option (List ℕ)} (d : Option (List ℕ)) {files : Li
     → AreAllInOrder files × Appends a d (merged_text files)
 merges-all {a = a} d {files = files} is none merges sent kept =
     let all = merges.all (ap is_some is) in
-    let written = merges-sent none merges sent kept in
-    (
+    let written = merges-sent none merges sent kept in (
       all.1,
       subst (Appends a d) (due-all files all.1)
           (Appends-all (AppendsBut-same written all.0)),

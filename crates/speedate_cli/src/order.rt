@@ -119,13 +119,7 @@ impl<'a> Order<'a> {
 
 /// Appends where a value stands that is earlier than the one before, by how much, and where that stands.
 #[tactic(auto, unfolding(crate::specs::Order::late_text), using(std::proofs::Common::append_assoc))]
-pub fn push_late(
-    name: &[u8],
-    number: u64,
-    instant: i64,
-    latest: &Latest<'_>,
-    pending: &mut Pending,
-)
+pub fn push_late(name: &[u8], number: u64, instant: i64, latest: &Latest<'_>, pending: &mut Pending)
     requires room { array_vec_len pending.old + STEP_MAX ≤ PENDING_MAX }
     ensures pushed { pending.new.items
         ≡ pending.old.items ++ late_text name.now number instant latest.now }

@@ -156,9 +156,7 @@ fn merged_with<R: AllocGlobal + Abort, I: Read + Drop>(
     sink: Sink,
 ) -> Ended {
     let first = BufReader::new(rt.alloc(), first).ok().expect(rt, "merge");
-    let second = BufReader::new(rt.alloc(), second)
-        .ok()
-        .expect(rt, "merge");
+    let second = BufReader::new(rt.alloc(), second).ok().expect(rt, "merge");
     let mut first = FileSource::new(keys, first, rt.alloc());
     let mut second = FileSource::new(keys, second, rt.alloc());
     let mut offsets = Offsets::AsFirst;

@@ -1,8 +1,7 @@
-use Rattle.std.proofs.Common.{rules, ◌≡◌, ◌∙◌, ◌++◌, ap, sym, subst, List, ℕ, [], None}
-use Rattle.std.specs.Io.KnownBytes.{Appends}
+use Rattle.std.proofs.Common.{◌≡◌, ◌++◌, subst, List, ℕ, None}
 use Rattle.speedate_stream.specs.Run.{AppendsBeginning}
 use Rattle.speedate_stream.proofs.SentLemmas.{AppendsBeginning-left, AppendsBeginning-more}
-use Rattle.speedate_cli.specs.Merge.{due, files_left, merged_text}
+use Rattle.speedate_cli.specs.Merge.{due, files_left}
 use Rattle.speedate_cli.proofs.SourceLemmas.{merges-all, merges-sent}
 use Rattle.speedate_cli.proofs.merge.merge.Goals as goal
 

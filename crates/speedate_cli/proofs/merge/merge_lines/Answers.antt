@@ -1,4 +1,4 @@
-use Rattle.std.proofs.Common.{rules, ◌≡◌, ◌∙◌, ◌++◌, ap, sym, List, ℕ, [], append_assoc, append-nil, get_or, is_some, refl, set}
+use Rattle.std.proofs.Common.{◌∙◌, ◌++◌, ap, sym, List, ℕ, [], append_assoc, get_or, is_some, refl, set}
 use Rattle.std.proofs.lemmas.Bool.{true≢false}
 use Rattle.speedate_stream.proofs.SentLemmas.{AppendsBeginning-left, AppendsBeginning-more}
 use Rattle.speedate_stream.proofs.SentLemmas.{AppendsBut-more, AppendsBut-same, AppendsBut-trans}

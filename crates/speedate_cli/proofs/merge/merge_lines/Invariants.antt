@@ -1,4 +1,4 @@
-use Rattle.std.proofs.Common.{◌≡◌, ◌++◌}
+use Rattle.std.proofs.Common.{◌++◌}
 use Rattle.speedate_stream.specs.Run.{AppendsBut}
 use Rattle.speedate_cli.specs.Merge.{AreAllInOrder, AreKnown, due, files_left}
 use Rattle.speedate_cli.proofs.merge.merge_lines.Given as goal

@@ -1,4 +1,4 @@
-use Rattle.std.proofs.Common.{rules, ◌≡◌, ◌<◌, length, arith, sym, subst, List, ℕ}
+use Rattle.std.proofs.Common.{◌<◌, length, arith, sym, subst, List, ℕ}
 use Rattle.speedate_cli.specs.Merge.{ReadsLine}
 use Rattle.speedate_cli.proofs.SortLemmas.{ok_part}
 use Rattle.speedate_cli.proofs.SourceLemmas.{reads-line}

@@ -1,4 +1,4 @@
-use Rattle.std.proofs.Common.{rules, ◌≡◌, ◌∙◌, ◌<◌, length, arith, ap, sym, subst, List, ℕ, ◌-◌, take, true, false, is_some, vec_len}
+use Rattle.std.proofs.Common.{rules, ◌≡◌, ◌∙◌, ◌<◌, length, arith, ap, sym, List, ℕ, ◌-◌, take, true, false, is_some, vec_len}
 use Rattle.std.proofs.lemmas.Bool.{eqb-false}
 use Rattle.std.specs.Prelude.{int_lt}
 use Rattle.speedate_cli.specs.Sort.{Keys, key_after, key_of}
@@ -13,8 +13,11 @@ returns-then-is_kept-clause-moves g c =
     let long : c.len-end.result ≡ length line =
     omega (arith, c.len-end.ensures, c.read_line.new.line.ok.0) in
     let some : 0 < length line =
-    omega (arith, eqb-false (vec_len c.read_line.new.line) 0 (sym c.if-is_empty.ensures),
-    c.read_line.new.line.ok.0) in
+    omega (
+      arith,
+      eqb-false (vec_len c.read_line.new.line) 0 (sym c.if-is_empty.ensures),
+      c.read_line.new.line.ok.0,
+    ) in
     let text : take (c.len-end.result - 1) c.deref.result.now ≡ take (length line - 1) line =
     ap (λ (l : List ℕ). take (c.len-end.result - 1) l) c.deref.ensures.value
     ∙ ap (λ (n : ℕ). take (n - 1) line) long in
