@@ -86,6 +86,15 @@ impl Between<'_> {
         }
     }
 
+    /// Passes over the last entries of a file, whose values are not before the second bound.
+    fn pass_entry(&mut self)
+        ensures stop { self.new.scan.stop ≡ self.old.scan.stop }
+    {
+        self.is_kept = false;
+        self.has_value = true;
+        self.scan.offsets = Offsets::Only(self.scan.has_offsets());
+    }
+
     /// The number of the line before a part of a file. The lines before it are counted if numbers of
     /// lines are printed.
     fn number_at<S: ReadAt>(&self, source: &S, begin: u64, start: u64) -> io::Result<u64>
@@ -167,6 +176,29 @@ fn print_found<S: ReadAt, W: Write>(
     Ok(())
 }
 
+/// The same, and then passes over the lines after the part, if there are any: an entry begins there
+/// that is not printed.
+fn print_bounded<S: ReadAt, W: Write>(
+    command: &mut Between<'_>,
+    source: &S,
+    begin: u64,
+    start: u64,
+    end: u64,
+    output: &mut Watched<W>,
+) -> Result<(), RunError>
+    requires ordered { begin ≤ start }
+    ensures ended { OnOk result (IfSome (S.text source.now) (λ text. EndsFound command.old command.new
+        (W.contents output.old.inner) (W.contents output.new.inner) (part text start end))) }
+    ensures flushed { OnOk result (output.new.flushed ≡ true) }
+    ensures failed { output.old.failed ≡ false → FailsBy result output.new.failed }
+{
+    print_found(command, source, begin, start, end, output)?;
+    if end < u64::MAX {
+        command.pass_entry();
+    }
+    Ok(())
+}
+
 /// Prints what `between` prints of a file from a byte on, at which a line begins.
 fn print_rest<S: ReadAt, W: Write>(
     command: &mut Between<'_>,
@@ -191,7 +223,7 @@ fn print_rest<S: ReadAt, W: Write>(
     let Ok(end) = command.end(source, start, size) else {
         return Err(RunError::Read);
     };
-    print_found(command, source, begin, start, end, output)
+    print_bounded(command, source, begin, start, end, output)
 }
 
 /// Prints what `between` prints of a file with a header.
