@@ -1,5 +1,5 @@
 -- The lines of a source, read one by one.
-use Rattle.std.proofs.Common.{◌≡◌, ◌∙◌, ◌⊎◌, ap, sym, subst, refl, ℕ, ℤ, zero, suc, ◌-◌, ◌<◌, ◌≤◌, Bool, true, false, ◌==◌, List, [], ◌∷◌, ◌++◌, length, take, get_or, slice_index, arith, inl, inr, map, set, Option, Some, None, is_some, IfSome, IsSome, if◌then◌else◌}
+use Rattle.std.proofs.Common.{◌≡◌, ◌∙◌, ◌⊎◌, ap, sym, subst, refl, ℕ, ℤ, zero, suc, ◌-◌, ◌<◌, Bool, true, false, ◌==◌, List, [], ◌∷◌, ◌++◌, length, take, get_or, slice_index, arith, inl, inr, map, set, Option, Some, None, is_some, IfSome, IsSome, if◌then◌else◌}
 use Rattle.std.specs.Prelude.{int_lt, slice_get}
 use Rattle.std.specs.Io.KnownBytes.{Appends, Keeps}
 use Rattle.std.specs.Io.BufRead.{DropsThrough, drop_through, take_through}
