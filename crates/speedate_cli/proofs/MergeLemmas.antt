@@ -157,7 +157,7 @@ abbrev pub BeginsNotBefore : ℤ → List Keyed → Type 0
 BeginsNotBefore i [] = Unit {0}
 BeginsNotBefore i (x ∷ xs) = int_lt x.instant i ≡ false
 
-pub int_not_less : (i : ℤ) → int_lt i i ≡ false
+int_not_less : (i : ℤ) → int_lt i i ≡ false
 int_not_less i = elim (cases_Bool (int_lt i i)) [
   | inl less ↦ less-not_less i i less
   | inr not ↦ not

@@ -1,9 +1,9 @@
 -- The lines of a source, read one by one.
-use Rattle.std.proofs.Common.{◌≡◌, ◌∙◌, ◌⊎◌, ap, sym, subst, refl, ℕ, ℤ, zero, suc, ◌-◌, ◌<◌, ◌≤◌, Bool, true, false, ◌==◌, List, [], ◌∷◌, ◌++◌, length, take, get_or, slice_index, arith, inl, inr, map, set, Option, Some, None, is_some, IfSome, IsSome, if◌then◌else◌}
+use Rattle.std.proofs.Common.{◌≡◌, ◌∙◌, ◌⊎◌, ap, sym, subst, refl, ℕ, ℤ, zero, suc, ◌-◌, ◌<◌, Bool, true, false, ◌==◌, List, [], ◌∷◌, ◌++◌, length, take, get_or, slice_index, arith, inl, inr, map, set, Option, Some, None, is_some, IfSome, IsSome, if◌then◌else◌}
 use Rattle.std.specs.Prelude.{int_lt, slice_get}
 use Rattle.std.specs.Io.KnownBytes.{Appends, Keeps}
 use Rattle.std.specs.Io.BufRead.{DropsThrough, drop_through, take_through}
-use Rattle.std.proofs.lemmas.Bool.{eq-eqb, eqb-false, eqb-true, false≢true, ne_eqb, true≢false}
+use Rattle.std.proofs.lemmas.Bool.{eq-eqb, eqb-false, eqb-true, false≢true, ne_eqb}
 use Rattle.std.proofs.lemmas.List.{get_or-map, length-append, map-set}
 use Rattle.std.proofs.lemmas.List.Elements.{All-cons, All-get_or, All-nil, All-set}
 use Rattle.std.proofs.Math.Seq.{get_or-append_seam, take-append_seam}
@@ -16,17 +16,16 @@ use Rattle.speedate_stream.specs.Run.{AppendsBut}
 use Rattle.speedate_stream.proofs.SentLemmas.{Appends-all, AppendsBut-kept, AppendsBut-more}
 use Rattle.speedate_stream.proofs.SentLemmas.{AppendsBut-same, AppendsBut-trans}
 use Rattle.speedate_cli.specs.Scan.{Line, keeps, line_of}
-use Rattle.speedate_cli.specs.Sort.{Keyed, Keys, file_lines, instant_after, kept_instant, key_after}
-use Rattle.speedate_cli.specs.Sort.{key_of}
+use Rattle.speedate_cli.specs.Sort.{Keyed, Keys, file_lines, instant_after, key_after, key_of}
 use Rattle.speedate_cli.specs.Merge.{Moves, ReadsLine, bare, bytes_of, ended, line_and, lines_left}
 use Rattle.speedate_cli.specs.Merge.{unread, with_feed}
 use Rattle.speedate_cli.specs.Merge.{AreAllInOrder, AreKnown, Best, Halt, IsLate, IsLateIn, Source}
 use Rattle.speedate_cli.specs.Merge.{Halted, Merges, best_of, due, files_left, instant_of}
 use Rattle.speedate_cli.specs.Merge.{instants, merged_text}
-use Rattle.speedate_cli.proofs.SortLemmas.{file_lines-cons, no-line, one-line}
+use Rattle.speedate_cli.proofs.SortLemmas.{file_lines-cons, one-line}
 use Rattle.speedate_cli.proofs.MergeLemmas.{BeginsNotBefore, IsFirst, best-is_first, due-all}
 use Rattle.speedate_cli.proofs.MergeLemmas.{due-line, due-none, due-step, first_instant}
-use Rattle.speedate_cli.proofs.MergeLemmas.{first_instants, int_not_less}
+use Rattle.speedate_cli.proofs.MergeLemmas.{first_instants}
 
 -- The first line of a text.
 
@@ -175,66 +174,13 @@ reads-line (Some []) after line taken dropped some known =
 reads-line (Some (byte ∷ bytes)) after line taken dropped some known =
     reads-first byte bytes line after taken some dropped
 
--- no line is left
-pub reads-none : (before after : Option (List ℕ)) (line : List ℕ)
-    → IfSome before (λ bytes. line ≡ take_through line_feed bytes)
-    → DropsThrough before after line_feed → length line ≡ 0 → IsSome before
-    → ReadsLine before after line
-reads-none None after line taken dropped none known = absurd (false≢true known)
-reads-none (Some []) after line taken dropped none known = record {
-  known = ap is_some dropped;
-  feed = taken ∙ sym (ap (λ (l : List ℕ). with_feed (bare l)) taken);
-  lines = sym (ap (λ (l : List ℕ). bare l ++ lines (bytes_of after)) taken
-      ∙ ap (λ (left : Option (List ℕ)). lines (bytes_of left)) dropped);
-  end = λ is. ap bytes_of dropped;
-}
-reads-none (Some (byte ∷ bytes)) after line taken dropped none known =
-    absurd (some (byte == line_feed) (ap length (sym taken) ∙ none))
-  where
-    some : (test : Bool)
-        → length (if test then byte ∷ [] else byte ∷ take_through line_feed bytes) ≡ 0 → ⊥
-    some true is = omega (arith, is)
-    some false is = omega (arith, is)
-
 -- What a line is to the source.
-
--- a line that is left out does not change the value of the entry
-same_instant : (keys : Keys) (what : Line) → is_some (kept_instant keys what) ≡ false
-    → instant_after keys.instant what ≡ keys.instant
-same_instant keys (Line.Value found) is = absurd (true≢false is)
-same_instant keys Line.Late is = refl
-same_instant keys Line.Header is = refl
-same_instant keys (Line.Bad bad) is = refl
-same_instant keys Line.Unfit is = refl
-same_instant keys Line.Undated is = refl
-
-pub instant-skipped : (keys : Keys) (line : List ℕ) → is_some (key_of keys line) ≡ false
-    → (key_after keys line).instant ≡ keys.instant
-instant-skipped keys line is = same_instant keys (line_of keys.scan (head line)) is
-
-is-none : (found : Option ℤ) → is_some found ≡ false → found ≡ None
-is-none None is = refl
-is-none (Some instant) is = absurd (true≢false is)
 
 kept_found : (kept : Bool) (instant : ℤ)
     → is_some (if kept then Some instant else None) ≡ true
     → (if kept then Some instant else None) ≡ Some instant
 kept_found true instant is = refl
 kept_found false instant is = absurd (false≢true is)
-
--- a line that is left out
-pub unread-skipped : (before after : Option (List ℕ)) (keys : Keys) (line : List ℕ)
-    → ReadsLine before after line → 0 < length line
-    → is_some (key_of keys (take (length line - 1) line)) ≡ false
-    → unread before keys ≡ unread after (key_after keys (take (length line - 1) line))
-unread-skipped before after keys [] reads some skipped = absurd (omega (arith, some))
-unread-skipped before after keys (byte ∷ bytes) reads some skipped =
-    let text : List ℕ = take (length (byte ∷ bytes) - 1) (byte ∷ bytes) in
-    let others : List (List ℕ) = lines (bytes_of after) in
-    ap (file_lines keys) reads.lines
-    ∙ file_lines-cons keys text others
-    ∙ ap (λ (l : List Keyed). l ++ file_lines (key_after keys text) others)
-    (no-line keys text (is-none (key_of keys text) skipped))
 
 -- a line that is not left out
 pub unread-kept : (before after : Option (List ℕ)) (keys : Keys) (line : List ℕ)
@@ -253,20 +199,6 @@ unread-kept before after keys (byte ∷ bytes) reads some kept =
     (one-line keys text instant (kept_found (keeps keys.scan what) instant kept))
     ∙ ap (λ (l : List ℕ). record { instant = instant; text = l }
     ∷ file_lines (key_after keys text) others) (sym reads.feed)
-
--- no line is left of a source
-pub moves-end : (first before after : Option (List ℕ)) (old keys : Keys) (line : List ℕ)
-    → ReadsLine before after line → length line ≤ 0 → unread first old ≡ unread before keys
-    → keys.instant ≡ old.instant
-    → Moves first after old keys line
-moves-end first before after old keys [] reads none same instant = record {
-  known = reads.known;
-  lines = same
-      ∙ ap (file_lines keys) (reads.lines ∙ ap lines (reads.end refl));
-  order = ap (λ (n : ℤ). int_lt n old.instant) instant ∙ int_not_less old.instant;
-}
-moves-end first before after old keys (byte ∷ bytes) reads none same instant =
-    absurd (omega (arith, none))
 
 -- a line was read that is not left out
 pub moves-line : (first before after : Option (List ℕ)) (old keys new : Keys) (line : List ℕ)

@@ -300,7 +300,7 @@ fn merge_lines<R: BufRead, W: Write>(
 }
 
 /// Prints the lines of sources in the order of their values, and flushes. Lines of one value stay as the
-/// sources have them, one source after the other.
+/// sources have them, one source after the other. `Source::next` must have read the first line of each.
 ///
 /// The first line that is out of order ends the merge, and so does a read that fails: what was printed
 /// before is a beginning of what is printed of the lines up to there. Fails with `Failed` if a write or
