@@ -593,7 +593,8 @@ pub record BeginsWith (reader : Reader) (has_offset : Bool) (instant : ℤ)
   pub is : lines ≡ line ∷ others
   pub value : line_value reader has_offset line ≡ Some instant
 
-pub reader-after : (scan : Scan) (lines : List (List ℕ)) → (scan_after scan lines).reader ≡ scan.reader
+pub reader-after : (scan : Scan) (lines : List (List ℕ))
+    → (scan_after scan lines).reader ≡ scan.reader
 reader-after scan lines = ap (λ (now : Scan). now.reader) (fixed-after scan lines)
 
 pub begins-marked : (prefix : Prefix) (scan : Scan) (has_offset : Bool) (instant : ℤ)

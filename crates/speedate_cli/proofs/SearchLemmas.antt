@@ -49,7 +49,8 @@ part-empty text from to (inr none) =
     nil_from_length (part text from to)
     (omega (arith, none, length-take (to - from) (drop from text)))
 
-pub part-past : (text : List ℕ) (from to : ℕ) → length text ≤ to → part text from to ≡ drop from text
+pub part-past : (text : List ℕ) (from to : ℕ) → length text ≤ to
+    → part text from to ≡ drop from text
 part-past text from to past =
     take_all (to - from) (drop from text) (omega (arith, past, length-drop from text))
 
@@ -83,8 +84,8 @@ window-read None at end count size buffer rest is_read within room whole =
     (tt, λ none some. tt)
 window-read (Some text) at end count size buffer rest is_read within room whole = (
   part-joined text at count end (omega (arith, within, room))
-  ∙ ap (λ (l : List ℕ). l ++ part text (at + count) end)
-  (sym is_read.0 ∙ sym (take-append-le count buffer rest within)),
+      ∙ ap (λ (l : List ℕ). l ++ part text (at + count) end)
+      (sym is_read.0 ∙ sym (take-append-le count buffer rest within)),
   λ none some. at_end text at end count (length buffer) (omega (arith, room)) is_read.1 none
       (cases_room (length buffer) size end at room (omega (arith, whole, some))),
 )
@@ -209,15 +210,17 @@ pub feed-found : (known : Option (List ℕ)) (block : List ℕ) (at count end pl
 feed-found None block at count end place is_read before found is = tt
 feed-found (Some text) block at count end place is_read before found is =
     let moved = line-moved text (take count block) at count 0 end is_read.0 found in
-    let last : place - 1 ≡ at + end = omega (arith, is) in
-    (omega (arith, is), record {
-      after = omega arith;
-      within = omega (arith, last, moved.within);
-      ends = ap (λ (i : ℕ). slice_index text i) last ∙ moved.ends;
-      first = λ k after below same.
-          one_longer text (take count block) at count end is_read.0 before found.first
-          (omega (arith, found.within)) k after (omega (arith, below, last)) same;
-    })
+    let last : place - 1 ≡ at + end = omega (arith, is) in (
+      omega (arith, is),
+      record {
+        after = omega arith;
+        within = omega (arith, last, moved.within);
+        ends = ap (λ (i : ℕ). slice_index text i) last ∙ moved.ends;
+        first = λ k after below same.
+            one_longer text (take count block) at count end is_read.0 before found.first
+            (omega (arith, found.within)) k after (omega (arith, below, last)) same;
+      },
+    )
 
 pub feed-checked : (known : Option (List ℕ)) (block : List ℕ) (at count end : ℕ)
     (result : Option ℕ) (P : Type 0) → IsRead known at count block → HasNoFeed known at

@@ -27,7 +27,8 @@ known_part (Some text) from to = Some (part text from to)
 
 -- Lines that have a value.
 
--- the microsecond of what is read of a line, if it is a value that has an offset as it is to have one
+-- the microsecond of what is read of a line, if it is a value that has an offset, or none, as it is
+-- to have it
 abbrev pub value_in : Bool → Reading → Option ℤ
 value_in has_offset (Reading.Value found) =
     if has_as has_offset found then Some found.instant else None
