@@ -1,25 +1,24 @@
 -- What `between` prints of the part of a file that it reads is what it prints of the whole file.
-use Rattle.std.proofs.Common.{rules, ◌≡◌, ◌∙◌, ℕ, ℤ, ◌+◌, ◌-◌, ◌^◌, ◌<◌, ◌≤◌, zero, suc, Bool, true, false, List, [], ◌∷◌, ◌++◌, refl, ap, sym, subst, arith, append_assoc, append-nil, length, take, drop, get_or, min, slice_index, inl, inr}
+use Rattle.std.proofs.Common.{◌≡◌, ◌∙◌, ℕ, ℤ, ◌+◌, ◌-◌, ◌^◌, ◌<◌, ◌≤◌, Bool, true, false, List, [], ◌∷◌, ◌++◌, refl, ap, sym, subst, arith, append_assoc, append-nil, length, take, drop, get_or, min, slice_index, inl, inr}
 use Rattle.std.proofs.lemmas.Bool.{and_parts, cases_lt, eqb-false, ne_eqb}
 use Rattle.std.proofs.lemmas.Bool.{not-true, true≢false}
 use Rattle.std.proofs.lemmas.List.{append_cancel_right, drop-drop, get_or-drop, length-drop, take_more, take-append-drop, drop_all}
 use Rattle.std.proofs.KnownBytes.{Appends-trans}
-use Rattle.std.specs.Prelude.{◌&&◌, ◌==◌, ◌⊎◌, not, int_le, int_lt, Option, Some, None, IfSome, Result, Ok, Err, OnOk, if◌then◌else◌}
+use Rattle.std.specs.Prelude.{◌&&◌, ◌==◌, ◌⊎◌, not, Option, Some, None, IfSome, Result, Ok, Err, OnOk, if◌then◌else◌}
 use Rattle.std.specs.Io.KnownBytes.{Appends, Consumes, IsAtEnd}
 use Rattle.speedate.specs.Ascii.{line_feed}
-use Rattle.speedate.specs.Lines.{IsLineEnd, Pieces, complete_lines, last_line, lines, pieces}
+use Rattle.speedate.specs.Lines.{Pieces, complete_lines, last_line, lines}
 use Rattle.speedate.specs.Lines.{unfinished_line}
 use Rattle.speedate.proofs.LineLemmas.{pieces-append, pieces-from, pieces-line, unfinished-free}
 use Rattle.speedate_stream.specs.Machine.{head, lines_output, state_after}
 use Rattle.speedate_stream.specs.Run.{Ends}
 use Rattle.speedate_stream.specs.Watch.{one_more}
-use Rattle.speedate_cli.specs.Print.{Prefix}
-use Rattle.speedate_cli.specs.Reading.{Bad, Found, Reader, Reading, part, read}
+use Rattle.speedate_cli.specs.Reading.{Found, Reader, Reading, part, read}
 use Rattle.speedate_cli.specs.Scan.{Line, Offsets, Scan, UndatedLines, fits, has_offsets}
 use Rattle.speedate_cli.specs.Scan.{is_stopped}
 use Rattle.speedate_cli.specs.Scan.{judged, line_of, passed, undated_line, unfit_line}
-use Rattle.speedate_cli.specs.Between.{Between, Bounds, between_after, between_machine}
-use Rattle.speedate_cli.specs.Entries.{Entry, Marked, awaits_header, between_lines, entries}
+use Rattle.speedate_cli.specs.Between.{Between, between_after, between_machine}
+use Rattle.speedate_cli.specs.Entries.{Marked, awaits_header, between_lines, entries}
 use Rattle.speedate_cli.specs.Entries.{entries_text, file_text, mark, marked, printed_line}
 use Rattle.speedate_cli.specs.InOrder.{AreInOrder, EndsAt, EndsFirstLine, EndsFound, EndsPart}
 use Rattle.speedate_cli.specs.InOrder.{HasValueAt, IsInOrder, IsNumber, PrintsFile}
