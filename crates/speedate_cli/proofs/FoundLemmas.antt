@@ -1,27 +1,27 @@
 -- What `between` prints of the part of a file that it reads is what it prints of the whole file.
-use Rattle.std.proofs.Common.{rules, ◌≡◌, ◌∙◌, ℕ, ℤ, ◌+◌, ◌-◌, ◌^◌, ◌<◌, ◌≤◌, zero, suc, Bool, true, false, List, [], ◌∷◌, ◌++◌, refl, ap, sym, subst, arith, append_assoc, append-nil, length, take, drop, get_or, min, slice_index, inl, inr}
+use Rattle.std.proofs.Common.{◌≡◌, ◌∙◌, ℕ, ℤ, ◌+◌, ◌-◌, ◌^◌, ◌<◌, ◌≤◌, Bool, true, false, List, [], ◌∷◌, ◌++◌, refl, ap, sym, subst, arith, append_assoc, append-nil, length, take, drop, get_or, min, slice_index, inl, inr}
 use Rattle.std.proofs.lemmas.Bool.{and_parts, cases_lt, eqb-false, ne_eqb}
 use Rattle.std.proofs.lemmas.Bool.{not-true, true≢false}
 use Rattle.std.proofs.lemmas.List.{append_cancel_right, drop-drop, get_or-drop, length-drop, take_more, take-append-drop, drop_all}
 use Rattle.std.proofs.KnownBytes.{Appends-trans}
-use Rattle.std.specs.Prelude.{◌&&◌, ◌==◌, ◌⊎◌, not, int_le, int_lt, Option, Some, None, IfSome, Result, Ok, Err, OnOk, if◌then◌else◌}
+use Rattle.std.specs.Prelude.{◌&&◌, ◌==◌, ◌⊎◌, not, Option, Some, None, IfSome, Result, Ok, Err, OnOk, if◌then◌else◌}
 use Rattle.std.specs.Io.KnownBytes.{Appends, Consumes, IsAtEnd}
 use Rattle.speedate.specs.Ascii.{line_feed}
-use Rattle.speedate.specs.Lines.{IsLineEnd, Pieces, complete_lines, last_line, lines, pieces}
+use Rattle.speedate.specs.Lines.{Pieces, complete_lines, last_line, lines}
 use Rattle.speedate.specs.Lines.{unfinished_line}
 use Rattle.speedate.proofs.LineLemmas.{pieces-append, pieces-from, pieces-line, unfinished-free}
 use Rattle.speedate_stream.specs.Machine.{head, lines_output, state_after}
 use Rattle.speedate_stream.specs.Run.{Ends}
 use Rattle.speedate_stream.specs.Watch.{one_more}
-use Rattle.speedate_cli.specs.Print.{Prefix}
-use Rattle.speedate_cli.specs.Reading.{Bad, Found, Reader, Reading, part, read}
-use Rattle.speedate_cli.specs.Scan.{Line, Offsets, Scan, UndatedLines, fits, has_offsets, is_stopped}
+use Rattle.speedate_cli.specs.Reading.{Found, Reader, Reading, part, read}
+use Rattle.speedate_cli.specs.Scan.{Line, Offsets, Scan, UndatedLines, fits, has_offsets}
+use Rattle.speedate_cli.specs.Scan.{is_stopped}
 use Rattle.speedate_cli.specs.Scan.{judged, line_of, passed, undated_line, unfit_line}
-use Rattle.speedate_cli.specs.Between.{Between, Bounds, between_after, between_machine}
-use Rattle.speedate_cli.specs.Entries.{Entry, Marked, awaits_header, between_lines, entries}
+use Rattle.speedate_cli.specs.Between.{Between, between_after, between_machine}
+use Rattle.speedate_cli.specs.Entries.{Marked, awaits_header, between_lines, entries}
 use Rattle.speedate_cli.specs.Entries.{entries_text, file_text, mark, marked, printed_line}
 use Rattle.speedate_cli.specs.InOrder.{AreInOrder, EndsAt, EndsFirstLine, EndsFound, EndsPart}
-use Rattle.speedate_cli.specs.InOrder.{HasValueAt, IsBefore, IsFrom, IsInOrder, IsNumber, PrintsFile}
+use Rattle.speedate_cli.specs.InOrder.{HasValueAt, IsInOrder, IsNumber, PrintsFile}
 use Rattle.speedate_cli.specs.InOrder.{PrintsRest, StartsAt, is_searched, is_settled, known_part}
 use Rattle.speedate_cli.specs.InOrder.{line_value, scan_after}
 use Rattle.speedate_cli.proofs.EntryLemmas.{between_prints, header_passed, line_is_header}
@@ -50,8 +50,8 @@ ends-part before after (Some text) unread old new from to ends = elim ends [
       inr (
         prints.state ∙ ap (λ (l : List ℕ). state_after between_machine before (lines l)) all,
         subst (Appends old new)
-        (ap (λ (l : List ℕ). lines_output between_machine before (lines l)) all
-        ∙ between_prints before (lines (part text from to))) prints.sent,
+            (ap (λ (l : List ℕ). lines_output between_machine before (lines l)) all
+            ∙ between_prints before (lines (part text from to))) prints.sent,
       )
   | inr stopped ↦ inl stopped.0
 ]
@@ -231,7 +231,8 @@ text-plain between lines came kept =
     ∙ ap (λ (is_kept : Bool). between_lines between.bounds is_kept
     (marked between.prefix between.scan lines)) kept
 
-settled-asks : (offsets : Offsets) → is_settled offsets ≡ true → AskFor (has_offsets offsets) offsets
+settled-asks : (offsets : Offsets) → is_settled offsets ≡ true
+    → AskFor (has_offsets offsets) offsets
 settled-asks Offsets.Any settled = cc
 settled-asks Offsets.AsFirst settled = cc
 settled-asks (Offsets.Only has_offset) settled = refl
@@ -251,7 +252,6 @@ module _ (between : Between) (text : List ℕ) (begin start : ℕ)
     (settled : is_settled between.scan.offsets ≡ true)
     (ordered : begin ≤ start) (starts : StartsAt between (Some text) begin start)
     (in_order : IsInOrder between (lines (drop begin text))) where
-
   abbrev skipped : List (List ℕ)
   skipped = lines (part text begin start)
 
@@ -312,8 +312,7 @@ module _ (between : Between) (text : List ℕ) (begin start : ℕ)
   start-printed = elim starts [
     | inl same ↦
         let is = ap (λ (l : List (List ℕ)). marked between.prefix between.scan l
-        ++ marked between.prefix found_scan others) (none-skipped same) in
-        (
+        ++ marked between.prefix found_scan others) (none-skipped same) in (
           ap (λ (l : List Marked). entries_text between.bounds (entries l)) is,
           subst (λ (l : List Marked). AreInOrder (entries l)) is start-in_order,
         )
@@ -322,24 +321,22 @@ module _ (between : Between) (text : List ℕ) (begin start : ℕ)
         let begins = begins-later found_scan instant others (reader-after between.scan skipped)
         start-asked (came-after between.scan skipped came) (went_on found_scan others start-goes_on)
         (begins-at between.scan.reader (has_offsets between.scan.offsets) text start instant
-        found.1.1.1.0) in
-        (
+        found.1.1.1.0) in (
           skipped-lines between.bounds found.0 instant
-          (marked between.prefix between.scan skipped)
-          (marked between.prefix found_scan others) found.1.0 found.1.1.1.1 begins start-in_order,
+              (marked between.prefix between.scan skipped)
+              (marked between.prefix found_scan others) found.1.0 found.1.1.1.1 begins start-in_order,
           later-ordered (entries (marked between.prefix between.scan skipped))
-          (entries (marked between.prefix found_scan others))
-          (subst AreInOrder (entries-append (marked between.prefix between.scan skipped)
-          (marked between.prefix found_scan others)
-          (begins-no_more instant (marked between.prefix found_scan others) begins))
-          start-in_order),
+              (entries (marked between.prefix found_scan others))
+              (subst AreInOrder (entries-append (marked between.prefix between.scan skipped)
+              (marked between.prefix found_scan others)
+              (begins-no_more instant (marked between.prefix found_scan others) begins))
+              start-in_order),
         )
   ]
 
   -- what is after the second bound is not printed either
   module _ (end : ℕ) (short : length text < 2 ^ 64)
       (ends : EndsAt between (Some text) start end) where
-
     abbrev middle : List (List ℕ)
     middle = lines (part text start end)
 
@@ -406,7 +403,6 @@ module _ (between : Between) (text : List ℕ) (begin start : ℕ)
         (number_is : (number ≡ min (between.scan.number
         + length (complete_lines (part text begin start))) most)
         ⊎ ((number ≡ between.scan.number) × (between.prefix.has_number ≡ false))) where
-
       abbrev part_scan : Scan
       part_scan = record between.scan { number = number }
 
@@ -440,8 +436,8 @@ module _ (between : Between) (text : List ℕ) (begin start : ℕ)
                   let all = ap length (lines-complete (part text begin start)
                   (part-ended text begin start less
                   (omega (arith, found.ends.after, found.ends.within)) found.begins)) in
-                  let is = number-after between.scan skipped (went_on found_scan others start-goes_on)
-                  fits in
+                  let is = number-after between.scan skipped
+                  (went_on found_scan others start-goes_on) fits in
                   omega (arith, all, is, counted)
               | inr same ↦
                   let is = start-number (omega (arith, same, ordered)) in
@@ -451,7 +447,8 @@ module _ (between : Between) (text : List ℕ) (begin start : ℕ)
         | inr kept ↦ absurd (true≢false (sym asked ∙ kept.1))
       ]
 
-      middle-marked : marked between.prefix found_scan middle ≡ marked between.prefix part_scan middle
+      middle-marked : marked between.prefix found_scan middle
+          ≡ marked between.prefix part_scan middle
       middle-marked = elim starts [
         | inl same ↦
             ap (λ (l : List (List ℕ)). marked between.prefix (scan_after between.scan l) middle)
@@ -461,16 +458,16 @@ module _ (between : Between) (text : List ℕ) (begin start : ℕ)
         | inr found ↦
             let instant = found.1.1.0 in
             let begins = subst (BeginsWith between.scan.reader (has_offsets between.scan.offsets)
-            instant) end-splits (begins-at between.scan.reader (has_offsets between.scan.offsets) text
-            start instant found.1.1.1.0) in
+            instant) end-splits (begins-at between.scan.reader
+            (has_offsets between.scan.offsets) text start instant found.1.1.1.0) in
             elim (begins-front between.scan.reader (has_offsets between.scan.offsets) instant middle
             dropped begins) [
               | inl none ↦
                   ap (marked between.prefix found_scan) none
                   ∙ sym (ap (marked between.prefix part_scan) none)
               | inr first ↦
-                  marked-found between.prefix between.scan (has_offsets between.scan.offsets) instant
-                  number skipped middle first (settled-asks between.scan.offsets settled) came
+                  marked-found between.prefix between.scan (has_offsets between.scan.offsets)
+                  instant number skipped middle first (settled-asks between.scan.offsets settled) came
                   part-came (went_on found_scan others start-goes_on)
                   (found-number instant found.1.1.1.0)
             ]
@@ -507,15 +504,15 @@ prints-rest before found after None old new begin start end ordered fits starts 
     sent came = tt
 prints-rest before found after (Some text) old new begin start end ordered fits starts ends is
     number_is sent came = λ searched short goes_on in_order. elim sent [
-  | inl stopped ↦ absurd (true≢false (sym stopped ∙ goes_on))
-  | inr sent ↦
-      let parts = searched_parts before searched in
-      let ends_same = subst (λ (now : Between). EndsAt now (Some text) start end) is ends in
-      subst (Appends old new)
-      (ap (λ (now : Between). file_text now (lines (part text start end))) is
-      ∙ part-printed before text begin start came parts.1 ordered starts in_order end short
-      ends_same found.scan.number fits number_is parts.0) sent
-]
+      | inl stopped ↦ absurd (true≢false (sym stopped ∙ goes_on))
+      | inr sent ↦
+          let parts = searched_parts before searched in
+          let ends_same = subst (λ (now : Between). EndsAt now (Some text) start end) is ends in
+          subst (Appends old new)
+          (ap (λ (now : Between). file_text now (lines (part text start end))) is
+          ∙ part-printed before text begin start came parts.1 ordered starts in_order end short
+          ends_same found.scan.number fits number_is parts.0) sent
+    ]
 
 -- What is left of a call that ended well.
 
@@ -616,42 +613,43 @@ headed-text : (before found after : Between) (text : List ℕ) (old halfway new 
     → PrintsRest before after old new text (lines text)
 headed-text before found after text old halfway new begin awaited first ends went rest searched
     short goes_on in_order = elim ends [
-  | inl stopped ↦ absurd (true≢false (sym stopped ∙ went))
-  | inr printed ↦
-      let line : List ℕ = take (begin - 1) text in
-      let others : List (List ℕ) = lines (drop begin text) in
-      let next : Between = between_after before Line.Header in
-      let alone = header-alone text begin first in
-      let all = headed-lines text begin first in
-      let is : found ≡ next = printed.0
-      ∙ ap (λ (l : List (List ℕ)). state_after between_machine before l) alone
-      ∙ ap (between_after before) (line_is_header before.scan (head line) awaited) in
-      let came = header_passed before.scan in
-      let sent_first = subst (Appends old halfway)
-      (ap (file_text before) alone
-      ∙ header-text before line [] awaited
-      ∙ ap (λ (l : List ℕ). printed_line before.prefix before.scan line ++ l)
-      (nothing before.is_kept)
-      ∙ append-nil (printed_line before.prefix before.scan line)) printed.1 in
-      let later = subst (λ (now : Between). awaits_header now.scan ≡ false
-      → PrintsRest now after halfway new text others) is rest in
-      let sent_rest = subst (Appends halfway new) (text-came next others came)
-      (later came (header-searched before ∙ searched) short goes_on
-      (header-in_order before line others awaited (subst (IsInOrder before) all in_order))) in
-      subst (Appends old new)
-      (sym (ap (file_text before) all ∙ header-text before line others awaited))
-      (Appends-trans old halfway new _ _ sent_first sent_rest)
-]
+      | inl stopped ↦ absurd (true≢false (sym stopped ∙ went))
+      | inr printed ↦
+          let line : List ℕ = take (begin - 1) text in
+          let others : List (List ℕ) = lines (drop begin text) in
+          let next : Between = between_after before Line.Header in
+          let alone = header-alone text begin first in
+          let all = headed-lines text begin first in
+          let is : found ≡ next = printed.0
+          ∙ ap (λ (l : List (List ℕ)). state_after between_machine before l) alone
+          ∙ ap (between_after before) (line_is_header before.scan (head line) awaited) in
+          let came = header_passed before.scan in
+          let sent_first = subst (Appends old halfway)
+          (ap (file_text before) alone
+          ∙ header-text before line [] awaited
+          ∙ ap (λ (l : List ℕ). printed_line before.prefix before.scan line ++ l)
+          (nothing before.is_kept)
+          ∙ append-nil (printed_line before.prefix before.scan line)) printed.1 in
+          let later = subst (λ (now : Between). awaits_header now.scan ≡ false
+          → PrintsRest now after halfway new text others) is rest in
+          let sent_rest = subst (Appends halfway new) (text-came next others came)
+          (later came (header-searched before ∙ searched) short goes_on
+          (header-in_order before line others awaited (subst (IsInOrder before) all in_order))) in
+          subst (Appends old new)
+          (sym (ap (file_text before) all ∙ header-text before line others awaited))
+          (Appends-trans old halfway new _ _ sent_first sent_rest)
+    ]
 
-pub headed-rest : {A E : Type 0} (before found after : Between) (known old halfway new : Option (List ℕ))
-    (result : Result A E) (begin : ℕ) → awaits_header before.scan ≡ true
+pub headed-rest : {A E : Type 0} (before found after : Between)
+    (known old halfway new : Option (List ℕ)) (result : Result A E) (begin : ℕ) → awaits_header before.scan ≡ true
     → IfSome known (λ text. EndsFirstLine text begin)
     → IfSome known (λ text. EndsPart before found old halfway (part text 0 begin))
     → is_stopped found.scan.stop ≡ false
     → (awaits_header found.scan ≡ false → OnOk result (IfSome known (λ text.
     PrintsRest found after halfway new text (lines (drop begin text)))))
     → OnOk result (IfSome known (λ text. PrintsRest before after old new text (lines text)))
-headed-rest before found after known old halfway new (Err fault) begin awaited first ends went rest =
+headed-rest before found after known old halfway new (Err fault) begin awaited first ends went
+    rest =
     tt
 headed-rest before found after None old halfway new (Ok value) begin awaited first ends went rest =
     tt

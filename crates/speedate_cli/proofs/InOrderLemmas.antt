@@ -1,17 +1,17 @@
 -- What `between` prints of a file in order is what it prints of the part in which the search ends.
-use Rattle.std.proofs.Common.{rules, ◌≡◌, ◌∙◌, ℕ, ℤ, ◌+◌, ◌≤◌, zero, suc, Bool, true, false, List, [], ◌∷◌, ◌++◌, refl, ap, sym, subst, arith, append_assoc, append-nil, length, inl, inr}
+use Rattle.std.proofs.Common.{rules, ◌≡◌, ◌∙◌, ℕ, ℤ, Bool, true, false, List, [], ◌∷◌, ◌++◌, refl, ap, sym, subst, arith, append_assoc, append-nil}
 use Rattle.std.proofs.lemmas.Int.{ints}
-use Rattle.std.specs.Prelude.{◌&&◌, ◌||◌, ◌==◌, ◌⊎◌, not, int_le, int_lt, Option, Some, None, is_some, decimal, if◌then◌else◌}
+use Rattle.std.specs.Prelude.{◌&&◌, ◌==◌, not, int_le, int_lt, Option, Some, None, is_some, decimal, if◌then◌else◌}
 use Rattle.speedate.specs.Ascii.{line_feed}
 use Rattle.speedate_stream.specs.Machine.{head}
 use Rattle.speedate_stream.specs.Watch.{one_more}
 use Rattle.speedate_cli.specs.Print.{Prefix, prefix_text, shown_name, with_colon}
-use Rattle.speedate_cli.specs.Reading.{Bad, Found, Reader, Reading, read}
+use Rattle.speedate_cli.specs.Reading.{Found, Reader, Reading, read}
 use Rattle.speedate_cli.specs.Scan.{Line, Offsets, Scan, Stop, fits, has_as, is_stopped, is_value}
 use Rattle.speedate_cli.specs.Scan.{UndatedLines, judged, keeps, line_of, passed, settled}
 use Rattle.speedate_cli.specs.Scan.{stop_at_bad, undated_line, unfit_line}
-use Rattle.speedate_cli.specs.Between.{Between, Bounds, is_begun, is_open, lies_between}
-use Rattle.speedate_cli.specs.Entries.{Entry, Marked, awaits_header, between_lines, entries}
+use Rattle.speedate_cli.specs.Between.{Bounds, is_begun, is_open, lies_between}
+use Rattle.speedate_cli.specs.Entries.{Entry, Marked, awaits_header, entries}
 use Rattle.speedate_cli.specs.Entries.{entries_text, entry_and, entry_text, lines_text}
 use Rattle.speedate_cli.specs.Entries.{mark, marked, printed_line, up_to_value}
 use Rattle.speedate_cli.specs.InOrder.{AreInOrder, NoneIsBefore, line_value, scan_after, value_in}
@@ -593,7 +593,8 @@ pub record BeginsWith (reader : Reader) (has_offset : Bool) (instant : ℤ)
   pub is : lines ≡ line ∷ others
   pub value : line_value reader has_offset line ≡ Some instant
 
-pub reader-after : (scan : Scan) (lines : List (List ℕ)) → (scan_after scan lines).reader ≡ scan.reader
+pub reader-after : (scan : Scan) (lines : List (List ℕ))
+    → (scan_after scan lines).reader ≡ scan.reader
 reader-after scan lines = ap (λ (now : Scan). now.reader) (fixed-after scan lines)
 
 pub begins-marked : (prefix : Prefix) (scan : Scan) (has_offset : Bool) (instant : ℤ)

@@ -1,14 +1,13 @@
 -- Parts of a text, as they are read from it block by block.
-use Rattle.std.proofs.Common.{rules, ◌≡◌, ◌∙◌, ℕ, ℤ, ◌+◌, ◌-◌, ◌^◌, ◌<◌, ◌≤◌, zero, suc, Bool, true, false, List, [], ◌∷◌, ◌++◌, refl, ap, sym, subst, arith, append_assoc, append-nil, length, take, drop, get_or, min, slice_index, inl, inr}
-use Rattle.std.proofs.lemmas.List.{take-append-drop, take-take, drop-take, drop-drop, length-take, length-drop, length-append, take-append-le, take_all, drop_all, nil_from_length, get_or-take, get_or-drop}
+use Rattle.std.proofs.Common.{◌≡◌, ◌∙◌, ℕ, ℤ, ◌+◌, ◌-◌, ◌^◌, ◌<◌, ◌≤◌, zero, suc, Bool, List, [], ◌∷◌, ◌++◌, refl, ap, sym, arith, length, take, drop, min, slice_index, inl, inr}
+use Rattle.std.proofs.lemmas.List.{take-append-drop, take-take, drop-take, drop-drop, length-take, length-drop, length-append, take-append-le, take_all, nil_from_length, get_or-take, get_or-drop}
 use Rattle.std.proofs.lemmas.Bool.{cases_lt}
 use Rattle.std.specs.Prelude.{◌⊎◌, Option, Some, None, IfSome}
 use Rattle.std.specs.Option.{SomeIff}
 use Rattle.std.specs.Io.KnownBytes.{Consumes, IsAtEnd}
-use Rattle.speedate.specs.Ascii.{line_feed}
-use Rattle.speedate.specs.Lines.{IsLineEnd, IsOneLine, Pieces, complete_lines, last_line, lines}
-use Rattle.speedate.specs.Lines.{onto_first, pieces, unfinished_line}
-use Rattle.speedate.proofs.LineLemmas.{IsFree, pieces-append, pieces-from, pieces-line}
+use Rattle.speedate.specs.Lines.{IsLineEnd, IsOneLine, Pieces, complete_lines, lines}
+use Rattle.speedate.specs.Lines.{onto_first, unfinished_line}
+use Rattle.speedate.proofs.LineLemmas.{pieces-append}
 use Rattle.speedate.proofs.LineLemmas.{pieces-onto_first, unfinished-free}
 use Rattle.speedate_cli.specs.Reading.{Reader, part}
 use Rattle.speedate_cli.specs.InOrder.{EndsFirstLine, HasValueAt, known_part, line_value}
@@ -49,7 +48,8 @@ part-empty text from to (inr none) =
     nil_from_length (part text from to)
     (omega (arith, none, length-take (to - from) (drop from text)))
 
-pub part-past : (text : List ℕ) (from to : ℕ) → length text ≤ to → part text from to ≡ drop from text
+pub part-past : (text : List ℕ) (from to : ℕ) → length text ≤ to
+    → part text from to ≡ drop from text
 part-past text from to past =
     take_all (to - from) (drop from text) (omega (arith, past, length-drop from text))
 
@@ -83,8 +83,8 @@ window-read None at end count size buffer rest is_read within room whole =
     (tt, λ none some. tt)
 window-read (Some text) at end count size buffer rest is_read within room whole = (
   part-joined text at count end (omega (arith, within, room))
-  ∙ ap (λ (l : List ℕ). l ++ part text (at + count) end)
-  (sym is_read.0 ∙ sym (take-append-le count buffer rest within)),
+      ∙ ap (λ (l : List ℕ). l ++ part text (at + count) end)
+      (sym is_read.0 ∙ sym (take-append-le count buffer rest within)),
   λ none some. at_end text at end count (length buffer) (omega (arith, room)) is_read.1 none
       (cases_room (length buffer) size end at room (omega (arith, whole, some))),
 )
@@ -209,15 +209,17 @@ pub feed-found : (known : Option (List ℕ)) (block : List ℕ) (at count end pl
 feed-found None block at count end place is_read before found is = tt
 feed-found (Some text) block at count end place is_read before found is =
     let moved = line-moved text (take count block) at count 0 end is_read.0 found in
-    let last : place - 1 ≡ at + end = omega (arith, is) in
-    (omega (arith, is), record {
-      after = omega arith;
-      within = omega (arith, last, moved.within);
-      ends = ap (λ (i : ℕ). slice_index text i) last ∙ moved.ends;
-      first = λ k after below same.
-          one_longer text (take count block) at count end is_read.0 before found.first
-          (omega (arith, found.within)) k after (omega (arith, below, last)) same;
-    })
+    let last : place - 1 ≡ at + end = omega (arith, is) in (
+      omega (arith, is),
+      record {
+        after = omega arith;
+        within = omega (arith, last, moved.within);
+        ends = ap (λ (i : ℕ). slice_index text i) last ∙ moved.ends;
+        first = λ k after below same.
+            one_longer text (take count block) at count end is_read.0 before found.first
+            (omega (arith, found.within)) k after (omega (arith, below, last)) same;
+      },
+    )
 
 pub feed-checked : (known : Option (List ℕ)) (block : List ℕ) (at count end : ℕ)
     (result : Option ℕ) (P : Type 0) → IsRead known at count block → HasNoFeed known at
@@ -258,14 +260,6 @@ abbrev pub IsCounted : Option (List ℕ) → ℕ → ℕ → ℕ → ℕ → Typ
 IsCounted known number from at counted = IfSome known (λ text.
     counted ≡ min (number + length (complete_lines (part text from at))) most)
 
-pub counted-first : (known : Option (List ℕ)) (number from : ℕ) → number < 2 ^ 64
-    → IsCounted known number from from number
-counted-first None number from fits = tt
-counted-first (Some text) number from fits =
-    let none = ap (λ (l : List ℕ). length (complete_lines l))
-    (part-empty text from from (inr (omega arith))) in
-    omega (arith, none, fits)
-
 pub counted-more : (known : Option (List ℕ)) (block : List ℕ) (number from at count counted : ℕ)
     → from ≤ at → IsRead known at count block → IsCounted known number from at counted
     → IsCounted known number from (at + count)
@@ -277,12 +271,3 @@ counted-more (Some text) block number from at count counted ordered is_read is =
     ∙ ap (λ (l : List ℕ). part text from at ++ l) (sym is_read.0))
     ∙ feeds-append (part text from at) (take count block) in
     omega (arith, grown, is)
-
-pub counted-end : (known : Option (List ℕ)) (number from at to counted : ℕ)
-    → (block : List ℕ) → at ≤ to → 0 < length block → IsRead known at 0 block
-    → IsCounted known number from at counted → IsCounted known number from to counted
-counted-end None number from at to counted block below some is_read is = tt
-counted-end (Some text) number from at to counted block below some is_read is =
-    let past = is_read.1 refl some in
-    is ∙ ap (λ (l : List ℕ). min (number + length (complete_lines l)) most)
-    (part-past text from at past ∙ sym (part-past text from to (omega (arith, past, below))))

@@ -1,13 +1,13 @@
 -- A file whose values are in order: a line is found in it by its value, and what stands before that
 -- line need not be read.
-use Rattle.std.specs.Prelude.{◌≡◌, ℕ, ℤ, ◌+◌, ◌-◌, ◌<◌, ◌≤◌, ◌^◌, ◌⊎◌, ◌&&◌, not, Bool, true, false, List, [], ◌∷◌, length, min, take, drop, slice_index, int_le, int_lt, Option, Some, None, Result, Ok, Err, OnOk, IfOk, IfSome, if◌then◌else◌}
+use Rattle.std.specs.Prelude.{◌≡◌, ℕ, ℤ, ◌+◌, ◌-◌, ◌<◌, ◌≤◌, ◌^◌, ◌⊎◌, ◌&&◌, not, Bool, true, false, List, [], ◌∷◌, length, min, take, drop, slice_index, int_le, int_lt, Option, Some, None, Result, Ok, Err, IfOk, IfSome, if◌then◌else◌}
 use Rattle.std.specs.Io.KnownBytes.{Appends}
 use Rattle.speedate.specs.Ascii.{line_feed}
 use Rattle.speedate.specs.Lines.{IsLineEnd, complete_lines, lines}
 use Rattle.speedate_stream.specs.Machine.{head, state_after}
 use Rattle.speedate_stream.specs.declared.run.RunError.{RunError}
-use Rattle.speedate_cli.specs.Reading.{Bad, Found, Reader, Reading, part, read}
-use Rattle.speedate_cli.specs.Scan.{Line, Offsets, Scan, has_as, is_stopped, line_of, passed}
+use Rattle.speedate_cli.specs.Reading.{Reader, Reading, part, read}
+use Rattle.speedate_cli.specs.Scan.{Offsets, Scan, has_as, is_stopped, line_of, passed}
 use Rattle.speedate_cli.specs.Scan.{has_offsets, stop_at_bad}
 use Rattle.speedate_cli.specs.Between.{Between, between_machine}
 use Rattle.speedate_cli.specs.Entries.{Entry, entries, file_text, marked}
@@ -27,7 +27,8 @@ known_part (Some text) from to = Some (part text from to)
 
 -- Lines that have a value.
 
--- the microsecond of what is read of a line, if it is a value that has an offset as it is to have one
+-- the microsecond of what is read of a line, if it is a value that has an offset, or none, as it is
+-- to have it
 abbrev pub value_in : Bool → Reading → Option ℤ
 value_in has_offset (Reading.Value found) =
     if has_as has_offset found then Some found.instant else None

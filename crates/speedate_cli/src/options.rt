@@ -66,7 +66,9 @@ fn between<'a>(alloc: Global) -> Result<Command<'a>, AllocError> {
         .about("Prints the entries with FROM <= instant < TO; a bound of .. is open")
         .arg(bound(alloc, "FROM"))?
         .arg(bound(alloc, "TO"))?
-        .arg(flag(alloc, "in-order").help("The values of each file never fall: search for FROM and TO"))?;
+        .arg(flag(alloc, "in-order").help(
+            "The values of each file never fall: search for FROM and TO",
+        ))?;
     with_common(alloc, command, Prints::Lines)
 }
 

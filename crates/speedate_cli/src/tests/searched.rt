@@ -128,7 +128,9 @@ fn a_search_counts_the_lines_that_it_skips(rt: HostRuntime) -> Result<(), AllocE
     assert_eq!(rt; bare.bad, numbered.bad);
     assert_eq!(rt; bare.first.number, numbered.first.number);
     let lines = log.as_slice().split(|&byte| byte == b'\n');
-    let line = lines.skip((bare.first.number as usize).saturating_sub(1)).next();
+    let line = lines
+        .skip((bare.first.number as usize).saturating_sub(1))
+        .next();
     assert_eq!(rt; line, Some(b"trace".as_slice()));
     Ok(())
 }

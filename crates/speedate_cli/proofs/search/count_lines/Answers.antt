@@ -2,7 +2,7 @@ use Rattle.std.proofs.Common.{◌≡◌, ◌+◌, ◌≤◌, ◌∙◌, List, �
 use Rattle.std.proofs.lemmas.Grind.{elements}
 use Rattle.std.proofs.lemmas.List.{take-append-le}
 use Rattle.speedate.specs.Lines.{complete_lines}
-use Rattle.speedate_cli.proofs.SearchLemmas.{IsCounted, counted-end, counted-first, counted-more, most}
+use Rattle.speedate_cli.proofs.SearchLemmas.{IsCounted, counted-more, most}
 use Rattle.speedate_cli.proofs.search.count_lines.Goals as goal
 
 pub loop-at-preserved : goal.loop-at-preserved

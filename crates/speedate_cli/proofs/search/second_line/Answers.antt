@@ -14,4 +14,5 @@ pub loop-preserved : goal.loop-preserved
 loop-preserved g c =
     no_feed-more (g.S.ReadAt.text c.args.source.now) c.read_at.new.buffer c.loop.at
     c.in_ok-count.count c.saturating_add-at.result c.in_ok-count.ensures.bytes c.loop.invariant
-    c.in_default.ensures.found (grind (arith, elements)) (omega (arith, c.saturating_add-at.ensures))
+    c.in_default.ensures.found (grind (arith, elements))
+    (omega (arith, c.saturating_add-at.ensures))

@@ -1,4 +1,4 @@
-use Rattle.std.proofs.Common.{rules, ◌≡◌, ℤ, arith, w64, to_z, of_z, FitsSigned}
+use Rattle.std.proofs.Common.{rules, ◌≡◌, arith, w64, to_z, of_z, FitsSigned}
 use Rattle.std.proofs.lemmas.Int.{ints}
 use Rattle.speedate_cli.proofs.SearchLemmas.{known-value-at}
 use Rattle.speedate_cli.proofs.search.Values.first_after.Goals as goal
