@@ -324,7 +324,8 @@ module _ (between : Between) (text : List ℕ) (begin start : ℕ)
         found.1.1.1.0) in (
           skipped-lines between.bounds found.0 instant
               (marked between.prefix between.scan skipped)
-              (marked between.prefix found_scan others) found.1.0 found.1.1.1.1 begins start-in_order,
+              (marked between.prefix found_scan others) found.1.0 found.1.1.1.1 begins
+              start-in_order,
           later-ordered (entries (marked between.prefix between.scan skipped))
               (entries (marked between.prefix found_scan others))
               (subst AreInOrder (entries-append (marked between.prefix between.scan skipped)
@@ -467,7 +468,8 @@ module _ (between : Between) (text : List ℕ) (begin start : ℕ)
                   ∙ sym (ap (marked between.prefix part_scan) none)
               | inr first ↦
                   marked-found between.prefix between.scan (has_offsets between.scan.offsets)
-                  instant number skipped middle first (settled-asks between.scan.offsets settled) came
+                  instant number skipped middle first
+                  (settled-asks between.scan.offsets settled) came
                   part-came (went_on found_scan others start-goes_on)
                   (found-number instant found.1.1.1.0)
             ]
@@ -641,8 +643,8 @@ headed-text before found after text old halfway new begin awaited first ends wen
     ]
 
 pub headed-rest : {A E : Type 0} (before found after : Between)
-    (known old halfway new : Option (List ℕ)) (result : Result A E) (begin : ℕ) → awaits_header before.scan ≡ true
-    → IfSome known (λ text. EndsFirstLine text begin)
+    (known old halfway new : Option (List ℕ)) (result : Result A E) (begin : ℕ)
+    → awaits_header before.scan ≡ true → IfSome known (λ text. EndsFirstLine text begin)
     → IfSome known (λ text. EndsPart before found old halfway (part text 0 begin))
     → is_stopped found.scan.stop ≡ false
     → (awaits_header found.scan ≡ false → OnOk result (IfSome known (λ text.
