@@ -126,8 +126,8 @@ pub trait LineReader {
     }
 
     /// The number of a text that offsets cut out, as [`LineReader::number`] gives it of a line. A reader whose
-    /// parser is long parses here by a function that others share, so that the loop over lines has the only
-    /// call of `number`, and the compiler copies it there.
+    /// parser is long has another copy of it here, since functions as long as that are inlined only where
+    /// they have one caller.
     ///
     /// # Errors
     ///

@@ -1,5 +1,4 @@
-//! The command `between` over files whose values are in order: what is before the first bound is not
-//! read, nor what is after the second one.
+//! The command `between` over files whose values are in order, which are searched for the bounds.
 
 ghost use Rattle.std.specs.Prelude.{◌≡◌, ℕ, ℤ, ◌+◌, ◌-◌, ◌^◌, ◌<◌, ◌≤◌, ◌⊎◌, List, Option, None, IfOk, IfSome, OnOk, drop, false, length, true};
 ghost use Rattle.std.specs.Io.KnownBytes.{Appends};
@@ -176,8 +175,8 @@ fn print_found<S: ReadAt, W: Write>(
     Ok(())
 }
 
-/// The same, and then passes over the lines after the part, if there are any: an entry begins there
-/// that is not printed.
+/// The same, and then, unless the run has ended, passes over the lines after the part, if there are any:
+/// an entry begins there that is not printed.
 fn print_bounded<S: ReadAt, W: Write>(
     command: &mut Between<'_>,
     source: &S,
@@ -193,7 +192,7 @@ fn print_bounded<S: ReadAt, W: Write>(
     ensures failed { output.old.failed ≡ false → FailsBy result output.new.failed }
 {
     print_found(command, source, begin, start, end, output)?;
-    if end < u64::MAX {
+    if end < u64::MAX && !command.scan.is_stopped() {
         command.pass_entry();
     }
     Ok(())
@@ -252,9 +251,8 @@ fn print_headed<S: ReadAt, W: Write>(
     print_rest(command, source, begin, size, output)
 }
 
-/// Prints what `between` prints of a file of so many bytes, whose values never fall. What is before the
-/// bounds is not read, nor what is after them, unless it has to be. Bad values of what is not read are
-/// not noted.
+/// Prints what `between` prints of a file of so many bytes, whose values never fall. It is searched for
+/// the bounds, and only a part of it is read. Bad values of what is not read are not noted.
 ///
 /// Fails with `RunError::Read` if a read fails, with `RunError::Write` if a write or the flush does.
 pub fn between_in_order<S: ReadAt, W: Write>(

@@ -149,6 +149,7 @@ impl<R: BufRead> Source<'_, R> {
             is_stopped self.new.keys.scan.stop ≡ false) }
         ensures unlike { result ≡ Err Halt.Unlike →
             are_unlike offsets.old self.new.keys.scan.offsets ≡ true }
+        ensures alike { OnOk result (are_unlike offsets.old self.new.keys.scan.offsets ≡ false) }
     {
         match self.advance() {
             Ok(()) => {}

@@ -128,7 +128,7 @@ impl DateTimeReader {
     ghost use Rattle.speedate_civil.specs.DateTime.{date_time_by_config, utc_microsecond};
     ghost use Rattle.speedate.specs.Column.{as_number, date_time_number, with_offset};
 
-    /// The number of a line, by a copy of the parser.
+    /// The number of a line. Each copy has one caller, into which it is inlined.
     #[inline(always)]
     fn number_of<const COPY: u8>(&self, line: &[u8]) -> Result<i64, LineError>
         ensures number { result ≡ date_time_number self.now line.now }

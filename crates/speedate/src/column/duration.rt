@@ -22,7 +22,7 @@ impl DurationReader {
     ghost use Rattle.std.specs.Prelude.{◌≡◌};
     ghost use Rattle.speedate.specs.Column.{duration_number};
 
-    /// The number of a line, by a copy of the parser.
+    /// The number of a line. Each copy has one caller, into which it is inlined.
     #[inline(always)]
     fn number_of<const COPY: u8>(&self, line: &[u8]) -> Result<i64, LineError>
         ensures number { result ≡ duration_number self.now line.now }

@@ -13,7 +13,7 @@ use std::alloc::AllocError;
 use std::io::{self, Cursor, ErrorKind};
 use std::process::Abort;
 
-/// Command lines over a log of two values a minute, and what each says of its first bad line.
+/// Command lines over a log of two values a minute.
 const SEARCHED: [&str; 14] = [
     "between 2026-11-22T08:20Z 2026-11-22T08:21Z",
     "between 2026-11-22T08:20Z 2026-11-22T08:20Z",
