@@ -56,7 +56,7 @@ ends-part before after (Some text) unread old new from to ends = elim ends [
   | inr stopped ↦ inl stopped.0
 ]
 
--- Where a text is cut behind a line feed, its lines are those of both parts.
+-- Where a text is cut after a line feed, its lines are those of both parts.
 
 unfinished-ended : (front : List ℕ) → unfinished_line (front ++ line_feed ∷ []) ≡ []
 unfinished-ended front =

@@ -39,7 +39,7 @@ value_in has_offset (Reading.Undated place) = None
 abbrev pub line_value : Reader → Bool → List ℕ → Option ℤ
 line_value reader has_offset line = value_in has_offset (read reader (head line))
 
--- at a place of a text, behind a line feed, a line begins that has this value
+-- at a place of a text, after a line feed, a line begins that has this value
 pub record HasValueAt (reader : Reader) (has_offset : Bool) (text : List ℕ) (at : ℕ)
     (instant : ℤ) : Type 0 where
   pub some : 1 ≤ at

@@ -20,7 +20,7 @@ use Rattle.speedate.specs.Time.{minute_time}
 use Rattle.speedate_stream.specs.Machine.{longest_line}
 use Rattle.speedate_cli.specs.Field.{Field, nth_field}
 pub use Rattle.speedate_cli.specs.declared.reading.Place.{Place}
-pub use Rattle.speedate_cli.specs.declared.reading.Form.{Form}
+pub use Rattle.speedate_cli.specs.declared.form.Form.{Form}
 pub use Rattle.speedate_cli.specs.declared.reading.Reader.{Reader}
 pub use Rattle.speedate_cli.specs.declared.reading.Why.{Why}
 pub use Rattle.speedate_cli.specs.declared.reading.Bad.{Bad}

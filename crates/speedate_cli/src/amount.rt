@@ -12,8 +12,9 @@ ghost use Rattle.speedate_cli.specs.Field.{IsFieldWithin};
 ghost use Rattle.speedate_cli.specs.Reading.{IsReadWithin, alone, fields_of};
 
 use crate::field::{Field, byte_at};
+use crate::form::relaxed;
 use crate::reading::{
-    Bad, Place, Reader, Reading, Why, fields_of, is_cut, not_within, relaxed, without_field,
+    Bad, Place, Reader, Reading, Why, fields_of, is_cut, not_within, without_field,
 };
 use speedate::{Duration, MicrosecondsPrecisionOverflowBehavior, ParseError, Refused};
 use speedate_base::numbers::sign;

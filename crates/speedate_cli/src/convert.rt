@@ -14,8 +14,9 @@ ghost use Rattle.speedate_cli.specs.Convert.{convert_lines, convert_machine};
 ghost use Rattle.speedate_cli.specs.Runs.{EndsWith};
 ghost use Rattle.speedate_stream.specs.Run.{EndsBy, PrintsBeginning, PrintsProgress};
 
+use crate::form::Form;
 use crate::print::Prefix;
-use crate::reading::{Bad, Form, Found, Why};
+use crate::reading::{Bad, Found, Why};
 use crate::scan::{Line, Scan};
 use arrayvec::ArrayString;
 use speedate::{DateTime, FractionDigits};

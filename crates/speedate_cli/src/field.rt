@@ -50,7 +50,7 @@ impl NthField {
     }
 }
 
-/// The byte at a place, or 0 behind the text's end.
+/// The byte at a place, or 0 after the text's end.
 pub fn byte_at(text: &[u8], place: usize) -> u8
     ensures byte { result ≡ slice_index text.now place }
     ensures there { IsTrue (nat_lt 0 result) → place < length text.now }

@@ -6,6 +6,7 @@ mod between;
 mod check;
 mod convert;
 mod field;
+mod form;
 mod in_order;
 mod merge;
 mod merge_session;

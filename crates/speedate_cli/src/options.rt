@@ -5,8 +5,9 @@ ghost use Rattle.std.specs.Prelude.{◌≡◌, ◌≤◌};
 use crate::between::Bounds;
 use crate::convert::Target;
 use crate::field::{NthField, QUOTE};
+use crate::form::Form;
 use crate::print::Prefix;
-use crate::reading::{Form, Place, Reader};
+use crate::reading::{Place, Reader};
 use crate::scan::{BadLines, Offsets, UndatedLines};
 use arrayvec::ArrayVec;
 use clap::{Arg, ArgAction, ArgMatches, Command};
@@ -455,7 +456,7 @@ fn bound_value(text: &[u8]) -> Option<DateTime> {
         return Some(value);
     }
     match Date::parse_bytes_rfc3339(text) {
-        Ok(date) => Some(crate::reading::midnight_of(date)),
+        Ok(date) => Some(crate::form::midnight_of(date)),
         Err(_) => None,
     }
 }

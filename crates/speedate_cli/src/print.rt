@@ -5,7 +5,8 @@ ghost use Rattle.arrayvec.specs.ArrayVec.{array_vec_len};
 ghost use Rattle.speedate_cli.specs.Print.{bad_text, expected_by, line_place, prefix_text, report_text};
 ghost use Rattle.speedate_cli.specs.Print.{shown_name, with_colon};
 
-use crate::reading::{Bad, Form, Why, seen};
+use crate::form::Form;
+use crate::reading::{Bad, Why, seen};
 use itoa::Buffer;
 use speedate::CallKind;
 use speedate_stream::{PENDING_MAX, Pending, push_bytes};

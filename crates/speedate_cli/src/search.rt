@@ -170,7 +170,7 @@ impl Values<'_> {
         ensures from { IfOk result (λ cut. from ≤ cut.before) }
         ensures before { IfOk result (λ cut. (cut.before ≡ from) ⊎ IfSome (S.text source.now)
             (λ text. IsBefore self.now.reader self.now.has_offset text cut.before bound)) }
-        ensures behind { IfOk result (λ cut. IfSome cut.after (λ at. from ≤ at)) }
+        ensures later { IfOk result (λ cut. IfSome cut.after (λ at. from ≤ at)) }
         ensures after { IfOk result (λ cut. IfSome cut.after (λ at. IfSome (S.text source.now)
             (λ text. IsFrom self.now.reader self.now.has_offset text at bound))) }
     {

@@ -15,9 +15,10 @@ ghost use Rattle.speedate_cli.specs.Order.{latest_of};
 ghost use Rattle.speedate_stream.specs.Run.{EndsBy, PrintsBeginning, PrintsProgress};
 
 use crate::convert::push_value;
+use crate::form::Form;
 use crate::order::{Latest, Order, push_duration_text};
 use crate::print::{push_line_place, push_number};
-use crate::reading::{Form, Found};
+use crate::reading::Found;
 use crate::scan::Line;
 use speedate::{DateTime, DateTimeConfig, ParseError, TimeConfig, TimestampUnit};
 use speedate_stream::run::{RunError, run};

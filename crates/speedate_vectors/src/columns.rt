@@ -2,25 +2,23 @@
 
 use crate::rows::{date_time_config, quoted, same, time_config, value, words};
 use speedate::{
-    DateConfig, DatePrinter, DateReader, DateTimeClockPrinter, DateTimeClockReader, DateTimeFront,
-    DateTimeFrontReader, DateTimeOffsetReader, DateTimeParser, DateTimePrinter, DateTimeReader,
-    DurationPrinter, DurationReader, LineConfig, LineError, LinePrinter, LineReader,
-    MicrosecondsPrecisionOverflowBehavior, Progress, TimeConfig, TimeOffsetReader, TimeParser,
-    TimePrinter, TimeReader, print_column, read_column, read_column_with_errors,
-    timestamp_microseconds,
+    DateConfig, DateReader, DateTimeClockReader, DateTimeFront, DateTimeFrontReader,
+    DateTimeOffsetReader, DateTimeParser, DateTimeReader, DurationReader, LineConfig, LineError,
+    LineReader, MicrosecondsPrecisionOverflowBehavior, Progress, TimeConfig, TimeOffsetReader,
+    TimeParser, TimeReader, read_column, read_column_with_errors, timestamp_microseconds,
 };
 use std::fmt::Debug;
 use std::process::Abort;
 
 /// How many numbers there is room for.
-const ROOM: usize = 3;
+pub const ROOM: usize = 3;
 
 /// How many bytes a text of a row has at most.
-const TEXT_MAX: usize = 120;
+pub const TEXT_MAX: usize = 120;
 
 /// The bytes of a text, in which `|` stands for a line feed and `~` for a carriage return, and how many
 /// they are.
-fn spelled(text: &str) -> ([u8; TEXT_MAX], usize) {
+pub fn spelled(text: &str) -> ([u8; TEXT_MAX], usize) {
     let mut bytes = [0; TEXT_MAX];
     let mut size = 0;
     for byte in text.as_bytes() {
@@ -37,7 +35,7 @@ fn spelled(text: &str) -> ([u8; TEXT_MAX], usize) {
 }
 
 /// How the words of a row cut its text into lines.
-fn line_config(words: &str) -> LineConfig {
+pub fn line_config(words: &str) -> LineConfig {
     LineConfig {
         at_end: words.contains("end"),
         drops_returns: words.contains("return"),
@@ -45,7 +43,7 @@ fn line_config(words: &str) -> LineConfig {
 }
 
 /// The name of an error, and `-` for none.
-fn error_name(error: Option<LineError>) -> &'static str {
+pub fn error_name(error: Option<LineError>) -> &'static str {
     match error {
         None => "-",
         Some(LineError::Parse(fault)) => fault.name(),
@@ -84,7 +82,7 @@ impl Entry for DateTimeFront {
 }
 
 /// The column of a text, and its first numbers.
-fn column<L: LineReader>(
+pub fn column<L: LineReader>(
     text: &str,
     config: LineConfig,
     reader: &L,
@@ -133,23 +131,6 @@ where
             same(rt, number, Some(Entry::of_word(rt, numbers[place])), row);
         }
     }
-}
-
-/// The column of a row's text is to have so many lines, that error, and its part between these bytes of
-/// the line after them.
-fn expect_part<L: LineReader, R: AllocGlobal + Abort>(
-    rt: &R,
-    reader: &L,
-    out: &mut [L::Number],
-    row: &str,
-) {
-    let (cut, text, want) = quoted(rt, row);
-    let progress = column(&text, line_config(cut), reader, None, out);
-    let [lines, error, place, end, _, _] = words(want);
-    same(rt, progress.lines, value(rt, lines), row);
-    same(rt, error_name(progress.error), error, row);
-    same(rt, progress.place, value(rt, place), row);
-    same(rt, progress.end, value(rt, end), row);
 }
 
 /// The days of four of five lines, and the numbers of their errors.
@@ -358,60 +339,6 @@ end '106751991 days 04:00:54.775807|-106751991 days 04:00:54.775807' 2 62 - 9223
 end '106751991 days 04:00:54.775808' 0 0 number_too_large
 skip end '-106751991 days 04:00:54.775808|x|P999999999D' 3 45 - -7 -7 -7";
 
-/// Each row of dates: how the text is cut; the text; how many lines it has before the one that ends the
-/// column, its error, and where the part of the error begins and ends.
-const DATE_PARTS: &str = "\
-end '1970-01-02|1969-12-31|2020-13-01|1970-01-01' 2 out_of_range_month 5 7
-end '1970-01-02|1969-12-31' 2 - 0 0
-'1970-01-02|2020-13-01' 1 - 0 0
-end '1970-01-02~|' 0 extra_characters 10 11
-return '1970-01-02~|1970-01-02 ~|' 1 extra_characters 10 11
-return '1970-01-02~|1970-01-0~|' 1 too_short 9 9
-return end '1970-01-02~|1970-x1-02~' 1 invalid_char_month 5 7
-end '1970-01-02||1970-01-02' 1 too_short 0 0";
-
-/// The same with timestamps in seconds.
-const DATE_OR_TIMESTAMP_PARTS: &str = "\
-end '86400|1' 1 date_not_exact 0 1
-end '86400|1970-02-30|' 1 out_of_range_day 8 10";
-
-/// The same of date-times.
-const DATE_TIME_PARTS: &str = "\
-end '1970-01-01T00:00Z|1970-01-01T00:00' 1 tz_required 16 16
-return '1970-01-01T00:00Z~|1970-01-01T00:00:01~|' 1 tz_required 19 19
-end '1970-01-01T24:00Z' 0 out_of_range_hour 11 13";
-
-/// The same of the offsets of date-times with timestamps in milliseconds, at no offset.
-const OFFSET_PARTS: &str = "\
-end '1970-01-01T00:00Z|1970-01-01T00:00' 1 tz_required 16 16
-end '1970-01-01T00:00Z|-1.5' 1 tz_required 4 4
-end '1970-01-01A00:00Z' 0 invalid_char_date_time_sep 10 11";
-
-/// The same of the clocks of date-times of RFC 3339 alone.
-const STRICT_CLOCK_PARTS: &str = "\
-end '1970-01-01T00:00:01Z|1970-01-01T00:00:01' 1 tz_required 19 19
-end '1970-01-01 00:00:01Z' 0 invalid_char_date_time_sep 10 11";
-
-/// The same of date-times at the front of lines.
-const FRONT_PARTS: &str = "\
-end '1970-01-01T00:00Z x|1970-01-01T00:00 +01:00 x' 1 tz_required 16 16
-return '1970-01-01T00:00Z~|1970-01-01T00:00:01~|' 1 tz_required 19 19
-end '1970-01-01T00:60Z x' 0 out_of_range_minute 14 16";
-
-/// The same of times.
-const TIME_PARTS: &str = "\
-end '00:00|24:00' 1 out_of_range_hour 0 2";
-
-/// The same of the offsets of times of RFC 3339 alone.
-const TIME_OFFSET_PARTS: &str = "\
-end '00:00:01Z|00:00:01' 1 tz_required 8 8
-end '00:01Z' 0 invalid_char_time_sep 5 6";
-
-/// The same of durations.
-const DURATION_PARTS: &str = "\
-return 'PT1S~|P999999999D~|' 1 number_too_large 0 11
-end 'PT1S|PT1S1X' 1 duration_invalid_time_unit 5 6";
-
 #[test]
 fn dates_are_days(rt: HostRuntime) {
     for row in DATES.lines() {
@@ -598,153 +525,5 @@ fn timestamps_are_microseconds(rt: HostRuntime) {
             Ok(number) => same(&rt, number, value(&rt, want), row),
             Err(fault) => same(&rt, fault.name(), want, row),
         }
-    }
-}
-
-/// Each row of two microseconds in print: the room and the numbers; the text of their date-times; how many
-/// lines and bytes it has, and the error.
-const PRINTED_DATE_TIMES: &str = "\
-60 1000000 -1 '1970-01-01T00:00:01Z|1969-12-31T23:59:59.999999Z|' 2 49 -
-48 1000000 -1 '1970-01-01T00:00:01Z|' 1 21 -
-60 -9223372036854775808 0 '|1970-01-01T00:00:00Z|' 2 22 -
-60 -62167219200000000 -62167219200000001 '0000-01-01T00:00:00Z|' 1 21 date_too_small
-60 253402300800000000 0 '' 0 0 date_too_large";
-
-/// The same of date-times without an offset.
-const PRINTED_CLOCKS: &str =
-    "60 1500000 0 '1970-01-01T00:00:01.500000|1970-01-01T00:00:00|' 2 47 -";
-
-/// The same of times.
-const PRINTED_TIMES: &str = "\
-60 43994500000 86399999999 '12:13:14.500000|23:59:59.999999|' 2 32 -
-60 0 86400000000 '00:00:00|' 1 9 time_too_large
-60 -1 0 '' 0 0 time_too_large";
-
-/// The same of durations.
-const PRINTED_DURATIONS: &str = "\
-60 -1500000 9223372036854775807 '-PT1.5S|P292471Y76DT4H54.775807S|' 2 33 -
-5 0 -9223372036854775808 'PT0S|' 1 5 -
-6 0 -9223372036854775808 'PT0S||' 2 6 -";
-
-/// Numbers in print are to have a row's text, lines, bytes and error.
-fn expect_printed<P: LinePrinter<Number = i64>, R: AllocGlobal + Abort>(
-    rt: &R,
-    printer: &P,
-    row: &str,
-) {
-    let (left, text, want) = quoted(rt, row);
-    let [room, first, second, ..] = words(left);
-    let [lines, taken, error, ..] = words(want);
-    let numbers = [value(rt, first), value(rt, second)];
-    let room: usize = value(rt, room);
-    let mut out = [0; TEXT_MAX];
-    let progress = print_column(&numbers, printer, &mut out[..room.min(TEXT_MAX)]);
-    let (bytes, size) = spelled(&text);
-    same(rt, progress.lines, value(rt, lines), row);
-    same(rt, progress.bytes, value(rt, taken), row);
-    same(rt, error_name(progress.error), error, row);
-    same(rt, out.get(..progress.bytes), bytes.get(..size), row);
-}
-
-#[test]
-fn date_times_in_print(rt: HostRuntime) {
-    for row in PRINTED_DATE_TIMES.lines() {
-        expect_printed(&rt, &DateTimePrinter, row);
-    }
-    for row in PRINTED_CLOCKS.lines() {
-        expect_printed(&rt, &DateTimeClockPrinter, row);
-    }
-}
-
-#[test]
-fn times_and_durations_in_print(rt: HostRuntime) {
-    for row in PRINTED_TIMES.lines() {
-        expect_printed(&rt, &TimePrinter, row);
-    }
-    for row in PRINTED_DURATIONS.lines() {
-        expect_printed(&rt, &DurationPrinter, row);
-    }
-}
-
-#[test]
-fn dates_in_print(rt: HostRuntime) {
-    let mut out = [0; 40];
-    let progress = print_column(&[1, i32::MIN, -719_528, 2_932_897], &DatePrinter, &mut out);
-    same(&rt, progress.lines, 3, "dates");
-    same(&rt, error_name(progress.error), "date_too_large", "dates");
-    let want = b"1970-01-02\n\n0000-01-01\n";
-    same(&rt, out.get(..progress.bytes), want.get(..23), "dates");
-}
-
-#[test]
-fn parts_of_dates(rt: HostRuntime) {
-    for row in DATE_PARTS.lines() {
-        expect_part(&rt, &DateReader::Text, &mut [-7; ROOM], row);
-    }
-    let config = DateConfig::builder()
-        .timestamp_unit(value(&rt, "s"))
-        .build();
-    for row in DATE_OR_TIMESTAMP_PARTS.lines() {
-        expect_part(&rt, &DateReader::OrTimestamp(config), &mut [-7; ROOM], row);
-    }
-}
-
-#[test]
-fn parts_of_date_times(rt: HostRuntime) {
-    let reader = DateTimeReader {
-        parser: DateTimeParser::Text(TimeConfig::default()),
-        assumes_utc: false,
-    };
-    for row in DATE_TIME_PARTS.lines() {
-        expect_part(&rt, &reader, &mut [-7; ROOM], row);
-    }
-}
-
-#[test]
-fn parts_of_clocks_and_offsets(rt: HostRuntime) {
-    let parser = DateTimeParser::OrTimestamp(date_time_config(&rt, "ms error"));
-    for row in OFFSET_PARTS.lines() {
-        expect_part(&rt, &DateTimeOffsetReader { parser }, &mut [-7; ROOM], row);
-    }
-    let parser = DateTimeParser::Strict(MicrosecondsPrecisionOverflowBehavior::Error);
-    for row in STRICT_CLOCK_PARTS.lines() {
-        expect_part(&rt, &DateTimeClockReader { parser }, &mut [-7; ROOM], row);
-    }
-}
-
-#[test]
-fn parts_of_fronts(rt: HostRuntime) {
-    let reader = DateTimeFrontReader {
-        config: TimeConfig::default(),
-        assumes_utc: false,
-    };
-    let none = DateTimeFront {
-        microseconds: -7,
-        size: 0,
-    };
-    for row in FRONT_PARTS.lines() {
-        expect_part(&rt, &reader, &mut [none; ROOM], row);
-    }
-}
-
-#[test]
-fn parts_of_times(rt: HostRuntime) {
-    let parser = TimeParser::Text(TimeConfig::default());
-    for row in TIME_PARTS.lines() {
-        expect_part(&rt, &TimeReader { parser }, &mut [-7; ROOM], row);
-    }
-    let parser = TimeParser::Strict(MicrosecondsPrecisionOverflowBehavior::Error);
-    for row in TIME_OFFSET_PARTS.lines() {
-        expect_part(&rt, &TimeOffsetReader { parser }, &mut [-7; ROOM], row);
-    }
-}
-
-#[test]
-fn parts_of_durations(rt: HostRuntime) {
-    let reader = DurationReader {
-        config: TimeConfig::default(),
-    };
-    for row in DURATION_PARTS.lines() {
-        expect_part(&rt, &reader, &mut [-7; ROOM], row);
     }
 }

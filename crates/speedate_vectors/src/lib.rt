@@ -7,6 +7,10 @@ mod calendar;
 #[cfg(test)]
 mod choices;
 #[cfg(test)]
+mod column_parts;
+#[cfg(test)]
+mod column_print;
+#[cfg(test)]
 mod column_texts;
 #[cfg(test)]
 mod columns;

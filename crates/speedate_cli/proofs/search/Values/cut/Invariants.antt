@@ -7,7 +7,7 @@ invariant-loop g l = record {
   from : l.from ≤ l.before;
   before : (l.before ≡ l.from) ⊎ IfSome (g.S.ReadAt.text l.source)
       (λ text. IsBefore l.self.reader l.self.has_offset text l.before l.bound);
-  behind : IfSome l.after (λ at. l.from ≤ at);
+  later : IfSome l.after (λ at. l.from ≤ at);
   after : IfSome l.after (λ at. IfSome (g.S.ReadAt.text l.source)
       (λ text. IsFrom l.self.reader l.self.has_offset text at l.bound));
 }
