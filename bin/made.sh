@@ -6,8 +6,6 @@
 
 # What the programs and the C functions stand on, lowest first.
 libraries='speedate_base speedate_civil speedate'
-# What the programs stand on besides, and the programs.
-engine=speedate_stream
 programs='speedate_lines speedate'
 
 # crate_of PROGRAM: prints the crate of a program.
@@ -15,6 +13,14 @@ crate_of() {
     case $1 in
     speedate) echo speedate_cli ;;
     *) echo "$1" ;;
+    esac
+}
+
+# engine_of PROGRAM: prints what a program stands on besides, lowest first.
+engine_of() {
+    case $1 in
+    speedate) echo speedate_stream speedate_commands ;;
+    *) echo speedate_stream ;;
     esac
 }
 

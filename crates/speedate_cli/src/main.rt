@@ -1,42 +1,27 @@
 //! Selects, orders, converts, checks and sums up lines by their date-times, and adds up their durations.
 #![tactic(auto)]
 
-mod amount;
-mod between;
-mod check;
-mod convert;
-mod field;
-mod form;
-mod in_order;
-mod merge;
 mod merge_session;
 mod options;
-mod order;
-mod print;
-mod reading;
-mod scan;
-mod search;
+mod seeking;
 mod session;
-mod sort;
 mod sort_session;
-mod sum;
-mod summary;
 #[cfg(test)]
 mod tests;
 
-use between::Between;
-use check::Check;
 use clap::ArgMatches;
-use convert::Convert;
 use options::{Options, Refusal};
-use order::Order;
-use reading::{Bad, Why};
-use scan::{Offsets, REPORTS_MAX, Report, Scan, Stop};
-use sort::Keys;
 use speedate::MicrosecondsPrecisionOverflowBehavior::{Error, Truncate};
+use speedate_commands::between::Between;
+use speedate_commands::check::Check;
+use speedate_commands::convert::Convert;
+use speedate_commands::order::Order;
+use speedate_commands::reading::{Bad, Why};
+use speedate_commands::scan::{Offsets, REPORTS_MAX, Report, Scan, Stop};
+use speedate_commands::sort::Keys;
+use speedate_commands::sum::Sum;
+use speedate_commands::summary::Summary;
 use std::process::ExitCode;
-use sum::Sum;
-use summary::Summary;
 
 /// The status of a command line that is refused.
 const USAGE: u8 = 2;

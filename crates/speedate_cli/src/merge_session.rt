@@ -3,13 +3,14 @@
 ghost use Rattle.std.specs.Prelude.{◌+◌, ◌≤◌};
 ghost use Rattle.arrayvec.specs.ArrayVec.{array_vec_len};
 
-use crate::merge::{Before, Halt, Halted, Source, merge};
-use crate::order::{Latest, push_late};
-use crate::print::{push_line_place, push_name};
-use crate::scan::{Offsets, REPORTS_MAX, Scan};
 use crate::session::{BAD, Output, READ, Reports, WRITE, is_output, tell_count};
-use crate::sort::{Keys, Unread};
+use speedate_commands::merge::{Before, Halt, Halted, Source, merge};
+use speedate_commands::order::{Latest, push_late};
+use speedate_commands::print::{push_line_place, push_name};
+use speedate_commands::scan::{Offsets, REPORTS_MAX, Scan};
+use speedate_commands::sort::{Keys, Unread};
 use speedate_stream::{PENDING_MAX, Pending, STEP_MAX, Watched, push_bytes};
+use std::alloc::AllocError;
 use std::fs::{self, File};
 use std::io::{self, BufReader, Read, Stdin, Write};
 
@@ -40,7 +41,10 @@ pub fn run_merge<'a>(rt: &HostRuntime, keys: &Keys<'a>, files: &[&'a str]) -> u8
     let mut offsets = keys.scan.offsets;
     let mut status = 0;
     for name in if files.is_empty() { &["-"] } else { files } {
-        let Some(mut source) = open_source(rt, *keys, name) else {
+        let Ok(opened) = open_source(rt, *keys, name) else {
+            return tell_memory(rt);
+        };
+        let Some(mut source) = opened else {
             status = READ;
             continue;
         };
@@ -68,12 +72,18 @@ pub fn run_merge<'a>(rt: &HostRuntime, keys: &Keys<'a>, files: &[&'a str]) -> u8
     status.max(merge_sources(rt, &mut sources, offsets))
 }
 
-/// Opens a file of which no line has been read.
-fn open_source<'a>(rt: &HostRuntime, mut keys: Keys<'a>, name: &'a str) -> Option<FileSource<'a>> {
+/// Opens a file of which no line has been read, or tells why it cannot be read.
+///
+/// Fails if memory runs out.
+fn open_source<'a>(
+    rt: &HostRuntime,
+    mut keys: Keys<'a>,
+    name: &'a str,
+) -> Result<Option<FileSource<'a>>, AllocError> {
     keys.scan.begin(name.as_bytes());
     if is_output(rt, if name == "-" { "/dev/stdin" } else { name }) {
         let _ = eprintln!(rt; "speedate: {name}: is the output too");
-        return None;
+        return Ok(None);
     }
     let input = if name == "-" {
         Input::Standard(rt.stdin())
@@ -82,17 +92,12 @@ fn open_source<'a>(rt: &HostRuntime, mut keys: Keys<'a>, name: &'a str) -> Optio
             Ok(file) => Input::File(file),
             Err(_) => {
                 let _ = eprintln!(rt; "speedate: {name}: cannot be opened");
-                return None;
+                return Ok(None);
             }
         }
     };
-    match BufReader::new(rt.alloc(), input) {
-        Ok(input) => Some(Source::new(keys, input, rt.alloc())),
-        Err(_) => {
-            tell_memory(rt);
-            None
-        }
-    }
+    let input = BufReader::new(rt.alloc(), input)?;
+    Ok(Some(Source::new(keys, input, rt.alloc())))
 }
 
 /// Prints the lines of the sources in order, and returns the exit status as far as it is about that.

@@ -2,16 +2,16 @@
 
 ghost use Rattle.std.specs.Prelude.{◌≡◌, ◌≤◌};
 
-use crate::between::Bounds;
-use crate::convert::Target;
-use crate::field::{NthField, QUOTE};
-use crate::form::Form;
-use crate::print::Prefix;
-use crate::reading::{Place, Reader};
-use crate::scan::{BadLines, Offsets, UndatedLines};
 use arrayvec::ArrayVec;
 use clap::{Arg, ArgAction, ArgMatches, Command};
 use speedate::{Date, DateTime, FractionDigits, MicrosecondsPrecisionOverflowBehavior, Time};
+use speedate_commands::between::Bounds;
+use speedate_commands::convert::Target;
+use speedate_commands::field::{NthField, QUOTE};
+use speedate_commands::form::Form;
+use speedate_commands::print::Prefix;
+use speedate_commands::reading::{Place, Reader};
+use speedate_commands::scan::{BadLines, Offsets, UndatedLines};
 use std::alloc::{AllocError, Global};
 
 /// What the command line asks for that every command has.
@@ -445,7 +445,7 @@ fn bound_of(text: Option<&str>, offset: Option<i32>) -> Result<Bound, Refusal> {
     let Some(value) = bound_value(text.as_bytes()) else {
         return Err("a bound is a date-time, as 2026-11-22T06:10Z, a date, or ..");
     };
-    let value = crate::reading::assume(offset, value);
+    let value = speedate_commands::reading::assume(offset, value);
     let has_offset = value.time.tz_offset.is_some();
     Ok(Some((value.timestamp_tz_us(), has_offset)))
 }
@@ -456,7 +456,7 @@ fn bound_value(text: &[u8]) -> Option<DateTime> {
         return Some(value);
     }
     match Date::parse_bytes_rfc3339(text) {
-        Ok(date) => Some(crate::form::midnight_of(date)),
+        Ok(date) => Some(speedate_commands::form::midnight_of(date)),
         Err(_) => None,
     }
 }

@@ -3,10 +3,10 @@
 use super::ends::{Sink, Source};
 use super::sorted::Breaking;
 use super::words_of;
-use crate::merge::{Before, Halt, Halted, Source as FileSource, merge};
-use crate::scan::Offsets;
-use crate::sort::{Keys, Unread};
 use crate::{first_merge, options};
+use speedate_commands::merge::{Before, Halt, Halted, Source as FileSource, merge};
+use speedate_commands::scan::Offsets;
+use speedate_commands::sort::{Keys, Unread};
 use speedate_stream::{Failed, Watched};
 use std::alloc::AllocError;
 use std::io::{BufReader, Read};

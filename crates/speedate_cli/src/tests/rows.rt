@@ -26,7 +26,7 @@ PT5M\n\
 00:30";
 
 /// Command lines, and what each prints of an input whose name is `app.log`.
-pub const COMMANDS: [(&str, &str, &str); 18] = [
+pub const COMMANDS: [(&str, &str, &str); 20] = [
     (
         "between .. ..",
         LOG,
@@ -79,11 +79,13 @@ trace\n\
     ("sum", DURATIONS, "P1DT2H35M41.5S\n"),
     ("sum", "", "PT0S\n"),
     ("sum", "-PT0S\nx\n", "PT0S\n"),
+    ("sum", "400 days\n", "P400D\n"),
+    ("sum", "-364 days\n-2 days, 1:00\n", "-P365DT23H\n"),
     ("sum", "999999999 days\n24:00\n", ""),
     (
         "sum",
         "-999999999 days\n-24:00\nPT1S\n",
-        "-P2739726Y9DT23H59M59S\n",
+        "-P999999999DT23H59M59S\n",
     ),
     (
         "summary",

@@ -2,11 +2,12 @@
 
 use super::ends::Sink;
 use super::{whole, words_of};
-use crate::in_order::between_in_order;
-use crate::scan::Report;
-use crate::search::{ReadAt, Seeking};
+use crate::seeking::Seeking;
 use crate::session::Session;
 use crate::{first_between, options};
+use speedate_commands::in_order::between_in_order;
+use speedate_commands::scan::Report;
+use speedate_commands::search::ReadAt;
 use speedate_stream::Watched;
 use speedate_stream::run::RunError;
 use std::alloc::AllocError;

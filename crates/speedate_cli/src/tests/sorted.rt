@@ -3,8 +3,8 @@
 use super::ends::{Sink, Source};
 use super::rows::{CLOCKS, LOG};
 use super::words_of;
-use crate::sort::{Keys, Lines, Unread, Unsorted};
 use crate::{first_keys, options};
+use speedate_commands::sort::{Keys, Lines, Unread, Unsorted};
 use speedate_stream::Watched;
 use std::alloc::AllocError;
 use std::io::{self, ErrorKind, Read};

@@ -1,5 +1,0 @@
-use Rattle.speedate_cli.proofs.SearchLemmas.{HasNoFeed}
-use Rattle.speedate_cli.proofs.search.second_line.Given as goal
-
-abbrev pub invariant-loop : goal.invariant-loop
-invariant-loop g l = HasNoFeed (g.S.ReadAt.text l.source) l.at

@@ -1,0 +1,286 @@
+-- What the machine of `between` prints is entries, kept or dropped whole.
+use Rattle.std.proofs.Common.{◌≡◌, ◌∙◌, ℕ, ℤ, ◌+◌, ◌≤◌, zero, suc, Bool, true, false, List, [], ◌∷◌, ◌++◌, refl, ap, sym, arith, append_assoc, length, drop, min}
+use Rattle.std.proofs.lemmas.Bool.Decides.{nat_tests}
+use Rattle.std.specs.Prelude.{◌&&◌, ◌||◌, ◌==◌, not, Option, Some, None, if◌then◌else◌}
+use Rattle.speedate.specs.Ascii.{line_feed}
+use Rattle.speedate_stream.specs.Machine.{Machine, head, line_output, lines_output, rest_of}
+use Rattle.speedate_stream.specs.Watch.{one_more}
+use Rattle.speedate_commands.specs.Print.{Prefix}
+use Rattle.speedate_commands.specs.Reading.{Bad, Found, Reading, read}
+use Rattle.speedate_commands.specs.Scan.{Line, Offsets, Scan, Stop, UndatedLines, fits, is_stopped}
+use Rattle.speedate_commands.specs.Scan.{is_value}
+use Rattle.speedate_commands.specs.Scan.{judged, keeps, line_of, passed, undated_line, unfit}
+use Rattle.speedate_commands.specs.Scan.{unfit_line}
+use Rattle.speedate_commands.specs.Between.{Between, Bounds, between_after, between_machine}
+use Rattle.speedate_commands.specs.Between.{between_rest}
+use Rattle.speedate_commands.specs.Between.{between_text, kept_after, lies_between, prints}
+use Rattle.speedate_commands.specs.Entries.{Entry, Marked, awaits_header, between_lines, entries}
+use Rattle.speedate_commands.specs.Entries.{entries_text, entry_and, entry_text, file_text}
+use Rattle.speedate_commands.specs.Entries.{lines_text}
+use Rattle.speedate_commands.specs.Entries.{mark, marked, printed_line, up_to_value}
+
+-- a marked line is printed, by whether its entry is
+abbrev prints_by : Bounds → Bool → Line → Bool → Bool
+prints_by bounds is_kept (Line.Value found) kept = lies_between bounds found.instant
+prints_by bounds is_kept Line.Header kept = true
+prints_by bounds is_kept (Line.Bad bad) kept = is_kept && kept
+prints_by bounds is_kept Line.Undated kept = is_kept && kept
+prints_by bounds is_kept Line.Late kept = is_kept && kept
+prints_by bounds is_kept Line.Unfit kept = is_kept && kept
+
+-- the entry of a line is printed
+abbrev kept_by : Bounds → Bool → Line → Bool
+kept_by bounds is_kept (Line.Value found) = lies_between bounds found.instant
+kept_by bounds is_kept Line.Header = is_kept
+kept_by bounds is_kept (Line.Bad bad) = is_kept
+kept_by bounds is_kept Line.Undated = is_kept
+kept_by bounds is_kept Line.Late = is_kept
+kept_by bounds is_kept Line.Unfit = is_kept
+
+-- what is printed of marked lines, one after the other
+abbrev printed : Bounds → Bool → List Marked → List ℕ
+printed bounds is_kept [] = []
+printed bounds is_kept (line ∷ lines) =
+    (if prints_by bounds is_kept line.what line.kept then line.printed else [])
+    ++ printed bounds (kept_by bounds is_kept line.what) lines
+
+and_false : (test : Bool) → false ≡ (test && false)
+and_false true = refl
+and_false false = refl
+
+prints-by : (between : Between) (what : Line)
+    → prints between what ≡ prints_by between.bounds between.is_kept what (keeps between.scan what)
+prints-by between (Line.Value found) = refl
+prints-by between Line.Header = refl
+prints-by between (Line.Bad bad) = refl
+prints-by between Line.Undated = refl
+prints-by between Line.Late = and_false between.is_kept
+prints-by between Line.Unfit = and_false between.is_kept
+
+kept-by : (between : Between) (what : Line)
+    → kept_after between what ≡ kept_by between.bounds between.is_kept what
+kept-by between (Line.Value found) = refl
+kept-by between Line.Header = refl
+kept-by between (Line.Bad bad) = refl
+kept-by between Line.Undated = refl
+kept-by between Line.Late = refl
+kept-by between Line.Unfit = refl
+
+-- a line from its first byte on
+pub from_front : (line : List ℕ) → drop (min 0 (length (head line))) line ≡ line
+from_front line = let none : min 0 (length (head line)) ≡ 0 = omega arith in rw none refl
+
+-- a line that is printed whole after a prefix
+whole_line : (test : Bool) (prefix line : List ℕ)
+    → (if test then prefix else []) ++ rest_of (if test then Some 0 else None) line
+    ≡ (if test then prefix ++ (line ++ line_feed ∷ []) else [])
+whole_line true prefix line =
+    ap (λ (text : List ℕ). prefix ++ (text ++ line_feed ∷ [])) (from_front line)
+whole_line false prefix line = refl
+
+-- what the machine prints is what is printed of the marked lines
+machine_printed : (between : Between) (lines : List (List ℕ))
+    → lines_output between_machine between lines
+    ≡ printed between.bounds between.is_kept (marked between.prefix between.scan lines)
+machine_printed between [] = refl
+machine_printed between (line ∷ lines) =
+    let what : Line = line_of between.scan (head line) in
+    let later = machine_printed (between_after between what) lines in
+    rw (whole_line, later, prints-by between what, kept-by between what) refl
+
+-- a line is no header, and one with a value is not left out
+abbrev IsMark : Line → Bool → Type 0
+IsMark (Line.Value found) kept = kept ≡ true
+IsMark Line.Header kept = ⊥
+IsMark (Line.Bad bad) kept = Unit {0}
+IsMark Line.Undated kept = Unit {0}
+IsMark Line.Late kept = Unit {0}
+IsMark Line.Unfit kept = Unit {0}
+
+abbrev AreMarks : List Marked → Type 0
+AreMarks [] = Unit {0}
+AreMarks (line ∷ lines) = IsMark line.what line.kept × AreMarks lines
+
+-- a line with a value begins an entry
+begins_entry : (lies is_kept kept : Bool) (text rest others : List ℕ) → kept ≡ true
+    → (if lies then text else []) ++ ((if lies then rest else []) ++ others)
+    ≡ (if is_kept then [] else [])
+    ++ ((if lies then (if kept then text else []) ++ rest else []) ++ others)
+begins_entry true true true text rest others is_there = sym (append_assoc text rest others)
+begins_entry true false true text rest others is_there = sym (append_assoc text rest others)
+begins_entry false true true text rest others is_there = refl
+begins_entry false false true text rest others is_there = refl
+begins_entry lies is_kept false text rest others is_there = cc
+
+-- a line without a value belongs to the entry before it
+joins_entry : (is_kept kept : Bool) (text rest others : List ℕ)
+    → (if is_kept && kept then text else []) ++ ((if is_kept then rest else []) ++ others)
+    ≡ (if is_kept then (if kept then text else []) ++ rest else []) ++ others
+joins_entry true true text rest others = sym (append_assoc text rest others)
+joins_entry true false text rest others = refl
+joins_entry false true text rest others = refl
+joins_entry false false text rest others = refl
+
+-- what one line adds
+one_line : (bounds : Bounds) (is_kept : Bool) (what : Line) (line : Marked) (lines : List Marked)
+    → IsMark what line.kept
+    → (if prints_by bounds is_kept what line.kept then line.printed else [])
+    ++ between_lines bounds (kept_by bounds is_kept what) lines
+    ≡ (if is_kept then lines_text (if is_value what then [] else line ∷ up_to_value lines) else [])
+    ++ entries_text bounds (entry_and what line lines (entries lines))
+one_line bounds is_kept (Line.Value found) line lines is_mark =
+    begins_entry (lies_between bounds found.instant) is_kept line.kept line.printed
+    (lines_text (up_to_value lines)) (entries_text bounds (entries lines)) is_mark
+one_line bounds is_kept Line.Header line lines is_mark = absurd is_mark
+one_line bounds is_kept (Line.Bad bad) line lines is_mark =
+    joins_entry is_kept line.kept line.printed
+    (lines_text (up_to_value lines)) (entries_text bounds (entries lines))
+one_line bounds is_kept Line.Undated line lines is_mark =
+    joins_entry is_kept line.kept line.printed
+    (lines_text (up_to_value lines)) (entries_text bounds (entries lines))
+one_line bounds is_kept Line.Late line lines is_mark =
+    joins_entry is_kept line.kept line.printed
+    (lines_text (up_to_value lines)) (entries_text bounds (entries lines))
+one_line bounds is_kept Line.Unfit line lines is_mark =
+    joins_entry is_kept line.kept line.printed
+    (lines_text (up_to_value lines)) (entries_text bounds (entries lines))
+
+-- what is printed of lines without a header is entries
+printed_entries : (bounds : Bounds) (is_kept : Bool) (lines : List Marked) → AreMarks lines
+    → printed bounds is_kept lines ≡ between_lines bounds is_kept lines
+printed_entries bounds true [] are_marks = refl
+printed_entries bounds false [] are_marks = refl
+printed_entries bounds is_kept (line ∷ lines) are_marks =
+    ap (λ (text : List ℕ).
+    (if prints_by bounds is_kept line.what line.kept then line.printed else []) ++ text)
+    (printed_entries bounds (kept_by bounds is_kept line.what) lines are_marks.1)
+    ∙ one_line bounds is_kept line.what line lines are_marks.0
+
+-- a line that is judged is no header
+unfit_mark : (offsets : Offsets) (found : Found) (scan : Scan)
+    → IsMark (unfit_line offsets found) (keeps scan (unfit_line offsets found))
+unfit_mark Offsets.Any found scan = tt
+unfit_mark Offsets.AsFirst found scan = tt
+unfit_mark (Offsets.Only has_offset) found scan = tt
+unfit_mark (Offsets.AsBounds has_offset) found scan = tt
+
+value_mark : (test : Bool) (scan : Scan) (found : Found)
+    → let what : Line = if test then Line.Value found else unfit_line scan.offsets found in
+    IsMark what (keeps scan what)
+value_mark true scan found = refl
+value_mark false scan found = unfit_mark scan.offsets found scan
+
+undated_mark : (lines : UndatedLines) (place : ℕ) (scan : Scan)
+    → IsMark (undated_line lines place) (keeps scan (undated_line lines place))
+undated_mark UndatedLines.Join place scan = tt
+undated_mark UndatedLines.Drop place scan = tt
+undated_mark UndatedLines.Bad place scan = tt
+
+judged_mark : (scan : Scan) (reading : Reading)
+    → IsMark (judged scan reading) (keeps scan (judged scan reading))
+judged_mark scan (Reading.Value found) = value_mark (fits scan.offsets found) scan found
+judged_mark scan (Reading.Bad bad) = tt
+judged_mark scan (Reading.Undated place) = undated_mark scan.undated_lines place scan
+
+-- a line of a file whose header has come is no header
+chosen_mark : (stopped header : Bool) (scan : Scan) (reading : Reading)
+    → (not stopped && header) ≡ false
+    → let what : Line =
+    if stopped then Line.Late else if header then Line.Header else judged scan reading in
+    IsMark what (keeps scan what)
+chosen_mark true header scan reading no_header = tt
+chosen_mark false true scan reading no_header = cc
+chosen_mark false false scan reading no_header = judged_mark scan reading
+
+line_mark : (scan : Scan) (line : List ℕ) → awaits_header scan ≡ false
+    → IsMark (line_of scan line) (keeps scan (line_of scan line))
+unfolding line_of
+line_mark scan line no_header =
+    chosen_mark (is_stopped scan.stop) (scan.has_header && (scan.number == 0)) scan
+    (read scan.reader line) no_header
+
+no_zero : (number : ℕ) → 1 ≤ number → (number == 0) ≡ false
+no_zero zero some = absurd (omega arith)
+no_zero (suc number) some = grind (arith, nat_tests)
+
+ends_false : (first second third : Bool) → third ≡ false → (first && (second && third)) ≡ false
+ends_false true true third ended = ended
+ends_false true false third ended = refl
+ends_false false second third ended = refl
+
+counted_once : (stopped header : Bool) (number : ℕ)
+    → (stopped && (header && (one_more number == 0))) ≡ false
+counted_once stopped header number =
+    ends_false stopped header (one_more number == 0) (no_zero (one_more number) (omega arith))
+
+-- after a line a file's header has come
+pub header_came : (scan : Scan) (what : Line) → awaits_header scan ≡ false
+    → awaits_header (passed scan what) ≡ false
+unfolding passed
+header_came scan Line.Late came = came
+header_came scan Line.Header came =
+    counted_once (not (is_stopped (passed scan Line.Header).stop)) scan.has_header scan.number
+header_came scan Line.Undated came =
+    counted_once (not (is_stopped (passed scan Line.Undated).stop)) scan.has_header scan.number
+header_came scan (Line.Value found) came =
+    counted_once (not (is_stopped (passed scan (Line.Value found)).stop)) scan.has_header
+    scan.number
+header_came scan (Line.Bad bad) came =
+    counted_once (not (is_stopped (passed scan (Line.Bad bad)).stop)) scan.has_header scan.number
+header_came scan Line.Unfit came =
+    counted_once (not (is_stopped (passed scan Line.Unfit).stop)) scan.has_header scan.number
+
+pub header_passed : (scan : Scan) → awaits_header (passed scan Line.Header) ≡ false
+unfolding passed
+header_passed scan = counted_once (not (is_stopped scan.stop)) scan.has_header scan.number
+
+are_marks : (prefix : Prefix) (scan : Scan) (lines : List (List ℕ)) → awaits_header scan ≡ false
+    → AreMarks (marked prefix scan lines)
+are_marks prefix scan [] came = tt
+are_marks prefix scan (line ∷ lines) came = (
+  line_mark scan (head line) came,
+  are_marks prefix (passed scan (line_of scan (head line))) lines
+      (header_came scan (line_of scan (head line)) came),
+)
+
+chosen_header : (stopped header : Bool) (other : Line) → (not stopped && header) ≡ true
+    → (if stopped then Line.Late else if header then Line.Header else other) ≡ Line.Header
+chosen_header true header other awaited = cc
+chosen_header false true other awaited = refl
+chosen_header false false other awaited = cc
+
+pub line_is_header : (scan : Scan) (line : List ℕ) → awaits_header scan ≡ true
+    → line_of scan line ≡ Line.Header
+unfolding line_of
+line_is_header scan line awaited =
+    chosen_header (is_stopped scan.stop) (scan.has_header && (scan.number == 0)) _ awaited
+
+by_header : (between : Between) (line : List ℕ) (lines : List (List ℕ)) (awaits : Bool)
+    → awaits_header between.scan ≡ awaits
+    → printed between.bounds between.is_kept (marked between.prefix between.scan (line ∷ lines))
+    ≡ (if awaits
+    then printed_line between.prefix between.scan line
+    ++ between_lines between.bounds between.is_kept
+    (marked between.prefix (passed between.scan Line.Header) lines)
+    else between_lines between.bounds between.is_kept
+    (marked between.prefix between.scan (line ∷ lines)))
+by_header between line lines true awaited =
+    let is_header = line_is_header between.scan (head line) awaited in
+    let later = printed_entries between.bounds between.is_kept
+    (marked between.prefix (passed between.scan Line.Header) lines)
+    (are_marks between.prefix (passed between.scan Line.Header) lines
+    (header_passed between.scan)) in
+    rw is_header
+    (ap (λ (text : List ℕ). printed_line between.prefix between.scan line ++ text) later)
+by_header between line lines false came =
+    printed_entries between.bounds between.is_kept
+    (marked between.prefix between.scan (line ∷ lines))
+    (are_marks between.prefix between.scan (line ∷ lines) came)
+
+-- `between` prints of a file its header, and the entries whose value lies between the bounds
+pub between_prints : (between : Between) (lines : List (List ℕ))
+    → lines_output between_machine between lines ≡ file_text between lines
+between_prints between [] = refl
+between_prints between (line ∷ lines) =
+    machine_printed between (line ∷ lines)
+    ∙ by_header between line lines (awaits_header between.scan) refl

@@ -1,0 +1,92 @@
+-- What the machines of `check`, `order` and `convert` print of lines.
+use Rattle.std.proofs.Common.{◌≡◌, ◌∙◌, ℕ, ℤ, Bool, true, false, List, [], ◌∷◌, ◌++◌, refl, ap, sym, append_assoc, take, drop}
+use Rattle.std.proofs.lemmas.List.{append-nil}
+use Rattle.std.specs.Prelude.{Option, Some, None, if◌then◌else◌}
+use Rattle.speedate.specs.Ascii.{line_feed}
+use Rattle.speedate_stream.specs.Machine.{head, lines_output, rest_of}
+use Rattle.speedate_stream.specs.Watch.{one_more}
+use Rattle.speedate_commands.specs.Reading.{Bad, Found}
+use Rattle.speedate_commands.specs.Scan.{BadLines, Line, Scan, UndatedLines, keeps, line_of, passed}
+use Rattle.speedate_commands.specs.Check.{Check, check_lines, check_machine, check_text}
+use Rattle.speedate_commands.specs.Convert.{Convert, convert_line, convert_lines, convert_machine}
+use Rattle.speedate_commands.specs.Convert.{convert_rest, convert_text, converted, line_prefix}
+use Rattle.speedate_commands.specs.Convert.{text_of}
+use Rattle.speedate_commands.specs.Convert.{written_of}
+use Rattle.speedate_commands.specs.Order.{Latest, Order, dated, dated_and, late_report}
+use Rattle.speedate_commands.specs.Order.{late_reports}
+use Rattle.speedate_commands.specs.Order.{latest_of, order_after}
+use Rattle.speedate_commands.specs.Order.{order_lines, order_machine, order_text, report_if_late}
+use Rattle.speedate_commands.specs.Order.{value_after}
+use Rattle.speedate_commands.specs.Print.{prefix_text}
+
+-- `check` prints the reports of the lines whose value is bad
+pub check_prints : (check : Check) (lines : List (List ℕ))
+    → lines_output check_machine check lines ≡ check_lines check.scan lines
+check_prints check [] = refl
+check_prints check (line ∷ lines) =
+    let what : Line = line_of check.scan (head line) in
+    let later = check_prints (record { scan = passed check.scan what }) lines in
+    rw (append-nil, later) refl
+
+late_report_is : (order : Order) (found : Found) (latest : Option Latest)
+    → late_report order.scan found.instant latest
+    ≡ report_if_late latest (latest_of order.scan found)
+late_report_is order found None = refl
+late_report_is order found (Some latest) = refl
+
+one_value : (order : Order) (what : Line) (values : List Latest)
+    → order_text order what ++ late_reports (value_after order what) values
+    ≡ late_reports order.latest (dated_and order.scan what values)
+one_value order (Line.Value found) values =
+    ap (λ (text : List ℕ). text ++ late_reports (value_after order (Line.Value found)) values)
+    (late_report_is order found order.latest)
+one_value order Line.Late values = refl
+one_value order Line.Header values = refl
+one_value order (Line.Bad bad) values = refl
+one_value order Line.Unfit values = refl
+one_value order Line.Undated values = refl
+
+-- `order` prints the reports of the values that are earlier than the one before
+pub order_prints : (order : Order) (lines : List (List ℕ))
+    → lines_output order_machine order lines ≡ order_lines order lines
+order_prints order [] = refl
+order_prints order (line ∷ lines) =
+    let what : Line = line_of order.scan (head line) in
+    let later = order_prints (order_after order what) lines in
+    rw (append-nil, later) (one_value order what (dated (passed order.scan what) lines))
+
+-- a line that is printed as it is, if it is printed
+as_it_is : (test : Bool) (prefix line : List ℕ)
+    → (if test then prefix ++ [] else []) ++ rest_of (if test then Some 0 else None) line
+    ≡ (if test then prefix ++ rest_of (Some 0) line else [])
+as_it_is true prefix line =
+    ap (λ (text : List ℕ). text ++ rest_of (Some 0) line) (append-nil prefix)
+as_it_is false prefix line = refl
+
+joined : (a b c d : List ℕ) → (a ++ (b ++ c)) ++ d ≡ ((a ++ b) ++ c) ++ d
+joined a b c d = simp append_assoc
+
+one_line : (convert : Convert) (line : List ℕ) (what : Line)
+    → convert_text convert (head line) what ++ rest_of (convert_rest convert what) line
+    ≡ converted convert line what
+one_line convert line (Line.Value found) =
+    joined (line_prefix convert) (take found.from (head line))
+    (text_of convert.scan.reader.form convert.digits
+    (written_of convert (head line) (Line.Value found)))
+    (rest_of (Some found.to) line)
+one_line convert line Line.Header = as_it_is true (line_prefix convert) line
+one_line convert line (Line.Bad bad) =
+    as_it_is (keeps convert.scan (Line.Bad bad)) (line_prefix convert) line
+one_line convert line Line.Undated =
+    as_it_is (keeps convert.scan Line.Undated) (line_prefix convert) line
+one_line convert line Line.Late = refl
+one_line convert line Line.Unfit = refl
+
+-- `convert` prints each line with its value written anew
+pub convert_prints : (convert : Convert) (lines : List (List ℕ))
+    → lines_output convert_machine convert lines ≡ convert_lines convert lines
+convert_prints convert [] = refl
+convert_prints convert (line ∷ lines) =
+    let what : Line = convert_line convert (head line) in
+    let later = convert_prints (record convert { scan = passed convert.scan what }) lines in
+    rw (one_line convert line what, later) refl

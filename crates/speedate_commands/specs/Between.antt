@@ -1,0 +1,82 @@
+-- The command `between`: the entries whose value lies between two bounds.
+use Rattle.std.specs.Prelude.{ℕ, ℤ, ◌&&◌, ◌||◌, not, Bool, true, false, List, [], Option, Some, None, is_some, int_le, int_lt, if◌then◌else◌}
+use Rattle.speedate_stream.specs.Machine.{Machine}
+use Rattle.speedate_stream.specs.Watch.{one_more}
+use Rattle.speedate_commands.specs.Print.{prefix_text}
+use Rattle.speedate_commands.specs.Reading.{Bad, Found}
+use Rattle.speedate_commands.specs.Scan.{Line, Scan, is_stopped, is_value, keeps, line_of, passed}
+pub use Rattle.speedate_commands.specs.declared.between.Bounds.{Bounds}
+pub use Rattle.speedate_commands.specs.declared.between.Between.{Between}
+
+-- a microsecond is not before the first bound, which may be open
+abbrev pub is_begun : Option ℤ → ℤ → Bool
+is_begun None instant = true
+is_begun (Some from) instant = int_le from instant
+
+-- a microsecond is before the second bound, which may be open
+abbrev pub is_open : Option ℤ → ℤ → Bool
+is_open None instant = true
+is_open (Some to) instant = int_lt instant to
+
+-- FROM <= value < TO
+abbrev pub lies_between : Bounds → ℤ → Bool
+lies_between bounds instant = is_begun bounds.from instant && is_open bounds.to instant
+
+-- a line is printed: the header, a line whose value lies between the bounds, and with it the lines
+-- of its entry that are not left out
+abbrev pub prints : Between → Line → Bool
+prints between Line.Header = true
+prints between (Line.Value found) = lies_between between.bounds found.instant
+prints between (Line.Bad bad) = between.is_kept && keeps between.scan (Line.Bad bad)
+prints between Line.Undated = between.is_kept && keeps between.scan Line.Undated
+prints between Line.Late = false
+prints between Line.Unfit = false
+
+-- the entry of a line is printed
+abbrev pub kept_after : Between → Line → Bool
+kept_after between (Line.Value found) = lies_between between.bounds found.instant
+kept_after between Line.Header = between.is_kept
+kept_after between (Line.Bad bad) = between.is_kept
+kept_after between Line.Undated = between.is_kept
+kept_after between Line.Late = between.is_kept
+kept_after between Line.Unfit = between.is_kept
+
+-- how many lines came before the first value
+abbrev pub before_after : Between → Line → ℕ
+before_after between (Line.Bad bad) =
+    if between.has_value then between.before else one_more between.before
+before_after between Line.Undated =
+    if between.has_value then between.before else one_more between.before
+before_after between (Line.Value found) = between.before
+before_after between Line.Header = between.before
+before_after between Line.Late = between.before
+before_after between Line.Unfit = between.before
+
+-- what is known after a line
+abbrev pub between_after : Between → Line → Between
+between_after between line = record between {
+  scan = passed between.scan line;
+  is_kept = kept_after between line;
+  has_value = between.has_value || is_value line;
+  before = before_after between line;
+}
+
+-- the prefix of a line that is printed
+abbrev pub between_text : Between → Line → List ℕ
+between_text between line =
+    if prints between line
+    then prefix_text between.prefix between.scan.name.now (one_more between.scan.number)
+    else []
+
+-- the whole of a line that is printed
+abbrev pub between_rest : Between → Line → Option ℕ
+between_rest between line = if prints between line then Some 0 else None
+
+-- the lines of the entries whose value lies between the bounds
+abbrev pub between_machine : Machine Between
+between_machine = record {
+  after = λ between head. between_after between (line_of between.scan head);
+  text = λ between head. between_text between (line_of between.scan head);
+  rest = λ between head. between_rest between (line_of between.scan head);
+  done = λ between. is_stopped between.scan.stop;
+}

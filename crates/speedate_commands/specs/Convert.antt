@@ -1,0 +1,154 @@
+-- The command `convert`: each line with its value written anew.
+use Rattle.std.specs.Prelude.{ℕ, ℤ, ◌∷◌, ◌++◌, Bool, List, [], take, Option, Some, None, is_some, Result, Ok, Err, if◌then◌else◌}
+use Rattle.std.specs.Result.{result_ok}
+use Rattle.speedate.specs.Base.{ParseError}
+use Rattle.speedate.specs.Date.{date_text}
+use Rattle.speedate.specs.DateTime.{DateAndTime, date_time_in_timezone, date_time_text}
+use Rattle.speedate.specs.DateTime.{date_time_text_with}
+use Rattle.speedate.specs.declared.FractionDigits.{FractionDigits}
+use Rattle.speedate_stream.specs.Machine.{Machine, head, rest_of}
+use Rattle.speedate_stream.specs.Watch.{one_more}
+use Rattle.speedate_commands.specs.Print.{prefix_text}
+use Rattle.speedate_commands.specs.Reading.{Bad, Form, Found, Why, value_of}
+use Rattle.speedate_commands.specs.Scan.{Line, is_stopped, keeps, line_of, passed}
+pub use Rattle.speedate_commands.specs.declared.convert.Target.{Target}
+pub use Rattle.speedate_commands.specs.declared.convert.Convert.{Convert}
+
+-- the byte to report of a value that cannot be written: the end of one without an offset, or else
+-- its first byte
+abbrev pub target_place : Found → ℕ
+target_place found = if is_some found.offset then found.from else found.to
+
+-- a value that can be written, or what is bad about it
+abbrev pub writable : Found → Result DateAndTime ParseError → Result DateAndTime Bad
+writable found (Ok value) = Ok value
+writable found (Err fault) = Err (record { place = target_place found; why = Why.Parse fault })
+
+-- a value as it is written: at its own offset, or as a clock at another one shows the same instant
+abbrev pub targeted : Target → Found → DateAndTime → Result DateAndTime Bad
+targeted Target.Own found value = Ok value
+targeted (Target.Offset offset) found value = writable found (date_time_in_timezone offset value)
+
+-- the value that was read, as it is written
+abbrev pub written_from : Target → Found → Result (DateAndTime × ℕ) Bad → Result DateAndTime Bad
+written_from target found (Ok front) = targeted target found front.0
+written_from target found (Err bad) = Err bad
+
+-- the value of a line as it is written, or what is bad about it
+unfoldable pub written_value : Convert → List ℕ → Found → Result DateAndTime Bad
+written_value convert head found =
+    written_from convert.target found (value_of convert.scan.reader head found)
+
+-- the text of a date-time, with so many digits of a second, or with all that are not 0
+abbrev pub text_with : Option FractionDigits → DateAndTime → List ℕ
+text_with None value = date_time_text value
+text_with (Some digits) value = date_time_text_with digits value
+
+-- the text of a value: a date for dates, otherwise a date-time
+unfoldable pub written_text : Form → Option FractionDigits → DateAndTime → List ℕ
+written_text Form.Date digits value = date_text value.date
+written_text Form.DateTime digits value = text_with digits value
+written_text Form.Strict digits value = text_with digits value
+
+-- the text of a value, if there is one
+abbrev pub text_of : Form → Option FractionDigits → Option DateAndTime → List ℕ
+text_of form digits (Some value) = written_text form digits value
+text_of form digits None = []
+
+-- a line whose value cannot be written is bad
+abbrev pub line_by_value : Found → Result DateAndTime Bad → Line
+line_by_value found (Ok value) = Line.Value found
+line_by_value found (Err bad) = Line.Bad bad
+
+abbrev pub line_with_value : Convert → List ℕ → Line → Line
+line_with_value convert head (Line.Value found) =
+    line_by_value found (written_value convert head found)
+line_with_value convert head Line.Late = Line.Late
+line_with_value convert head Line.Header = Line.Header
+line_with_value convert head (Line.Bad bad) = Line.Bad bad
+line_with_value convert head Line.Unfit = Line.Unfit
+line_with_value convert head Line.Undated = Line.Undated
+
+-- what a line is
+abbrev pub convert_line : Convert → List ℕ → Line
+convert_line convert head = line_with_value convert head (line_of convert.scan head)
+
+-- the value of a line as it is written, if it has one
+abbrev pub written_of : Convert → List ℕ → Line → Option DateAndTime
+written_of convert head (Line.Value found) = result_ok (written_value convert head found)
+written_of convert head Line.Late = None
+written_of convert head Line.Header = None
+written_of convert head (Line.Bad bad) = None
+written_of convert head Line.Unfit = None
+written_of convert head Line.Undated = None
+
+-- the bytes of a line before its value, and the value written anew
+abbrev pub value_text : Convert → List ℕ → Line → List ℕ
+value_text convert head (Line.Value found) =
+    take found.from head
+    ++ text_of convert.scan.reader.form convert.digits (written_of convert head (Line.Value found))
+value_text convert head Line.Late = []
+value_text convert head Line.Header = []
+value_text convert head (Line.Bad bad) = []
+value_text convert head Line.Unfit = []
+value_text convert head Line.Undated = []
+
+-- what is printed before the rest of a line
+abbrev pub convert_text : Convert → List ℕ → Line → List ℕ
+convert_text convert head line =
+    if keeps convert.scan line
+    then prefix_text convert.prefix convert.scan.name.now (one_more convert.scan.number)
+    ++ value_text convert head line
+    else []
+
+-- the byte after a value, or the first one of a line that has none
+abbrev pub rest_start : Line → ℕ
+rest_start (Line.Value found) = found.to
+rest_start Line.Late = 0
+rest_start Line.Header = 0
+rest_start (Line.Bad bad) = 0
+rest_start Line.Unfit = 0
+rest_start Line.Undated = 0
+
+-- the rest of a line: what stands after its value, or all of it
+abbrev pub convert_rest : Convert → Line → Option ℕ
+convert_rest convert line = if keeps convert.scan line then Some (rest_start line) else None
+
+-- each line with its value written anew
+abbrev pub convert_machine : Machine Convert
+convert_machine = record {
+  after = λ convert head.
+      record convert { scan = passed convert.scan (convert_line convert head) };
+  text = λ convert head. convert_text convert head (convert_line convert head);
+  rest = λ convert head. convert_rest convert (convert_line convert head);
+  done = λ convert. is_stopped convert.scan.stop;
+}
+
+-- the prefix of a line
+abbrev pub line_prefix : Convert → List ℕ
+line_prefix convert =
+    prefix_text convert.prefix convert.scan.name.now (one_more convert.scan.number)
+
+-- what is printed of a line: what stands before its value, the value written anew, and what stands
+-- after it; a line that has none as it is, unless it is left out
+abbrev pub converted : Convert → List ℕ → Line → List ℕ
+converted convert line (Line.Value found) =
+    line_prefix convert ++ take found.from (head line)
+    ++ text_of convert.scan.reader.form convert.digits
+    (written_of convert (head line) (Line.Value found))
+    ++ rest_of (Some found.to) line
+converted convert line Line.Header = line_prefix convert ++ rest_of (Some 0) line
+converted convert line (Line.Bad bad) =
+    if keeps convert.scan (Line.Bad bad) then line_prefix convert ++ rest_of (Some 0) line else []
+converted convert line Line.Undated =
+    if keeps convert.scan Line.Undated then line_prefix convert ++ rest_of (Some 0) line else []
+converted convert line Line.Late = []
+converted convert line Line.Unfit = []
+
+-- what `convert` prints of lines
+abbrev pub convert_lines : Convert → List (List ℕ) → List ℕ
+convert_lines convert [] = []
+convert_lines convert (line ∷ lines) =
+    let what = convert_line convert (head line) in
+    converted convert line what
+    ++ convert_lines (record convert { scan = passed convert.scan what }) lines

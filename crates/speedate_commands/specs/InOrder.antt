@@ -1,0 +1,152 @@
+-- A file whose values are in order: a line is found in it by its value, and what stands before that
+-- line need not be read.
+use Rattle.std.specs.Prelude.{◌≡◌, ℕ, ℤ, ◌+◌, ◌-◌, ◌<◌, ◌≤◌, ◌^◌, ◌⊎◌, ◌&&◌, not, Bool, true, false, List, [], ◌∷◌, length, min, take, drop, slice_index, int_le, int_lt, Option, Some, None, Result, Ok, Err, IfOk, IfSome, if◌then◌else◌}
+use Rattle.std.specs.Io.KnownBytes.{Appends}
+use Rattle.speedate.specs.Ascii.{line_feed}
+use Rattle.speedate.specs.Lines.{IsLineEnd, complete_lines, lines}
+use Rattle.speedate_stream.specs.Machine.{head, state_after}
+use Rattle.speedate_stream.specs.declared.run.RunError.{RunError}
+use Rattle.speedate_commands.specs.Reading.{Reader, Reading, part, read}
+use Rattle.speedate_commands.specs.Scan.{Offsets, Scan, has_as, is_stopped, line_of, passed}
+use Rattle.speedate_commands.specs.Scan.{has_offsets, stop_at_bad}
+use Rattle.speedate_commands.specs.Between.{Between, between_machine}
+use Rattle.speedate_commands.specs.Entries.{Entry, entries, file_text, marked}
+
+-- A text that is read at any byte.
+
+-- a read of a known text gave its bytes from a place on, and none only at its end
+abbrev pub ReadsAt : {E : Type 0} → Option (List ℕ) → ℕ → Result ℕ E → List ℕ → Type 0
+ReadsAt known at result buffer = IfSome known (λ text. IfOk result (λ count.
+    (take count buffer ≡ take count (drop at text))
+    × (count ≡ 0 → 0 < length buffer → length text ≤ at)))
+
+-- the known bytes from one place up to another
+abbrev pub known_part : Option (List ℕ) → ℕ → ℕ → Option (List ℕ)
+known_part None from to = None
+known_part (Some text) from to = Some (part text from to)
+
+-- Lines that have a value.
+
+-- the microsecond of what is read of a line, if it is a value that has an offset, or none, as it is
+-- to have it
+abbrev pub value_in : Bool → Reading → Option ℤ
+value_in has_offset (Reading.Value found) =
+    if has_as has_offset found then Some found.instant else None
+value_in has_offset (Reading.Bad bad) = None
+value_in has_offset (Reading.Undated place) = None
+
+-- the microsecond of a line, if it has such a value
+abbrev pub line_value : Reader → Bool → List ℕ → Option ℤ
+line_value reader has_offset line = value_in has_offset (read reader (head line))
+
+-- at a place of a text, after a line feed, a line begins that has this value
+pub record HasValueAt (reader : Reader) (has_offset : Bool) (text : List ℕ) (at : ℕ)
+    (instant : ℤ) : Type 0 where
+  pub some : 1 ≤ at
+  pub begins : slice_index text (at - 1) ≡ line_feed
+  pub end : ℕ
+  pub ends : IsLineEnd text at end
+  pub value : line_value reader has_offset (part text at end) ≡ Some instant
+
+-- at a place of a text a line begins whose value is before a bound
+abbrev pub IsBefore : Reader → Bool → List ℕ → ℕ → ℤ → Type 0
+IsBefore reader has_offset text at bound =
+    (instant : ℤ) × (HasValueAt reader has_offset text at instant × (int_lt instant bound ≡ true))
+
+-- at a place of a text a line begins whose value is not before a bound
+abbrev pub IsFrom : Reader → Bool → List ℕ → ℕ → ℤ → Type 0
+IsFrom reader has_offset text at bound =
+    (instant : ℤ) × (HasValueAt reader has_offset text at instant × (int_le bound instant ≡ true))
+
+-- the first line of a text is ended by the line feed before a place
+abbrev pub EndsFirstLine : List ℕ → ℕ → Type 0
+EndsFirstLine text at = (1 ≤ at) × IsLineEnd text 0 (at - 1)
+
+-- Files in order.
+
+-- no entry has a value that is less
+abbrev pub NoneIsBefore : ℤ → List Entry → Type 0
+NoneIsBefore instant [] = Unit {0}
+NoneIsBefore instant (entry ∷ entries) =
+    (int_le instant entry.instant ≡ true) × NoneIsBefore instant entries
+
+-- the values of entries never fall
+abbrev pub AreInOrder : List Entry → Type 0
+AreInOrder [] = Unit {0}
+AreInOrder (entry ∷ entries) = NoneIsBefore entry.instant entries × AreInOrder entries
+
+-- what is known after lines
+abbrev pub scan_after : Scan → List (List ℕ) → Scan
+scan_after scan [] = scan
+scan_after scan (line ∷ lines) = scan_after (passed scan (line_of scan (head line))) lines
+
+-- the values of the lines of a file never fall, and no line ends the run
+pub record IsInOrder (between : Between) (lines : List (List ℕ)) : Type 0 where
+  pub ordered : AreInOrder (entries (marked between.prefix between.scan lines))
+  pub goes_on : is_stopped (scan_after between.scan lines).stop ≡ false
+
+-- values are to have an offset, or to have none, as the bounds have it
+abbrev pub is_settled : Offsets → Bool
+is_settled Offsets.Any = false
+is_settled Offsets.AsFirst = false
+is_settled (Offsets.Only has_offset) = true
+is_settled (Offsets.AsBounds has_offset) = true
+
+-- A file is searched unless the entry before it goes on in it, all values fit, or a bad value would
+-- end the run.
+abbrev pub is_searched : Between → Bool
+is_searched between =
+    not between.is_kept && (is_settled between.scan.offsets
+    && not (is_stopped (stop_at_bad between.scan.bad_lines)))
+
+-- Which part of a file is read.
+
+-- the part that is read starts where it may, or with a line whose value is before the first bound
+abbrev pub StartsAt : Between → Option (List ℕ) → ℕ → ℕ → Type 0
+StartsAt between known begin start = (start ≡ begin) ⊎ IfSome known (λ text.
+    (from : ℤ) × ((between.bounds.from ≡ Some from) × IsBefore between.scan.reader
+    (has_offsets between.scan.offsets) text start from))
+
+-- the part that is read ends before a line whose value is not before the second bound, or with the
+-- file
+abbrev pub EndsAt : Between → Option (List ℕ) → ℕ → ℕ → Type 0
+EndsAt between known start end = (end ≡ 2 ^ 64 - 1) ⊎ ((start ≤ end) × IfSome known (λ text.
+    (to : ℤ) × ((between.bounds.to ≡ Some to) × IsFrom between.scan.reader
+    (has_offsets between.scan.offsets) text end to)))
+
+-- how many lines come before the part that is read: they are counted if numbers are printed
+abbrev pub IsNumber : Between → List ℕ → ℕ → ℕ → ℕ → Type 0
+IsNumber between text begin start number =
+    (number ≡ min (between.scan.number + length (complete_lines (part text begin start)))
+    (2 ^ 64 - 1))
+    ⊎ ((number ≡ between.scan.number) × (between.prefix.has_number ≡ false))
+
+-- the lines of a part of a file were printed, unless the run has ended
+abbrev pub EndsFound : Between → Between → Option (List ℕ) → Option (List ℕ) → List ℕ → Type 0
+EndsFound before after old new text = (is_stopped after.scan.stop ≡ true)
+    ⊎ Appends old new (file_text before (lines text))
+
+-- the same, and what is known after them
+abbrev pub EndsPart : Between → Between → Option (List ℕ) → Option (List ℕ) → List ℕ → Type 0
+EndsPart before after old new text = (is_stopped after.scan.stop ≡ true)
+    ⊎ ((after ≡ state_after between_machine before (lines text))
+    × Appends old new (file_text before (lines text)))
+
+-- If the values of a file are in order, and no line ends the run, then what is printed is what
+-- `between` prints of all its lines.
+abbrev pub PrintsFile : Between → Between → Option (List ℕ) → Option (List ℕ) → List ℕ → Type 0
+PrintsFile before after old new text = length text < 2 ^ 64 → is_stopped after.scan.stop ≡ false
+    → IsInOrder before (lines text) → Appends old new (file_text before (lines text))
+
+-- the same of lines of a file that may be searched
+abbrev pub PrintsRest : Between → Between → Option (List ℕ) → Option (List ℕ) → List ℕ
+    → List (List ℕ) → Type 0
+PrintsRest before after old new text rest = is_searched before ≡ true → length text < 2 ^ 64
+    → is_stopped after.scan.stop ≡ false → IsInOrder before rest
+    → Appends old new (file_text before rest)
+
+-- which of the two has failed of an input and an output: the output, by this answer, or not
+abbrev pub FailsBy : Result (Unit {0}) RunError → Bool → Type 0
+FailsBy (Ok ended) output = output ≡ false
+FailsBy (Err RunError.Read) output = output ≡ false
+FailsBy (Err RunError.Write) output = output ≡ true

@@ -1,0 +1,119 @@
+-- The command `sum`: the total of the durations of lines.
+use Rattle.std.specs.Prelude.{◌≡◌, ℕ, ℤ, ◌+ℤ◌, ◌^◌, ◌==◌, ◌&&◌, Bool, true, false, List, [], ◌∷◌, ◌++◌, Option, Some, None, Result, Ok, Err, is_err, not, nat_lt, unsigned_abs, if◌then◌else◌}
+use Rattle.std.specs.List.{fold}
+use Rattle.std.specs.Result.{result_unwrap_or}
+use Rattle.speedate.specs.Ascii.{capital_d, line_feed}
+use Rattle.speedate.specs.Base.{ParseError}
+use Rattle.speedate.specs.Duration.{amount_answer, counted_text, rest_text, signed_amount}
+use Rattle.speedate.specs.Duration.{start_text}
+use Rattle.speedate.specs.DurationNumbers.{DurationNumbers}
+use Rattle.speedate.specs.Requirement.{result_map}
+use Rattle.speedate_stream.specs.Machine.{Machine, head}
+use Rattle.speedate_commands.specs.Amount.{read_duration}
+use Rattle.speedate_commands.specs.Reading.{Reading}
+use Rattle.speedate_commands.specs.Scan.{Line, Scan, counted, is_stopped, judged, passed}
+pub use Rattle.speedate_commands.specs.declared.sum.Sum.{Sum}
+
+-- What is added.
+
+-- a duration that was read, or what the line is instead
+abbrev pub judged_amount : Scan → Result DurationNumbers Reading → Result DurationNumbers Line
+judged_amount scan (Ok numbers) = Ok numbers
+judged_amount scan (Err reading) = Err (judged scan reading)
+
+-- the duration of a line, or what a line is that has none, by its head
+unfoldable pub amount_of : Scan → List ℕ → Result DurationNumbers Line
+amount_of scan head =
+    if is_stopped scan.stop then Err Line.Late
+    else if scan.has_header && (scan.number == 0) then Err Line.Header
+    else judged_amount scan (read_duration scan.reader head)
+
+-- what is known of the lines after one more
+abbrev pub scan_after : Scan → Result DurationNumbers Line → Scan
+scan_after scan (Ok numbers) = counted scan
+scan_after scan (Err line) = passed scan line
+
+-- the durations of lines, in order
+abbrev pub with_first : Result DurationNumbers Line → List DurationNumbers → List DurationNumbers
+with_first (Ok numbers) others = numbers ∷ others
+with_first (Err line) others = others
+
+abbrev pub amounts_of : Scan → List (List ℕ) → List DurationNumbers
+amounts_of scan [] = []
+amounts_of scan (line ∷ lines) =
+    let amount = amount_of scan (head line) in
+    with_first amount (amounts_of (scan_after scan amount) lines)
+
+-- the sum of a number of microseconds and of durations, each with its sign
+abbrev pub sum_from : ℤ → List DurationNumbers → ℤ
+sum_from total durations = fold (λ sum numbers. sum +ℤ signed_amount numbers) total durations
+
+-- What is kept of the sum.
+
+-- a total with one more duration; none after more microseconds than 2^126, which no number of lines
+-- has that a computer can read
+abbrev pub with_amount : Option ℤ → DurationNumbers → Option ℤ
+with_amount None numbers = None
+with_amount (Some total) numbers =
+    if nat_lt (unsigned_abs total) (2 ^ 126) then Some (total +ℤ signed_amount numbers) else None
+
+abbrev pub total_after : Option ℤ → Result DurationNumbers Line → Option ℤ
+total_after total (Ok numbers) = with_amount total numbers
+total_after total (Err line) = total
+
+-- the sum, after a line
+abbrev pub sum_after : Sum → Result DurationNumbers Line → Sum
+sum_after sum amount =
+    record { scan = scan_after sum.scan amount; total = total_after sum.total amount }
+
+-- the sum, after lines: each adds to it
+abbrev pub sum_of : Sum → List (List ℕ) → Sum
+sum_of sum [] = sum
+sum_of sum (line ∷ lines) = sum_of (sum_after sum (amount_of sum.scan (head line))) lines
+
+-- durations are added up, and no line is printed
+abbrev pub sum_machine : Machine Sum
+sum_machine = record {
+  after = λ sum head. sum_after sum (amount_of sum.scan head);
+  text = λ sum head. [];
+  rest = λ sum head. None;
+  done = λ sum. is_stopped sum.scan.stop;
+}
+
+-- a total is exactly what it was before and the durations that came, if one is kept
+abbrev pub IsExact : Option ℤ → List DurationNumbers → Option ℤ → Type 0
+IsExact (Some before) durations (Some after) = after ≡ sum_from before durations
+IsExact (Some before) durations None = Unit {0}
+IsExact None durations (Some after) = ⊥
+IsExact None durations None = Unit {0}
+
+-- the durations of lines were added
+pub record IsSumAfter (before : Sum) (lines : List (List ℕ)) (after : Sum) : Type 0 where
+  pub added : after ≡ sum_of before lines
+  pub exact : IsExact before.total (amounts_of before.scan lines) after.total
+
+-- What is printed of it.
+
+-- the duration that a total is, or the fault of one that has too many days
+abbrev pub total_answer : Option ℤ → Result DurationNumbers ParseError
+total_answer None = Err ParseError.DurationDaysTooLarge
+total_answer (Some total) = amount_answer total
+
+-- a duration in print without years: its days, and what follows them
+unfoldable pub in_days : DurationNumbers → List ℕ
+in_days numbers =
+    start_text numbers.positive ++ counted_text numbers.day capital_d ++ rest_text numbers
+
+-- a duration without years, with a line feed
+abbrev pub duration_line : DurationNumbers → List ℕ
+duration_line numbers = in_days numbers ++ line_feed ∷ []
+
+-- no total is printed since it has too many days
+abbrev pub is_too_large : Sum → Bool
+is_too_large sum = not (is_stopped sum.scan.stop) && is_err (total_answer sum.total)
+
+-- the total; nothing if it has too many days, or the run ended at a bad value
+unfoldable pub total_text : Sum → List ℕ
+total_text sum =
+    if is_stopped sum.scan.stop then []
+    else result_unwrap_or (result_map duration_line (total_answer sum.total)) []

@@ -1,0 +1,174 @@
+-- The command `summary`: how many lines and values there are, the first value, the last, and the
+-- longest gap.
+use Rattle.std.specs.Prelude.{◌≡◌, ℕ, ℤ, pos, ◌+ℤ◌, ◌-ℤ◌, ◌*ℤ◌, Bool, true, false, List, [], ◌∷◌, ◌++◌, Option, Some, None, unwrap_or, Result, Ok, Err, int_lt, codes, decimal, if◌then◌else◌}
+use Rattle.std.specs.Int.{saturate_signed, w64}
+use Rattle.std.specs.Result.{result_or}
+use Rattle.speedate.specs.Ascii.{line_feed}
+use Rattle.speedate.specs.Base.{ParseError, TimestampUnit}
+use Rattle.speedate.specs.DateTime.{DateAndTime, date_time_timestamp_answer}
+use Rattle.speedate.specs.DateTime.{date_time_with_offset}
+use Rattle.speedate.specs.Requirement.{◌>>=◌}
+use Rattle.speedate_stream.specs.Machine.{Machine, head}
+use Rattle.speedate_stream.specs.Watch.{one_more}
+use Rattle.speedate_commands.specs.Convert.{written_text}
+use Rattle.speedate_commands.specs.Order.{Latest, duration_between, latest_of, order_after}
+use Rattle.speedate_commands.specs.Print.{line_place}
+use Rattle.speedate_commands.specs.Reading.{Form}
+use Rattle.speedate_commands.specs.Scan.{Line, is_counted, is_stopped, is_value, line_of}
+pub use Rattle.speedate_commands.specs.declared.summary.Gap.{Gap}
+pub use Rattle.speedate_commands.specs.declared.summary.Summary.{Summary}
+
+-- What the lines add up to.
+
+-- a count, with one more if there is one
+abbrev pub one_more_if : Bool → ℕ → ℕ
+one_more_if is_one count = if is_one then one_more count else count
+
+-- a line has no value
+abbrev pub is_undated : Line → Bool
+is_undated Line.Undated = true
+is_undated (Line.Value found) = false
+is_undated Line.Late = false
+is_undated Line.Header = false
+is_undated (Line.Bad bad) = false
+is_undated Line.Unfit = false
+
+-- the first value, after a line
+abbrev pub first_or : Option Latest → Latest → Option Latest
+first_or None value = Some value
+first_or (Some first) value = Some first
+
+abbrev pub first_after : Summary → Line → Option Latest
+first_after summary (Line.Value found) =
+    first_or summary.first (latest_of summary.order.scan found)
+first_after summary Line.Late = summary.first
+first_after summary Line.Header = summary.first
+first_after summary (Line.Bad bad) = summary.first
+first_after summary Line.Unfit = summary.first
+first_after summary Line.Undated = summary.first
+
+-- the microseconds from one value to the next
+abbrev pub gap_size : Gap → ℤ
+gap_size gap = gap.to.instant -ℤ gap.from
+
+-- the microseconds of the longest gap: 0 if there is none
+abbrev pub longest_size : Option Gap → ℤ
+longest_size None = pos 0
+longest_size (Some gap) = gap_size gap
+
+-- the longest gap, after one more: the earlier one of two that are equally long
+abbrev pub longer : Option Gap → Gap → Option Gap
+longer longest gap = if int_lt (longest_size longest) (gap_size gap) then Some gap else longest
+
+-- the longest gap, after a value
+abbrev pub longest_with : Option Gap → Option Latest → Latest → Option Gap
+longest_with longest None value = longest
+longest_with longest (Some before) value =
+    longer longest (record { from = before.instant; to = value })
+
+-- the longest gap, after a line
+abbrev pub longest_after : Summary → Line → Option Gap
+longest_after summary (Line.Value found) =
+    longest_with summary.longest summary.order.latest (latest_of summary.order.scan found)
+longest_after summary Line.Late = summary.longest
+longest_after summary Line.Header = summary.longest
+longest_after summary (Line.Bad bad) = summary.longest
+longest_after summary Line.Unfit = summary.longest
+longest_after summary Line.Undated = summary.longest
+
+-- the summary, after a line
+abbrev pub summary_after : Summary → Line → Summary
+summary_after summary line = record {
+  order = order_after summary.order line;
+  lines = one_more_if (is_counted line) summary.lines;
+  values = one_more_if (is_value line) summary.values;
+  undated = one_more_if (is_undated line) summary.undated;
+  first = first_after summary line;
+  longest = longest_after summary line;
+}
+
+-- the summary, after lines: each adds to it
+abbrev pub summary_of : Summary → List (List ℕ) → Summary
+summary_of summary [] = summary
+summary_of summary (line ∷ lines) =
+    summary_of (summary_after summary (line_of summary.order.scan (head line))) lines
+
+-- lines are added up, and none is printed
+abbrev pub summary_machine : Machine Summary
+summary_machine = record {
+  after = λ summary head. summary_after summary (line_of summary.order.scan head);
+  text = λ summary head. [];
+  rest = λ summary head. None;
+  done = λ summary. is_stopped summary.order.scan.stop;
+}
+
+-- lines were added to the summary
+abbrev pub IsSummaryAfter : Summary → List (List ℕ) → Summary → Type 0
+IsSummaryAfter before lines after = after ≡ summary_of before lines
+
+-- What is printed of them.
+
+-- the microsecond that a clock at an offset shows: one beyond 64 bits is the nearest that fits them
+abbrev pub clock_microsecond : Option ℤ → ℤ → ℤ
+clock_microsecond offset instant =
+    saturate_signed w64 (instant +ℤ pos 1000000 *ℤ unwrap_or offset (pos 0))
+
+-- what a clock at an offset shows at a microsecond, in the years 0000 to 9999
+unfoldable pub clock_at : Option ℤ → ℤ → Result DateAndTime ParseError
+clock_at offset instant = do
+  value ← date_time_timestamp_answer TimestampUnit.Microsecond None 0
+      (clock_microsecond offset instant)
+  date_time_with_offset offset value
+
+-- the date-time by which a microsecond is shown: in UTC if it has an offset, but at its own offset
+-- if UTC is not in the years 0000 to 9999; without an offset, as a clock shows it
+unfoldable pub shown_at : Option ℤ → ℤ → Result DateAndTime ParseError
+shown_at None instant = clock_at None instant
+shown_at (Some offset) instant =
+    result_or (clock_at (Some (pos 0)) instant) (clock_at (Some offset) instant)
+
+-- the text of what can be shown
+abbrev pub shown_text : {E : Type 0} → Result DateAndTime E → List ℕ
+shown_text (Ok value) = written_text Form.DateTime None value
+shown_text (Err fault) = []
+
+-- the text of a value
+unfoldable pub instant_text : Option ℤ → ℤ → List ℕ
+instant_text offset instant = shown_text (shown_at offset instant)
+
+-- a line with a name and a count
+unfoldable pub count_text : List ℕ → ℕ → List ℕ
+count_text name count = name ++ decimal count ++ line_feed ∷ []
+
+unfoldable pub counts_text : Summary → List ℕ
+counts_text summary =
+    count_text (codes "lines ") summary.lines ++ count_text (codes "values ") summary.values
+    ++ count_text (codes "undated ") summary.undated
+    ++ count_text (codes "bad ") summary.order.scan.bad
+    ++ count_text (codes "out of order ") summary.order.late
+
+-- a line with a name and a value, if there is one
+unfoldable pub named_text : List ℕ → Option Latest → List ℕ
+named_text name None = []
+named_text name (Some value) =
+    name ++ instant_text value.offset value.instant ++ line_feed ∷ []
+
+-- a line with how long a gap is, and where its second value stands
+unfoldable pub gap_length : List ℕ → Gap → List ℕ
+gap_length name gap = name ++ duration_between gap.from gap.to.instant
+
+unfoldable pub gap_end : Gap → List ℕ
+gap_end gap = codes " before " ++ line_place gap.to.name.now gap.to.number ++ line_feed ∷ []
+
+abbrev pub gap_text : Gap → List ℕ
+gap_text gap = gap_length (codes "longest gap ") gap ++ gap_end gap
+
+unfoldable pub longest_text : Option Gap → List ℕ
+longest_text None = []
+longest_text (Some gap) = gap_text gap
+
+-- the summary
+unfoldable pub summary_text : Summary → List ℕ
+summary_text summary =
+    counts_text summary ++ named_text (codes "first ") summary.first
+    ++ named_text (codes "last ") summary.order.latest ++ longest_text summary.longest

@@ -1,0 +1,182 @@
+//! The command `between`: the entries whose value lies between two bounds.
+
+ghost use Rattle.std.specs.Prelude.{◌≡◌, ◌+◌, ◌++◌, ◌≤◌, Err, IfSome, OnOk, false, true};
+ghost use Rattle.arrayvec.specs.ArrayVec.{array_vec_len};
+ghost use Rattle.speedate_commands.specs.Between.{before_after, between_rest, between_text, is_begun};
+ghost use Rattle.speedate_commands.specs.Between.{is_open, kept_after, lies_between, prints};
+ghost use Rattle.speedate_commands.specs.Between.{between_machine};
+ghost use Rattle.speedate_commands.specs.Entries.{file_text};
+ghost use Rattle.speedate_commands.specs.Runs.{EndsWith};
+ghost use Rattle.speedate_stream.specs.Run.{EndsBy, PrintsBeginning, PrintsProgress};
+
+use crate::print::{PREFIX_MAX, Prefix};
+use crate::reading::Found;
+use crate::scan::{Line, Scan};
+use speedate_stream::run::{RunError, run};
+use speedate_stream::{LineMachine, Observer, PENDING_MAX, Pending, Watched};
+use std::io::{Read, Write};
+
+/// Two bounds, in microseconds as [`Found::instant`] counts them. A bound that is absent is open.
+#[derive(Clone, Copy, Debug)]
+pub struct Bounds {
+    /// The first microsecond that lies between them.
+    pub from: Option<i64>,
+    /// The first microsecond that does not any more.
+    pub to: Option<i64>,
+}
+
+/// Prints the lines of the entries whose value lies between two bounds. An entry is a line with a value,
+/// and the lines without one after it.
+#[derive(Clone, Copy)]
+pub struct Between<'a> {
+    /// What is known of the lines so far.
+    pub scan: Scan<'a>,
+    /// The bounds.
+    pub bounds: Bounds,
+    /// What is printed before each line.
+    pub prefix: Prefix,
+    /// Whether the entry is printed.
+    pub is_kept: bool,
+    /// Whether a value has come.
+    pub has_value: bool,
+    /// How many lines came before the first value.
+    pub before: u64,
+    /// Whether the values of a file never fall, so that it is searched.
+    pub is_in_order: bool,
+}
+
+impl Bounds {
+    /// Whether a value lies between the bounds: `FROM <= value < TO`.
+    fn holds(&self, found: &Found) -> bool
+        ensures between { result ≡ lies_between self.now found.now.instant }
+    {
+        self.is_begun(found.instant) && self.is_open(found.instant)
+    }
+
+    /// Whether a microsecond is not before the first bound.
+    fn is_begun(&self, instant: i64) -> bool
+        ensures begun { result ≡ is_begun self.now.from instant }
+    {
+        match self.from {
+            None => true,
+            Some(from) => from <= instant,
+        }
+    }
+
+    /// Whether a microsecond is before the second bound.
+    fn is_open(&self, instant: i64) -> bool
+        ensures open { result ≡ is_open self.now.to instant }
+    {
+        match self.to {
+            None => true,
+            Some(to) => instant < to,
+        }
+    }
+}
+
+impl Between<'_> {
+    /// Whether the entry of a line is printed.
+    fn kept_after(&self, line: &Line) -> bool
+        ensures kept { result ≡ kept_after self.now line.now }
+    {
+        match line {
+            Line::Value(found) => self.bounds.holds(found),
+            _ => self.is_kept,
+        }
+    }
+
+    /// Whether a line is printed.
+    fn prints(&self, line: &Line) -> bool
+        ensures prints { result ≡ prints self.now line.now }
+    {
+        match line {
+            Line::Header => true,
+            Line::Value(found) => self.bounds.holds(found),
+            Line::Bad(_) | Line::Undated => self.is_kept && self.scan.keeps(line),
+            Line::Late | Line::Unfit => false,
+        }
+    }
+
+    /// Appends the prefix of a line if it is printed, and returns the byte from which on it follows.
+    fn push_prefix(&self, line: &Line, pending: &mut Pending) -> Option<usize>
+        requires room { array_vec_len pending.old + PREFIX_MAX ≤ PENDING_MAX }
+        ensures pushed { pending.new.items ≡ pending.old.items ++ between_text self.now line.now }
+        ensures length { array_vec_len pending.new ≤ array_vec_len pending.old + PREFIX_MAX }
+        ensures rest { result ≡ between_rest self.now line.now }
+        ensures within { IfSome result (λ from. from ≡ 0) }
+    {
+        if !self.prints(line) {
+            return None;
+        }
+        self.prefix
+            .push_onto(self.scan.name, self.scan.next_number(), pending);
+        Some(0)
+    }
+
+    /// How many lines came before the first value, after a line.
+    fn before_after(&self, line: &Line) -> u64
+        ensures before { result ≡ before_after self.now line.now }
+    {
+        match line {
+            Line::Bad(_) | Line::Undated if !self.has_value => self.before.saturating_add(1),
+            _ => self.before,
+        }
+    }
+}
+
+impl LineMachine for Between<'_> {
+    ghost use Rattle.speedate_commands.specs.Between.{between_machine};
+
+    ghost machine = { between_machine };
+
+    fn is_done(&self) -> bool {
+        self.scan.is_stopped()
+    }
+
+    fn passes(&self, head: &[u8]) -> bool {
+        self.prints(&self.scan.line(head))
+    }
+
+    fn step(&mut self, head: &[u8], pending: &mut Pending) -> Option<usize> {
+        let line = self.scan.line(head);
+        let rest = self.push_prefix(&line, pending);
+        self.before = self.before_after(&line);
+        self.is_kept = self.kept_after(&line);
+        self.has_value |= line.is_value();
+        self.scan.pass(line);
+        rest
+    }
+}
+
+/// Prints the header of an input, if it has one, and the entries whose value lies between the bounds, each
+/// whole.
+///
+/// Fails with `RunError::Read` if a read fails, with `RunError::Write` if a write or the flush does.
+pub fn print_entries<'a, R: Read, W: Write, O: Observer<Between<'a>>>(
+    command: &mut Between<'a>,
+    input: &mut Watched<R>,
+    output: &mut Watched<W>,
+    observer: &mut O,
+) -> Result<(), RunError>
+    // If neither end had failed before, one has failed if and only if the answer says so.
+    ensures failed { input.old.failed ≡ false → output.old.failed ≡ false →
+        EndsBy result input.new.failed output.new.failed }
+    ensures ended { OnOk result (EndsWith between_machine (file_text command.old)
+        command.old command.new
+        (R.remaining input.old.inner) (R.remaining input.new.inner)
+        (W.contents output.old.inner) (W.contents output.new.inner)) }
+    ensures flushed { OnOk result (output.new.flushed ≡ true) }
+    // After a failed read what was written is what is printed for all that was read.
+    ensures read_failed { result ≡ Err RunError.Read → PrintsProgress between_machine command.old
+        command.new (R.remaining input.old.inner) (R.remaining input.new.inner)
+        (W.contents output.old.inner) (W.contents output.new.inner) }
+    // After a failed write it is a beginning of what was due.
+    ensures write_failed { result ≡ Err RunError.Write → PrintsBeginning between_machine command.old
+        (R.remaining input.old.inner) (R.remaining input.new.inner)
+        (W.contents output.old.inner) (W.contents output.new.inner) }
+{
+    match run(command, input, output, observer) {
+        Ok(()) => Ok(()),
+        Err(error) => Err(error),
+    }
+}

@@ -1,0 +1,236 @@
+//! The command `convert`: each line with its value written anew.
+
+ghost use Rattle.std.specs.Prelude.{◌≡◌, ◌+◌, ◌++◌, ◌≤◌, IfSome, length, take, Err, OnOk, false, true};
+ghost use Rattle.std.specs.Option.{option_map};
+ghost use Rattle.arrayvec.specs.ArrayVec.{array_vec_len};
+ghost use Rattle.speedate.specs.DateTime.{date_and_time};
+ghost use Rattle.speedate.specs.Requirement.{result_map};
+ghost use Rattle.speedate_commands.specs.Convert.{convert_line, convert_rest, convert_text, target_place};
+ghost use Rattle.speedate_commands.specs.Convert.{targeted, text_of, text_with, written_of, written_text};
+ghost use Rattle.speedate_commands.specs.Convert.{written_value};
+ghost use Rattle.speedate_commands.specs.Reading.{IsWithin};
+ghost use Rattle.speedate_commands.specs.Scan.{IsFoundWithin};
+ghost use Rattle.speedate_commands.specs.Convert.{convert_lines, convert_machine};
+ghost use Rattle.speedate_commands.specs.Runs.{EndsWith};
+ghost use Rattle.speedate_stream.specs.Run.{EndsBy, PrintsBeginning, PrintsProgress};
+
+use crate::form::Form;
+use crate::print::Prefix;
+use crate::reading::{Bad, Found, Why};
+use crate::scan::{Line, Scan};
+use arrayvec::ArrayString;
+use speedate::{DateTime, FractionDigits};
+use speedate_stream::run::{RunError, run};
+use speedate_stream::{LineMachine, Observer, PENDING_MAX, Pending, STEP_MAX, Watched, push_bytes};
+use std::io::{Read, Write};
+
+/// At which offset values are written.
+#[derive(Clone, Copy, Debug)]
+pub enum Target {
+    /// Each at its own.
+    Own,
+    /// All at this one, in seconds.
+    Offset(i32),
+}
+
+/// Prints each line with its value written anew, and its other bytes as they are.
+#[derive(Clone, Copy)]
+pub struct Convert<'a> {
+    /// What is known of the lines so far.
+    pub scan: Scan<'a>,
+    /// What is printed before each line.
+    pub prefix: Prefix,
+    /// At which offset values are written.
+    pub target: Target,
+    /// With how many digits of a second, if not with all that are not 0.
+    pub digits: Option<FractionDigits>,
+}
+
+/// The byte to report of a value that cannot be written: the end of one without an offset, or else its
+/// first byte.
+fn target_place(found: &Found) -> usize
+    ensures place { result ≡ target_place found.now }
+{
+    if found.offset.is_some() {
+        found.from
+    } else {
+        found.to
+    }
+}
+
+/// The bytes of a line before its value.
+fn before_value<'h>(head: &'h [u8], found: &Found) -> &'h [u8]
+    requires { IsWithin found.now head.now }
+    ensures text { result.now ≡ take found.now.from head.now }
+    ensures short { length result.now ≤ 4096 }
+{
+    &head[..found.from]
+}
+
+impl Target {
+    /// A value as it is written.
+    fn targeted(&self, found: &Found, value: DateTime) -> Result<DateTime, Bad>
+        ensures value { result_map date_and_time result
+            ≡ targeted self.now found.now (date_and_time value) }
+    {
+        let Target::Offset(offset) = self else {
+            return Ok(value);
+        };
+        match value.in_timezone(*offset) {
+            Ok(moved) => Ok(moved),
+            Err(fault) => Err(Bad {
+                place: target_place(found),
+                why: Why::Parse(fault),
+            }),
+        }
+    }
+}
+
+/// Appends a value: a date for dates, otherwise a date-time.
+#[tactic(auto, unfolding(crate::specs::Convert::written_text))]
+pub fn push_value(
+    form: Form,
+    digits: Option<FractionDigits>,
+    value: &DateTime,
+    pending: &mut Pending,
+)
+    requires room { array_vec_len pending.old + 32 ≤ PENDING_MAX }
+    ensures pushed { pending.new.items
+        ≡ pending.old.items ++ written_text form digits (date_and_time value.now) }
+    ensures length { array_vec_len pending.new ≤ array_vec_len pending.old + 32 }
+{
+    match form {
+        Form::Date => push_bytes(value.date.to_text().as_str().as_bytes(), pending),
+        _ => push_bytes(text_with(digits, value).as_str().as_bytes(), pending),
+    }
+}
+
+/// The text of a date-time, with so many digits of a second, or with all that are not 0.
+fn text_with(digits: Option<FractionDigits>, value: &DateTime) -> ArrayString<32>
+    ensures text { result.bytes ≡ text_with digits (date_and_time value.now) }
+{
+    match digits {
+        Some(digits) => value.to_text_with_digits(digits),
+        None => value.to_text(),
+    }
+}
+
+/// Appends a value, if there is one.
+fn push_if_some(
+    form: Form,
+    digits: Option<FractionDigits>,
+    value: &Option<DateTime>,
+    pending: &mut Pending,
+)
+    requires room { array_vec_len pending.old + 32 ≤ PENDING_MAX }
+    ensures pushed { pending.new.items
+        ≡ pending.old.items ++ text_of form digits (option_map date_and_time value.now) }
+    ensures length { array_vec_len pending.new ≤ array_vec_len pending.old + 32 }
+{
+    if let Some(value) = value {
+        push_value(form, digits, value, pending);
+    }
+}
+
+impl Convert<'_> {
+    /// What a line is, and its value as it is written: a line whose value cannot be written is bad.
+    #[tactic(auto, unfolding(crate::specs::Convert::written_value))]
+    fn line(&self, head: &[u8]) -> (Line, Option<DateTime>)
+        ensures line { result.0 ≡ convert_line self.now head.now }
+        ensures within { IsFoundWithin result.0 head.now }
+        ensures value { option_map date_and_time result.1 ≡ written_of self.now head.now result.0 }
+    {
+        let (line, value) = self.scan.line_with_value(head);
+        let (Line::Value(found), Some(value)) = (&line, value) else {
+            return (line, None);
+        };
+        match self.target.targeted(found, value) {
+            Ok(value) => (line, Some(value)),
+            Err(bad) => (Line::Bad(bad), None),
+        }
+    }
+
+    /// Appends what stands before the rest of a line, and returns the byte from which on that follows.
+    fn push_line(
+        &self,
+        head: &[u8],
+        line: &Line,
+        value: &Option<DateTime>,
+        pending: &mut Pending,
+    ) -> Option<usize>
+        requires within { IsFoundWithin line.now head.now }
+        requires value { option_map date_and_time value.now ≡ written_of self.now head.now line.now }
+        requires room { array_vec_len pending.old + STEP_MAX ≤ PENDING_MAX }
+        ensures pushed { pending.new.items
+            ≡ pending.old.items ++ convert_text self.now head.now line.now }
+        ensures length { array_vec_len pending.new ≤ array_vec_len pending.old + STEP_MAX }
+        ensures rest { result ≡ convert_rest self.now line.now }
+        ensures within { IfSome result (λ from. from ≤ length head.now) }
+    {
+        if !self.scan.keeps(line) {
+            return None;
+        }
+        self.prefix
+            .push_onto(self.scan.name, self.scan.next_number(), pending);
+        let Line::Value(found) = line else {
+            return Some(0);
+        };
+        push_bytes(before_value(head, found), pending);
+        push_if_some(self.scan.reader.form, self.digits, value, pending);
+        Some(found.to)
+    }
+}
+
+impl LineMachine for Convert<'_> {
+    ghost use Rattle.speedate_commands.specs.Convert.{convert_machine};
+
+    ghost machine = { convert_machine };
+
+    fn is_done(&self) -> bool {
+        self.scan.is_stopped()
+    }
+
+    fn passes(&self, head: &[u8]) -> bool {
+        let (line, _) = self.line(head);
+        self.scan.keeps(&line)
+    }
+
+    fn step(&mut self, head: &[u8], pending: &mut Pending) -> Option<usize> {
+        let (line, value) = self.line(head);
+        let rest = self.push_line(head, &line, &value, pending);
+        self.scan.pass(line);
+        rest
+    }
+}
+
+/// Prints each line of an input with its value written anew, and its other bytes as they are.
+///
+/// Fails with `RunError::Read` if a read fails, with `RunError::Write` if a write or the flush does.
+pub fn print_converted<'a, R: Read, W: Write, O: Observer<Convert<'a>>>(
+    command: &mut Convert<'a>,
+    input: &mut Watched<R>,
+    output: &mut Watched<W>,
+    observer: &mut O,
+) -> Result<(), RunError>
+    // If neither end had failed before, one has failed if and only if the answer says so.
+    ensures failed { input.old.failed ≡ false → output.old.failed ≡ false →
+        EndsBy result input.new.failed output.new.failed }
+    ensures ended { OnOk result (EndsWith convert_machine (convert_lines command.old)
+        command.old command.new
+        (R.remaining input.old.inner) (R.remaining input.new.inner)
+        (W.contents output.old.inner) (W.contents output.new.inner)) }
+    ensures flushed { OnOk result (output.new.flushed ≡ true) }
+    // After a failed read what was written is what is printed for all that was read.
+    ensures read_failed { result ≡ Err RunError.Read → PrintsProgress convert_machine command.old
+        command.new (R.remaining input.old.inner) (R.remaining input.new.inner)
+        (W.contents output.old.inner) (W.contents output.new.inner) }
+    // After a failed write it is a beginning of what was due.
+    ensures write_failed { result ≡ Err RunError.Write → PrintsBeginning convert_machine command.old
+        (R.remaining input.old.inner) (R.remaining input.new.inner)
+        (W.contents output.old.inner) (W.contents output.new.inner) }
+{
+    match run(command, input, output, observer) {
+        Ok(()) => Ok(()),
+        Err(error) => Err(error),
+    }
+}

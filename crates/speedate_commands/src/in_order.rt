@@ -1,0 +1,279 @@
+//! The command `between` over files whose values are in order, which are searched for the bounds.
+
+ghost use Rattle.std.specs.Prelude.{◌≡◌, ℕ, ℤ, ◌+◌, ◌-◌, ◌^◌, ◌<◌, ◌≤◌, ◌⊎◌, List, Option, None, IfOk, IfSome, OnOk, drop, false, length, true};
+ghost use Rattle.std.specs.Io.KnownBytes.{Appends};
+ghost use Rattle.speedate.specs.Lines.{lines};
+ghost use Rattle.speedate_commands.specs.Entries.{awaits_header, file_text};
+ghost use Rattle.speedate_commands.specs.InOrder.{EndsAt, EndsFound, EndsPart, FailsBy, IsNumber};
+ghost use Rattle.speedate_commands.specs.InOrder.{PrintsFile};
+ghost use Rattle.speedate_commands.specs.InOrder.{PrintsRest};
+ghost use Rattle.speedate_commands.specs.InOrder.{StartsAt, is_searched, is_settled};
+ghost use Rattle.speedate_commands.specs.Reading.{part};
+ghost use Rattle.speedate_commands.specs.Scan.{has_offsets};
+
+use crate::between::Between;
+use crate::scan::{BadLines, Offsets, REPORTS_MAX, Scan};
+use crate::search::{ReadAt, Values, Window, count_lines, second_line};
+use speedate_stream::run::{RunError, run};
+use speedate_stream::{NoObserver, Watched};
+use std::io::{self, Write};
+
+/// Whether values are to have an offset, or to have none, as the bounds have it.
+fn is_settled(offsets: Offsets) -> bool
+    ensures settled { result ≡ is_settled offsets }
+{
+    match offsets {
+        Offsets::Any | Offsets::AsFirst => false,
+        Offsets::Only(_) | Offsets::AsBounds(_) => true,
+    }
+}
+
+/// Whether a file begins with a header that has not come yet.
+fn awaits_header(scan: &Scan<'_>) -> bool
+    ensures awaits { result ≡ awaits_header scan.now }
+{
+    !scan.is_stopped() && scan.has_header && scan.number == 0
+}
+
+impl Between<'_> {
+    /// Whether a file may be searched: not if the entry before it goes on in it, if all values fit, or
+    /// if a bad value would end the run.
+    fn is_searched(&self) -> bool
+        ensures searched { result ≡ is_searched self.now }
+    {
+        !self.is_kept && is_settled(self.scan.offsets) && self.scan.bad_lines != BadLines::Stop
+    }
+
+    /// Which values are looked for.
+    fn values(&self) -> Values<'_>
+        ensures reader { result.reader ≡ self.now.scan.reader }
+        ensures offset { result.has_offset ≡ has_offsets self.now.scan.offsets }
+    {
+        Values {
+            reader: self.scan.reader,
+            has_offset: self.scan.has_offsets(),
+        }
+    }
+
+    /// Where the part of a file begins that has to be read: at the given byte, or with a line whose
+    /// value is before the first bound.
+    fn start<S: ReadAt>(&self, source: &S, begin: u64, size: u64) -> io::Result<u64>
+        ensures ordered { IfOk result (λ start. begin ≤ start) }
+        ensures start { IfOk result (λ start.
+            StartsAt self.now (S.text source.now) begin start) }
+    {
+        match self.bounds.from {
+            Some(bound) => {
+                let cut = self.values().cut(source, bound, begin, size)?;
+                Ok(cut.before)
+            }
+            None => Ok(begin),
+        }
+    }
+
+    /// Where it ends: before a line whose value is not before the second bound, or with the file.
+    fn end<S: ReadAt>(&self, source: &S, start: u64, size: u64) -> io::Result<u64>
+        ensures end { IfOk result (λ end. EndsAt self.now (S.text source.now) start end) }
+    {
+        let Some(bound) = self.bounds.to else {
+            return Ok(u64::MAX);
+        };
+        let cut = self.values().cut(source, bound, start, size)?;
+        match cut.after {
+            Some(end) => Ok(end),
+            None => Ok(u64::MAX),
+        }
+    }
+
+    /// Passes over the last entries of a file, whose values are not before the second bound.
+    fn pass_entry(&mut self)
+        ensures stop { self.new.scan.stop ≡ self.old.scan.stop }
+    {
+        self.is_kept = false;
+        self.has_value = true;
+        self.scan.offsets = Offsets::Only(self.scan.has_offsets());
+    }
+
+    /// The number of the line before a part of a file. The lines before it are counted if numbers of
+    /// lines are printed.
+    fn number_at<S: ReadAt>(&self, source: &S, begin: u64, start: u64) -> io::Result<u64>
+        requires ordered { begin ≤ start }
+        ensures fits { self.now.scan.number < 2 ^ 64 }
+        ensures number { IfOk result (λ number. IfSome (S.text source.now) (λ text.
+            IsNumber self.now text begin start number)) }
+    {
+        let number = self.scan.number;
+        if self.prefix.has_number {
+            count_lines(source, number, begin, start)
+        } else {
+            Ok(number)
+        }
+    }
+}
+
+impl Scan<'_> {
+    /// Counts lines that were not read before others, and moves the reports of these, from one on.
+    fn renumber(&mut self, first: u64, skipped: u64)
+        ensures stop { self.new.stop ≡ self.old.stop }
+    {
+        self.number = self.number.saturating_add(skipped);
+        for index in 0..REPORTS_MAX {
+            if index as u64 >= first {
+                let number = self.reports[index].number;
+                self.reports[index].number = number.saturating_add(skipped);
+            }
+        }
+    }
+}
+
+/// Prints what `between` prints of the lines of a part of a file.
+fn print_part<S: ReadAt, W: Write>(
+    command: &mut Between<'_>,
+    source: &S,
+    from: u64,
+    to: u64,
+    output: &mut Watched<W>,
+) -> Result<(), RunError>
+    ensures ended { OnOk result (IfSome (S.text source.now) (λ text. EndsPart command.old command.new
+        (W.contents output.old.inner) (W.contents output.new.inner) (part text from to))) }
+    ensures flushed { OnOk result (output.new.flushed ≡ true) }
+    ensures failed { output.old.failed ≡ false → FailsBy result output.new.failed }
+{
+    let mut window = Watched::new(Window {
+        source,
+        at: from,
+        end: to,
+    });
+    run(command, &mut window, output, &mut NoObserver)
+}
+
+/// Prints the lines of a part of a file, before which others were not read. If one of them is bad,
+/// these are counted, for the numbers of the reports.
+fn print_found<S: ReadAt, W: Write>(
+    command: &mut Between<'_>,
+    source: &S,
+    begin: u64,
+    start: u64,
+    end: u64,
+    output: &mut Watched<W>,
+) -> Result<(), RunError>
+    requires ordered { begin ≤ start }
+    ensures ended { OnOk result (IfSome (S.text source.now) (λ text. EndsFound command.old command.new
+        (W.contents output.old.inner) (W.contents output.new.inner) (part text start end))) }
+    ensures flushed { OnOk result (output.new.flushed ≡ true) }
+    ensures failed { output.old.failed ≡ false → FailsBy result output.new.failed }
+{
+    let told = command.scan.bad;
+    print_part(command, source, start, end, output)?;
+    if command.scan.bad > told && !command.prefix.has_number {
+        let Ok(skipped) = count_lines(source, 0, begin, start) else {
+            command.scan.bad = told;
+            return Err(RunError::Read);
+        };
+        command.scan.renumber(told, skipped);
+    }
+    Ok(())
+}
+
+/// The same, and then, unless the run has ended, passes over the lines after the part, if there are any:
+/// an entry begins there that is not printed.
+fn print_bounded<S: ReadAt, W: Write>(
+    command: &mut Between<'_>,
+    source: &S,
+    begin: u64,
+    start: u64,
+    end: u64,
+    output: &mut Watched<W>,
+) -> Result<(), RunError>
+    requires ordered { begin ≤ start }
+    ensures ended { OnOk result (IfSome (S.text source.now) (λ text. EndsFound command.old command.new
+        (W.contents output.old.inner) (W.contents output.new.inner) (part text start end))) }
+    ensures flushed { OnOk result (output.new.flushed ≡ true) }
+    ensures failed { output.old.failed ≡ false → FailsBy result output.new.failed }
+{
+    print_found(command, source, begin, start, end, output)?;
+    if end < u64::MAX && !command.scan.is_stopped() {
+        command.pass_entry();
+    }
+    Ok(())
+}
+
+/// Prints what `between` prints of a file from a byte on, at which a line begins.
+fn print_rest<S: ReadAt, W: Write>(
+    command: &mut Between<'_>,
+    source: &S,
+    begin: u64,
+    size: u64,
+    output: &mut Watched<W>,
+) -> Result<(), RunError>
+    ensures same { awaits_header command.old.scan ≡ false → OnOk result (IfSome (S.text source.now)
+        (λ text. PrintsRest command.old command.new (W.contents output.old.inner)
+        (W.contents output.new.inner) text (lines (drop begin text)))) }
+    ensures flushed { OnOk result (output.new.flushed ≡ true) }
+    ensures failed { output.old.failed ≡ false → FailsBy result output.new.failed }
+{
+    let Ok(start) = command.start(source, begin, size) else {
+        return Err(RunError::Read);
+    };
+    let Ok(number) = command.number_at(source, begin, start) else {
+        return Err(RunError::Read);
+    };
+    command.scan.number = number;
+    let Ok(end) = command.end(source, start, size) else {
+        return Err(RunError::Read);
+    };
+    print_bounded(command, source, begin, start, end, output)
+}
+
+/// Prints what `between` prints of a file with a header.
+fn print_headed<S: ReadAt, W: Write>(
+    command: &mut Between<'_>,
+    source: &S,
+    size: u64,
+    output: &mut Watched<W>,
+) -> Result<(), RunError>
+    requires awaits { awaits_header command.old.scan ≡ true }
+    ensures same { OnOk result (IfSome (S.text source.now) (λ text. PrintsRest command.old command.new
+        (W.contents output.old.inner) (W.contents output.new.inner) text (lines text))) }
+    ensures flushed { OnOk result (output.new.flushed ≡ true) }
+    ensures failed { output.old.failed ≡ false → FailsBy result output.new.failed }
+{
+    let Ok(second) = second_line(source) else {
+        return Err(RunError::Read);
+    };
+    let Some(begin) = second else {
+        return print_part(command, source, 0, u64::MAX, output);
+    };
+    print_part(command, source, 0, begin, output)?;
+    if command.scan.is_stopped() {
+        return Ok(());
+    }
+    print_rest(command, source, begin, size, output)
+}
+
+/// Prints what `between` prints of a file of so many bytes, whose values never fall. It is searched for
+/// the bounds, and only a part of it is read. Bad values of what is not read are not noted.
+///
+/// Fails with `RunError::Read` if a read fails, with `RunError::Write` if a write or the flush does.
+pub fn between_in_order<S: ReadAt, W: Write>(
+    command: &mut Between<'_>,
+    source: &S,
+    size: u64,
+    output: &mut Watched<W>,
+) -> Result<(), RunError>
+    // If the values of the file are in order, and no line ends the run, what is printed is what is
+    // printed of all lines.
+    ensures same { OnOk result (IfSome (S.text source.now) (λ text. PrintsFile command.old command.new
+        (W.contents output.old.inner) (W.contents output.new.inner) text)) }
+    ensures flushed { OnOk result (output.new.flushed ≡ true) }
+    // If the output had not failed before, it has failed if and only if the answer says so.
+    ensures failed { output.old.failed ≡ false → FailsBy result output.new.failed }
+{
+    if !command.is_searched() {
+        return print_part(command, source, 0, u64::MAX, output);
+    }
+    if awaits_header(&command.scan) {
+        return print_headed(command, source, size, output);
+    }
+    print_rest(command, source, 0, size, output)
+}

@@ -1,0 +1,235 @@
+//! The command `sum`: the total of the durations of lines.
+
+ghost use Rattle.std.specs.Prelude.{◌≡◌, ◌+◌, ◌++◌, ◌≤◌, Err, IfErr, OnOk, false, true};
+ghost use Rattle.arrayvec.specs.ArrayVec.{array_vec_len};
+ghost use Rattle.speedate.specs.Ascii.{capital_d};
+ghost use Rattle.speedate.specs.Duration.{counted_text, duration_numbers, rest_text, start_text};
+ghost use Rattle.speedate.specs.Requirement.{result_map};
+ghost use Rattle.speedate_commands.specs.Reading.{IsReadWithin};
+ghost use Rattle.speedate_commands.specs.Runs.{EndsAdded};
+ghost use Rattle.speedate_commands.specs.Sum.{IsSumAfter, amount_of, in_days, is_too_large};
+ghost use Rattle.speedate_commands.specs.Sum.{judged_amount};
+ghost use Rattle.speedate_commands.specs.Sum.{sum_after, sum_machine};
+ghost use Rattle.speedate_commands.specs.Sum.{total_after, total_answer, total_text, with_amount};
+ghost use Rattle.speedate_stream.specs.Run.{EndsBy, PrintsBeginning, PrintsProgress};
+
+use crate::print::push_number;
+use crate::reading::Reading;
+use crate::scan::{Line, Scan};
+use speedate::{Duration, ParseError};
+use speedate_stream::run::{RunError, run};
+use speedate_stream::{LineMachine, Observer, PENDING_MAX, Pending, Watched, push_bytes};
+use std::io::{Read, Write};
+
+/// The total and its line feed are not longer.
+pub const TOTAL_MAX: usize = 55;
+
+/// No further duration is added to a total of as many microseconds: it could no longer fit an `i128`.
+const TOTAL_END: u128 = 1 << 126;
+
+/// Adds up the durations of lines, and prints no line.
+#[derive(Clone, Copy)]
+pub struct Sum<'a> {
+    /// What is known of the lines so far.
+    pub scan: Scan<'a>,
+    /// The total so far, in microseconds, unless it is too large.
+    pub total: Option<i128>,
+}
+
+impl Scan<'_> {
+    /// The duration of a line, by its head, or what a line is that has none.
+    #[tactic(auto, unfolding(crate::specs::Sum::amount_of))]
+    fn amount(&self, head: &[u8]) -> Result<Duration, Line>
+        ensures amount { result_map duration_numbers result ≡ amount_of self.now head.now }
+    {
+        if self.is_stopped() {
+            return Err(Line::Late);
+        }
+        if self.has_header && self.number == 0 {
+            return Err(Line::Header);
+        }
+        self.judged_amount(self.reader.read_duration(head), head)
+    }
+
+    /// A duration that was read of a line, or what the line is instead.
+    fn judged_amount(&self, read: Result<Duration, Reading>, head: &[u8]) -> Result<Duration, Line>
+        requires within { IfErr read (λ reading. IsReadWithin reading head.now) }
+        ensures judged { result_map duration_numbers result
+            ≡ judged_amount self.now (result_map duration_numbers read) }
+    {
+        match read {
+            Ok(duration) => Ok(duration),
+            Err(reading) => Err(self.judged(reading, head)),
+        }
+    }
+}
+
+/// A total with one more duration.
+fn with_amount(total: Option<i128>, duration: &Duration) -> Option<i128>
+    ensures total { result ≡ with_amount total (duration_numbers duration.now) }
+{
+    match total {
+        Some(total) if total.unsigned_abs() < TOTAL_END => {
+            Some(total + duration.signed_total_microseconds())
+        }
+        _ => None,
+    }
+}
+
+/// Appends the start of a duration: `P`, or `-P`.
+fn push_start(positive: bool, pending: &mut Pending)
+    requires room { array_vec_len pending.old + 2 ≤ PENDING_MAX }
+    ensures pushed { pending.new.items ≡ pending.old.items ++ start_text positive }
+    ensures length { array_vec_len pending.new ≤ array_vec_len pending.old + 2 }
+{
+    let start: &[u8] = if positive { b"P" } else { b"-P" };
+    push_bytes(start, pending);
+}
+
+/// Appends the days of a duration, if it has any: `400D`.
+#[tactic(auto, using(std::proofs::Common::append_assoc))]
+fn push_days(days: u32, pending: &mut Pending)
+    requires room { array_vec_len pending.old + 21 ≤ PENDING_MAX }
+    ensures pushed { pending.new.items ≡ pending.old.items ++ counted_text days capital_d }
+    ensures length { array_vec_len pending.new ≤ array_vec_len pending.old + 21 }
+{
+    if days > 0 {
+        push_number(u64::from(days), pending);
+        push_bytes(b"D", pending);
+    }
+}
+
+/// Appends what follows the days of a duration: `T1H`.
+fn push_clock(duration: &Duration, pending: &mut Pending)
+    requires room { array_vec_len pending.old + 31 ≤ PENDING_MAX }
+    ensures pushed { pending.new.items
+        ≡ pending.old.items ++ rest_text (duration_numbers duration.now) }
+    ensures length { array_vec_len pending.new ≤ array_vec_len pending.old + 31 }
+{
+    if duration.day > 0 && duration.second == 0 && duration.microsecond == 0 {
+        return;
+    }
+    let clock = Duration {
+        positive: true,
+        day: 0,
+        second: duration.second,
+        microsecond: duration.microsecond,
+    };
+    push_bytes(&clock.to_text().as_str().as_bytes()[1..], pending);
+}
+
+/// Appends a duration without years: `P400DT1H`.
+#[tactic(auto, unfolding(crate::specs::Sum::in_days), using(std::proofs::Common::append_assoc))]
+fn push_in_days(duration: &Duration, pending: &mut Pending)
+    requires room { array_vec_len pending.old + 54 ≤ PENDING_MAX }
+    ensures pushed { pending.new.items
+        ≡ pending.old.items ++ in_days (duration_numbers duration.now) }
+    ensures length { array_vec_len pending.new ≤ array_vec_len pending.old + 54 }
+{
+    push_start(duration.positive, pending);
+    push_days(duration.day, pending);
+    push_clock(duration, pending);
+}
+
+impl Sum<'_> {
+    /// Adds the duration of a line, and counts the line.
+    fn add(&mut self, amount: Result<Duration, Line>)
+        ensures added { self.new ≡ sum_after self.old (result_map duration_numbers amount) }
+    {
+        match amount {
+            Ok(duration) => {
+                self.total = with_amount(self.total, &duration);
+                self.scan.count();
+            }
+            Err(line) => self.scan.pass(line),
+        }
+    }
+
+    /// The total as a duration.
+    ///
+    /// Fails with `DurationDaysTooLarge` if it has more than 999,999,999 days.
+    fn total(&self) -> Result<Duration, ParseError>
+        ensures answer { result_map duration_numbers result ≡ total_answer self.now.total }
+    {
+        match self.total {
+            Some(total) => Duration::from_signed_microseconds(total),
+            None => Err(ParseError::DurationDaysTooLarge),
+        }
+    }
+
+    /// Whether no total is printed because it has more than 999,999,999 days.
+    pub fn is_too_large(&self) -> bool
+        ensures large { result ≡ is_too_large self.now }
+    {
+        !self.scan.is_stopped() && self.total().is_err()
+    }
+
+    /// Appends the total and a line feed: `P400DT1H30M`, without years, so that a sum takes it again. It
+    /// appends nothing if the total has more than 999,999,999 days, or if the run ended at a bad value.
+    #[tactic(auto, unfolding(crate::specs::Sum::total_text), using(std::proofs::Common::append_assoc))]
+    pub fn push_onto(&self, pending: &mut Pending)
+        requires room { array_vec_len pending.old + TOTAL_MAX ≤ PENDING_MAX }
+        ensures pushed { pending.new.items ≡ pending.old.items ++ total_text self.now }
+        ensures length { array_vec_len pending.new ≤ array_vec_len pending.old + TOTAL_MAX }
+    {
+        if self.scan.is_stopped() {
+            return;
+        }
+        if let Ok(total) = self.total() {
+            push_in_days(&total, pending);
+            push_bytes(b"\n", pending);
+        }
+    }
+}
+
+impl LineMachine for Sum<'_> {
+    ghost use Rattle.speedate_commands.specs.Sum.{sum_machine};
+
+    ghost machine = { sum_machine };
+
+    fn is_done(&self) -> bool {
+        self.scan.is_stopped()
+    }
+
+    fn passes(&self, _head: &[u8]) -> bool {
+        false
+    }
+
+    fn step(&mut self, head: &[u8], _pending: &mut Pending) -> Option<usize> {
+        let amount = self.scan.amount(head);
+        self.add(amount);
+        None
+    }
+}
+
+/// Adds the durations of the lines of an input to a sum, and prints nothing.
+///
+/// Fails with `RunError::Read` if a read fails, with `RunError::Write` if the flush does.
+pub fn add_durations<'a, R: Read, W: Write, O: Observer<Sum<'a>>>(
+    command: &mut Sum<'a>,
+    input: &mut Watched<R>,
+    output: &mut Watched<W>,
+    observer: &mut O,
+) -> Result<(), RunError>
+    // If neither end had failed before, one has failed if and only if the answer says so.
+    ensures failed { input.old.failed ≡ false → output.old.failed ≡ false →
+        EndsBy result input.new.failed output.new.failed }
+    // The durations of all lines were added, exactly, or the command wants no further line.
+    ensures ended { OnOk result (EndsAdded sum_machine IsSumAfter command.old command.new
+        (R.remaining input.old.inner) (R.remaining input.new.inner)
+        (W.contents output.old.inner) (W.contents output.new.inner)) }
+    ensures flushed { OnOk result (output.new.flushed ≡ true) }
+    // After a failed read all complete lines that were read have been added.
+    ensures read_failed { result ≡ Err RunError.Read → PrintsProgress sum_machine command.old
+        command.new (R.remaining input.old.inner) (R.remaining input.new.inner)
+        (W.contents output.old.inner) (W.contents output.new.inner) }
+    // After a failed write it is a beginning of what was due.
+    ensures write_failed { result ≡ Err RunError.Write → PrintsBeginning sum_machine command.old
+        (R.remaining input.old.inner) (R.remaining input.new.inner)
+        (W.contents output.old.inner) (W.contents output.new.inner) }
+{
+    match run(command, input, output, observer) {
+        Ok(()) => Ok(()),
+        Err(error) => Err(error),
+    }
+}

@@ -1,0 +1,350 @@
+//! The command `summary`: how many lines and values there are, the first value, the last, and the longest
+//! gap.
+
+ghost use Rattle.std.specs.Prelude.{◌≡◌, ◌+◌, ◌++◌, ◌≤◌, Err, OnOk, false, true, length};
+ghost use Rattle.arrayvec.specs.ArrayVec.{array_vec_len};
+ghost use Rattle.speedate.specs.DateTime.{◌gives◌};
+ghost use Rattle.speedate_commands.specs.Runs.{EndsAdded};
+ghost use Rattle.speedate_commands.specs.Summary.{IsSummaryAfter, clock_at, clock_microsecond, count_text};
+ghost use Rattle.speedate_commands.specs.Summary.{counts_text, first_after, gap_end, gap_length, gap_size};
+ghost use Rattle.speedate_commands.specs.Summary.{gap_text};
+ghost use Rattle.speedate_commands.specs.Summary.{instant_text, is_undated, longest_after, longest_size};
+ghost use Rattle.speedate_commands.specs.Summary.{longest_text, longest_with, one_more_if, shown_at};
+ghost use Rattle.speedate_commands.specs.Summary.{summary_after, summary_machine, summary_text, named_text};
+ghost use Rattle.speedate_commands.specs.Order.{latest_of};
+ghost use Rattle.speedate_stream.specs.Run.{EndsBy, PrintsBeginning, PrintsProgress};
+
+use crate::convert::push_value;
+use crate::form::Form;
+use crate::order::{Latest, Order, push_duration_text};
+use crate::print::{push_line_place, push_number};
+use crate::reading::Found;
+use crate::scan::Line;
+use speedate::{DateTime, DateTimeConfig, ParseError, TimeConfig, TimestampUnit};
+use speedate_stream::run::{RunError, run};
+use speedate_stream::{LineMachine, Observer, PENDING_MAX, Pending, Watched, push_bytes};
+use std::io::{Read, Write};
+
+/// No summary is longer.
+pub const SUMMARY_MAX: usize = 4417;
+
+/// Two values, one after the other.
+#[derive(Clone, Copy)]
+pub struct Gap<'a> {
+    /// The microsecond of the first, as `Found::instant` counts it.
+    pub from: i64,
+    /// The second.
+    pub to: Latest<'a>,
+}
+
+/// Counts the lines and their values, and prints none.
+#[derive(Clone, Copy)]
+pub struct Summary<'a> {
+    /// The last value, and how many were earlier than the one before.
+    pub order: Order<'a>,
+    /// How many lines there were.
+    pub lines: u64,
+    /// How many of them have a value that fits.
+    pub values: u64,
+    /// How many of them have no value.
+    pub undated: u64,
+    /// The first value, if there is one.
+    pub first: Option<Latest<'a>>,
+    /// The longest gap between a value and a later one that comes next, if there is one.
+    pub longest: Option<Gap<'a>>,
+}
+
+/// A count, with one more if there is one.
+fn one_more_if(is_one: bool, count: u64) -> u64
+    ensures count { result ≡ one_more_if is_one count }
+{
+    if is_one {
+        count.saturating_add(1)
+    } else {
+        count
+    }
+}
+
+/// Whether a line has no value.
+fn is_undated(line: &Line) -> bool
+    ensures undated { result ≡ is_undated line.now }
+{
+    matches!(line, Line::Undated)
+}
+
+impl Gap<'_> {
+    /// How many microseconds it has.
+    fn size(&self) -> i128
+        ensures size { result ≡ gap_size self.now }
+    {
+        i128::from(self.to.instant) - i128::from(self.from)
+    }
+}
+
+impl<'a> Summary<'a> {
+    /// The first value, after a line.
+    fn first_after(&self, line: &Line) -> Option<Latest<'a>>
+        ensures first { result ≡ first_after self.now line.now }
+    {
+        match (line, &self.first) {
+            (Line::Value(found), None) => Some(self.order.scan.latest(found)),
+            _ => self.first,
+        }
+    }
+
+    /// How many microseconds the longest gap has: 0 if there is none.
+    fn longest_size(&self) -> i128
+        ensures size { result ≡ longest_size self.now.longest }
+    {
+        match &self.longest {
+            Some(gap) => gap.size(),
+            None => 0,
+        }
+    }
+
+    /// The longest gap, after a value.
+    fn longest_with(&self, found: &Found) -> Option<Gap<'a>>
+        ensures longest { result ≡ longest_with self.now.longest self.now.order.latest
+            (latest_of self.now.order.scan found.now) }
+    {
+        let Some(before) = &self.order.latest else {
+            return self.longest;
+        };
+        let gap = Gap {
+            from: before.instant,
+            to: self.order.scan.latest(found),
+        };
+        if self.longest_size() < gap.size() {
+            Some(gap)
+        } else {
+            self.longest
+        }
+    }
+
+    /// The longest gap, after a line.
+    fn longest_after(&self, line: &Line) -> Option<Gap<'a>>
+        ensures longest { result ≡ longest_after self.now line.now }
+    {
+        match line {
+            Line::Value(found) => self.longest_with(found),
+            _ => self.longest,
+        }
+    }
+
+    /// Adds a line.
+    fn add(&mut self, line: Line)
+        ensures added { self.new ≡ summary_after self.old line }
+    {
+        let first = self.first_after(&line);
+        let longest = self.longest_after(&line);
+        self.lines = one_more_if(line.is_counted(), self.lines);
+        self.values = one_more_if(line.is_value(), self.values);
+        self.undated = one_more_if(is_undated(&line), self.undated);
+        self.first = first;
+        self.longest = longest;
+        self.order.pass(line);
+    }
+
+    /// Appends the summary.
+    #[tactic(auto, unfolding(crate::specs::Summary::summary_text), using(std::proofs::Common::append_assoc))]
+    pub fn push_onto(&self, pending: &mut Pending)
+        requires room { array_vec_len pending.old + SUMMARY_MAX ≤ PENDING_MAX }
+        ensures pushed { pending.new.items ≡ pending.old.items ++ summary_text self.now }
+        ensures length { array_vec_len pending.new ≤ array_vec_len pending.old + SUMMARY_MAX }
+    {
+        self.push_counts(pending);
+        push_named(b"first ", &self.first, pending);
+        push_named(b"last ", &self.order.latest, pending);
+        push_longest(&self.longest, pending);
+    }
+
+    /// Appends the counts, each with its name.
+    #[tactic(auto, unfolding(crate::specs::Summary::counts_text), using(std::proofs::Common::append_assoc))]
+    fn push_counts(&self, pending: &mut Pending)
+        requires room { array_vec_len pending.old + 170 ≤ PENDING_MAX }
+        ensures pushed { pending.new.items ≡ pending.old.items ++ counts_text self.now }
+        ensures length { array_vec_len pending.new ≤ array_vec_len pending.old + 170 }
+    {
+        push_count(b"lines ", self.lines, pending);
+        push_count(b"values ", self.values, pending);
+        push_count(b"undated ", self.undated, pending);
+        push_count(b"bad ", self.order.scan.bad, pending);
+        push_count(b"out of order ", self.order.late, pending);
+    }
+}
+
+/// Appends a count with its name, which has at most 13 bytes: `lines 3`, and a line feed.
+#[tactic(auto, unfolding(crate::specs::Summary::count_text), using(std::proofs::Common::append_assoc))]
+fn push_count(name: &[u8], count: u64, pending: &mut Pending)
+    requires short { length name.now ≤ 13 }
+    requires room { array_vec_len pending.old + 34 ≤ PENDING_MAX }
+    ensures pushed { pending.new.items ≡ pending.old.items ++ count_text name.now count }
+    ensures length { array_vec_len pending.new ≤ array_vec_len pending.old + 34 }
+{
+    push_bytes(name, pending);
+    push_number(count, pending);
+    push_bytes(b"\n", pending);
+}
+
+/// Appends a value with its name, which has at most 6 bytes, if there is one: `first
+/// 2026-11-22T06:10:00Z`, and a line feed.
+#[tactic(auto, unfolding(crate::specs::Summary::named_text), using(std::proofs::Common::append_assoc))]
+fn push_named(name: &[u8], value: &Option<Latest<'_>>, pending: &mut Pending)
+    requires short { length name.now ≤ 6 }
+    requires room { array_vec_len pending.old + 39 ≤ PENDING_MAX }
+    ensures pushed { pending.new.items ≡ pending.old.items ++ named_text name.now value.now }
+    ensures length { array_vec_len pending.new ≤ array_vec_len pending.old + 39 }
+{
+    if let Some(value) = value {
+        push_bytes(name, pending);
+        push_instant(value.offset, value.instant, pending);
+        push_bytes(b"\n", pending);
+    }
+}
+
+/// Appends the date-time of a value: `2026-11-22T06:10:00Z`.
+#[tactic(auto, unfolding(crate::specs::Summary::instant_text))]
+fn push_instant(offset: Option<i32>, instant: i64, pending: &mut Pending)
+    requires room { array_vec_len pending.old + 32 ≤ PENDING_MAX }
+    ensures pushed { pending.new.items ≡ pending.old.items ++ instant_text offset instant }
+    ensures length { array_vec_len pending.new ≤ array_vec_len pending.old + 32 }
+{
+    if let Ok(shown) = shown_at(offset, instant) {
+        push_value(Form::DateTime, None, &shown, pending);
+    }
+}
+
+/// The date-time by which a microsecond is shown: in UTC if it has an offset, but at its own offset if UTC
+/// is not in the years 0000 to 9999. Without an offset, as a clock shows it.
+#[tactic(auto, unfolding(crate::specs::Summary::shown_at))]
+fn shown_at(offset: Option<i32>, instant: i64) -> Result<DateTime, ParseError>
+    ensures shown { result gives shown_at offset instant }
+{
+    let Some(own) = offset else {
+        return clock_at(None, instant);
+    };
+    match clock_at(Some(0), instant) {
+        Ok(utc) => Ok(utc),
+        Err(_) => clock_at(Some(own), instant),
+    }
+}
+
+/// What a clock at an offset shows at a microsecond, in the years 0000 to 9999.
+#[tactic(auto, unfolding(crate::specs::Summary::clock_at))]
+fn clock_at(offset: Option<i32>, instant: i64) -> Result<DateTime, ParseError>
+    ensures clock { result gives clock_at offset instant }
+{
+    let config = DateTimeConfig {
+        timestamp_unit: TimestampUnit::Microsecond,
+        time_config: TimeConfig::default(),
+    };
+    let clock = clock_microsecond(offset, instant);
+    match DateTime::from_timestamp_with_config(clock, 0, &config) {
+        Ok(shown) => shown.with_timezone_offset(offset),
+        Err(fault) => Err(fault),
+    }
+}
+
+/// The microsecond that a clock at an offset shows: one beyond 64 bits is the nearest that fits them.
+fn clock_microsecond(offset: Option<i32>, instant: i64) -> i64
+    ensures clock { result ≡ clock_microsecond offset instant }
+{
+    instant.saturating_add(1_000_000 * i64::from(offset.unwrap_or(0)))
+}
+
+/// Appends the longest gap, if there is one.
+#[tactic(auto, unfolding(crate::specs::Summary::longest_text))]
+fn push_longest(longest: &Option<Gap<'_>>, pending: &mut Pending)
+    requires room { array_vec_len pending.old + 4169 ≤ PENDING_MAX }
+    ensures pushed { pending.new.items ≡ pending.old.items ++ longest_text longest.now }
+    ensures length { array_vec_len pending.new ≤ array_vec_len pending.old + 4169 }
+{
+    if let Some(gap) = longest {
+        push_gap(gap, pending);
+    }
+}
+
+/// Appends how long a gap is, and where it ends: `longest gap PT10S before app.log:7`, and a line feed.
+fn push_gap(gap: &Gap<'_>, pending: &mut Pending)
+    requires room { array_vec_len pending.old + 4169 ≤ PENDING_MAX }
+    ensures pushed { pending.new.items ≡ pending.old.items ++ gap_text gap.now }
+    ensures length { array_vec_len pending.new ≤ array_vec_len pending.old + 4169 }
+{
+    push_gap_length(b"longest gap ", gap, pending);
+    push_gap_end(gap, pending);
+}
+
+/// Appends how long a gap is, after a name: `longest gap PT10S`.
+#[tactic(auto, unfolding(crate::specs::Summary::gap_length), using(std::proofs::Common::append_assoc))]
+fn push_gap_length(name: &[u8], gap: &Gap<'_>, pending: &mut Pending)
+    requires room { array_vec_len pending.old + length name.now + 31 ≤ PENDING_MAX }
+    ensures pushed { pending.new.items ≡ pending.old.items ++ gap_length name.now gap.now }
+    ensures length { array_vec_len pending.new ≤ array_vec_len pending.old + length name.now + 31 }
+{
+    push_bytes(name, pending);
+    push_duration_text(gap.from, gap.to.instant, pending);
+}
+
+/// Appends where a gap ends: ` before app.log:7`, and a line feed.
+#[tactic(auto, unfolding(crate::specs::Summary::gap_end), using(std::proofs::Common::append_assoc))]
+fn push_gap_end(gap: &Gap<'_>, pending: &mut Pending)
+    requires room { array_vec_len pending.old + 4126 ≤ PENDING_MAX }
+    ensures pushed { pending.new.items ≡ pending.old.items ++ gap_end gap.now }
+    ensures length { array_vec_len pending.new ≤ array_vec_len pending.old + 4126 }
+{
+    push_bytes(b" before ", pending);
+    push_line_place(gap.to.name, gap.to.number, pending);
+    push_bytes(b"\n", pending);
+}
+
+impl LineMachine for Summary<'_> {
+    ghost use Rattle.speedate_commands.specs.Summary.{summary_machine};
+
+    ghost machine = { summary_machine };
+
+    fn is_done(&self) -> bool {
+        self.order.scan.is_stopped()
+    }
+
+    fn passes(&self, _head: &[u8]) -> bool {
+        false
+    }
+
+    fn step(&mut self, head: &[u8], _pending: &mut Pending) -> Option<usize> {
+        let line = self.order.scan.line(head);
+        self.add(line);
+        None
+    }
+}
+
+/// Adds the lines of an input to a summary, and prints nothing.
+///
+/// Fails with `RunError::Read` if a read fails, with `RunError::Write` if the flush does.
+pub fn add_lines<'a, R: Read, W: Write, O: Observer<Summary<'a>>>(
+    command: &mut Summary<'a>,
+    input: &mut Watched<R>,
+    output: &mut Watched<W>,
+    observer: &mut O,
+) -> Result<(), RunError>
+    // If neither end had failed before, one has failed if and only if the answer says so.
+    ensures failed { input.old.failed ≡ false → output.old.failed ≡ false →
+        EndsBy result input.new.failed output.new.failed }
+    // All lines were added, or the command wants no further one.
+    ensures ended { OnOk result (EndsAdded summary_machine IsSummaryAfter command.old command.new
+        (R.remaining input.old.inner) (R.remaining input.new.inner)
+        (W.contents output.old.inner) (W.contents output.new.inner)) }
+    ensures flushed { OnOk result (output.new.flushed ≡ true) }
+    // After a failed read all complete lines that were read have been added.
+    ensures read_failed { result ≡ Err RunError.Read → PrintsProgress summary_machine command.old
+        command.new (R.remaining input.old.inner) (R.remaining input.new.inner)
+        (W.contents output.old.inner) (W.contents output.new.inner) }
+    // After a failed write it is a beginning of what was due.
+    ensures write_failed { result ≡ Err RunError.Write → PrintsBeginning summary_machine command.old
+        (R.remaining input.old.inner) (R.remaining input.new.inner)
+        (W.contents output.old.inner) (W.contents output.new.inner) }
+{
+    match run(command, input, output, observer) {
+        Ok(()) => Ok(()),
+        Err(error) => Err(error),
+    }
+}
