@@ -96,8 +96,10 @@ fn open_source<'a>(
             }
         }
     };
-    let input = BufReader::new(rt.alloc(), input)?;
-    Ok(Some(Source::new(keys, input, rt.alloc())))
+    match BufReader::new(rt.alloc(), input) {
+        Ok(input) => Ok(Some(Source::new(keys, input, rt.alloc()))),
+        Err(_) => Err(AllocError),
+    }
 }
 
 /// Prints the lines of the sources in order, and returns the exit status as far as it is about that.

@@ -27,6 +27,7 @@ pub enum Form {
 
 impl Form {
     /// The value at the front of a text, and how many bytes it takes.
+    #[inline(always)]
     pub fn front(
         self,
         text: &[u8],
@@ -73,9 +74,29 @@ pub fn relaxed(behavior: MicrosecondsPrecisionOverflowBehavior) -> TimeConfig
     }
 }
 
-/// The date-time at the front of a text, and how many bytes it takes.
-#[tactic(auto, using(crate::proofs::ReadingLemmas::placed_answer), unfolding(crate::specs::Reading::relaxed_front))]
+/// The date-time at the front of a text, and how many bytes it takes. A text that is refused is parsed once
+/// more for the place of its error, so that the others do not pay for it.
+#[inline(always)]
+#[tactic(auto, unfolding(crate::specs::Reading::relaxed_front))]
 fn relaxed_front(
+    text: &[u8],
+    behavior: MicrosecondsPrecisionOverflowBehavior,
+) -> Result<(DateTime, usize), Refused>
+    ensures front { result_map (with_size date_and_time) result ≡ relaxed_front behavior text.now }
+    ensures size { IfOk result (λ front. front.1 ≤ length text.now) }
+    ensures within { IfErr result (λ refused. refused.place ≤ length text.now) }
+{
+    match DateTime::parse_front(text, &relaxed(behavior)) {
+        Ok(front) => Ok(front),
+        Err(_) => placed_front(text, behavior),
+    }
+}
+
+/// The same, parsed with the place of an error.
+#[cold]
+#[inline(never)]
+#[tactic(auto, using(crate::proofs::ReadingLemmas::placed_answer), unfolding(crate::specs::Reading::relaxed_front))]
+fn placed_front(
     text: &[u8],
     behavior: MicrosecondsPrecisionOverflowBehavior,
 ) -> Result<(DateTime, usize), Refused>

@@ -258,11 +258,12 @@ impl Reader<'_> {
         ensures value { IsParsed (value_of self.now head.now) result.0
             (option_map date_and_time result.1) }
     {
-        match self.place {
-            Place::Front => self.parse_from(head, Some(bracket_length(seen(head)))),
-            Place::After(word) => self.parse_from(head, end_of_word(word, seen(head))),
-            Place::Field(which) => self.parse_field(head, which.find(fields_of(head))),
-        }
+        let start = match self.place {
+            Place::Front => Some(bracket_length(seen(head))),
+            Place::After(word) => end_of_word(word, seen(head)),
+            Place::Field(which) => return self.parse_field(head, which.find(fields_of(head))),
+        };
+        self.parse_from(head, start)
     }
 
     /// What is read of a line, by its head, whose value begins at this byte, if anywhere.
@@ -364,6 +365,7 @@ impl Reader<'_> {
     }
 
     /// The value that begins at a byte of a line, by its head, and the byte up to which it stands.
+    #[inline(always)]
     #[tactic(auto, unfolding(crate::specs::Reading::value_at))]
     fn value_at(&self, head: &[u8], start: usize) -> Result<(DateTime, usize), Bad>
         requires start { start ≤ length (seen head.now) }

@@ -211,6 +211,7 @@ impl Scan<'_> {
     }
 
     /// What a line is, by its head.
+    #[inline(always)]
     pub fn line(&self, head: &[u8]) -> Line
         ensures line { result ≡ line_of self.now head.now }
         ensures within { IsFoundWithin result head.now }
@@ -238,6 +239,7 @@ impl Scan<'_> {
     }
 
     /// What a line is by what is read of it.
+    #[inline(always)]
     pub fn judged(&self, reading: Reading, head: &[u8]) -> Line
         requires within { IsReadWithin reading head.now }
         ensures judged { result ≡ judged self.now reading }
