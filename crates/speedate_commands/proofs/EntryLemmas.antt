@@ -1,23 +1,22 @@
 -- What the machine of `between` prints is entries, kept or dropped whole.
-use Rattle.std.proofs.Common.{◌≡◌, ◌∙◌, ℕ, ℤ, ◌+◌, ◌≤◌, zero, suc, Bool, true, false, List, [], ◌∷◌, ◌++◌, refl, ap, sym, arith, append_assoc, length, drop, min}
+use Rattle.std.proofs.Common.{◌≡◌, ◌∙◌, ℕ, ◌≤◌, zero, suc, Bool, true, false, List, [], ◌∷◌, ◌++◌, refl, ap, sym, arith, append_assoc, length, drop, min}
 use Rattle.std.proofs.lemmas.Bool.Decides.{nat_tests}
-use Rattle.std.specs.Prelude.{◌&&◌, ◌||◌, ◌==◌, not, Option, Some, None, if◌then◌else◌}
+use Rattle.std.specs.Prelude.{◌&&◌, ◌==◌, not, Some, None, if◌then◌else◌}
 use Rattle.speedate.specs.Ascii.{line_feed}
-use Rattle.speedate_stream.specs.Machine.{Machine, head, line_output, lines_output, rest_of}
+use Rattle.speedate_stream.specs.Machine.{head, lines_output, rest_of}
 use Rattle.speedate_stream.specs.Watch.{one_more}
 use Rattle.speedate_commands.specs.Print.{Prefix}
-use Rattle.speedate_commands.specs.Reading.{Bad, Found, Reading, read}
-use Rattle.speedate_commands.specs.Scan.{Line, Offsets, Scan, Stop, UndatedLines, fits, is_stopped}
+use Rattle.speedate_commands.specs.Reading.{Found, Reading, read}
+use Rattle.speedate_commands.specs.Scan.{Line, Offsets, Scan, UndatedLines, fits, is_stopped}
 use Rattle.speedate_commands.specs.Scan.{is_value}
-use Rattle.speedate_commands.specs.Scan.{judged, keeps, line_of, passed, undated_line, unfit}
+use Rattle.speedate_commands.specs.Scan.{judged, keeps, line_of, passed, undated_line}
 use Rattle.speedate_commands.specs.Scan.{unfit_line}
 use Rattle.speedate_commands.specs.Between.{Between, Bounds, between_after, between_machine}
-use Rattle.speedate_commands.specs.Between.{between_rest}
-use Rattle.speedate_commands.specs.Between.{between_text, kept_after, lies_between, prints}
-use Rattle.speedate_commands.specs.Entries.{Entry, Marked, awaits_header, between_lines, entries}
-use Rattle.speedate_commands.specs.Entries.{entries_text, entry_and, entry_text, file_text}
+use Rattle.speedate_commands.specs.Between.{kept_after, lies_between, prints}
+use Rattle.speedate_commands.specs.Entries.{Marked, awaits_header, between_lines, entries}
+use Rattle.speedate_commands.specs.Entries.{entries_text, entry_and, file_text}
 use Rattle.speedate_commands.specs.Entries.{lines_text}
-use Rattle.speedate_commands.specs.Entries.{mark, marked, printed_line, up_to_value}
+use Rattle.speedate_commands.specs.Entries.{marked, printed_line, up_to_value}
 
 -- a marked line is printed, by whether its entry is
 abbrev prints_by : Bounds → Bool → Line → Bool → Bool

@@ -1,13 +1,11 @@
 -- What the machines of `check`, `order` and `convert` print of lines.
-use Rattle.std.proofs.Common.{◌≡◌, ◌∙◌, ℕ, ℤ, Bool, true, false, List, [], ◌∷◌, ◌++◌, refl, ap, sym, append_assoc, take, drop}
+use Rattle.std.proofs.Common.{◌≡◌, ℕ, Bool, true, false, List, [], ◌∷◌, ◌++◌, refl, ap, append_assoc, take}
 use Rattle.std.proofs.lemmas.List.{append-nil}
 use Rattle.std.specs.Prelude.{Option, Some, None, if◌then◌else◌}
-use Rattle.speedate.specs.Ascii.{line_feed}
 use Rattle.speedate_stream.specs.Machine.{head, lines_output, rest_of}
-use Rattle.speedate_stream.specs.Watch.{one_more}
-use Rattle.speedate_commands.specs.Reading.{Bad, Found}
-use Rattle.speedate_commands.specs.Scan.{BadLines, Line, Scan, UndatedLines, keeps, line_of, passed}
-use Rattle.speedate_commands.specs.Check.{Check, check_lines, check_machine, check_text}
+use Rattle.speedate_commands.specs.Reading.{Found}
+use Rattle.speedate_commands.specs.Scan.{Line, keeps, line_of, passed}
+use Rattle.speedate_commands.specs.Check.{Check, check_lines, check_machine}
 use Rattle.speedate_commands.specs.Convert.{Convert, convert_line, convert_lines, convert_machine}
 use Rattle.speedate_commands.specs.Convert.{convert_rest, convert_text, converted, line_prefix}
 use Rattle.speedate_commands.specs.Convert.{text_of}
@@ -17,7 +15,6 @@ use Rattle.speedate_commands.specs.Order.{late_reports}
 use Rattle.speedate_commands.specs.Order.{latest_of, order_after}
 use Rattle.speedate_commands.specs.Order.{order_lines, order_machine, order_text, report_if_late}
 use Rattle.speedate_commands.specs.Order.{value_after}
-use Rattle.speedate_commands.specs.Print.{prefix_text}
 
 -- `check` prints the reports of the lines whose value is bad
 pub check_prints : (check : Check) (lines : List (List ℕ))

@@ -1,24 +1,24 @@
 -- Lines at places of a text, and lines added one by one.
-use Rattle.std.proofs.Common.{rules, ◌≡◌, ◌∙◌, ap, sym, subst, refl, ℕ, ℤ, ◌+◌, ◌-◌, ◌<◌, ◌≤◌, Bool, true, false, List, [], ◌∷◌, ◌++◌, length, take, drop, map, get_or, slice_index, All, arith, append_assoc, append-nil, Option, Some, None, if◌then◌else◌, Result, Ok, Err, is_err, OnOk, OnErr}
+use Rattle.std.proofs.Common.{◌≡◌, ◌∙◌, ap, sym, subst, refl, ℕ, ℤ, ◌+◌, ◌-◌, ◌<◌, ◌≤◌, Bool, true, false, List, [], ◌∷◌, ◌++◌, length, take, drop, get_or, slice_index, All, arith, append_assoc, append-nil, Option, Some, None, if◌then◌else◌, Result, Ok, Err, is_err, OnOk, OnErr}
 use Rattle.std.proofs.lemmas.Bool.{false≢true, true≢false}
 use Rattle.std.proofs.lemmas.Grind.{take_at_read}
 use Rattle.std.specs.List.Sorted.{IsPermutation}
 use Rattle.std.proofs.lemmas.List.Sorted.{All-permutation}
-use Rattle.std.proofs.lemmas.List.{drop-append-le, take-append-le, length-drop, length-append, get_or-drop, map-append, drop_more, take-append-drop, take_rest, drop_all}
+use Rattle.std.proofs.lemmas.List.{drop-append-le, take-append-le, length-drop, length-append, get_or-drop, drop_more, take-append-drop, take_rest, drop_all}
 use Rattle.std.proofs.lemmas.List.Elements.{All-head, All-tail, All-nil, All-cons}
 use Rattle.speedate.specs.Ascii.{line_feed}
 use Rattle.speedate.specs.Lines.{complete_lines, last_line, lines, unfinished_line}
 use Rattle.std.proofs.Math.Bool.{or-false}
 use Rattle.speedate_stream.specs.Machine.{head}
-use Rattle.speedate_stream.specs.Run.{AppendsBut, OnlyWrites, Writes}
+use Rattle.speedate_stream.specs.Run.{AppendsBut, OnlyWrites}
 use Rattle.speedate_stream.specs.Watch.{Watch}
 use Rattle.speedate_stream.proofs.SentLemmas.{OnlyWrites-then}
-use Rattle.speedate_commands.specs.Print.{Prefix, prefix_text}
-use Rattle.speedate_commands.specs.Scan.{Line, Scan, keeps, line_of, passed}
-use Rattle.speedate_commands.specs.Entries.{Marked, mark, marked, printed_line}
+use Rattle.speedate_commands.specs.Print.{prefix_text}
+use Rattle.speedate_commands.specs.Scan.{Line, Scan, keeps, line_of}
+use Rattle.speedate_commands.specs.Entries.{printed_line}
 use Rattle.speedate_commands.specs.Sort.{IsPlaced, Keyed, Keys, Place, file_lines, if_kept}
 use Rattle.speedate_commands.specs.Sort.{instant_after}
-use Rattle.speedate_commands.specs.Sort.{key_after, key_of, keyed, keys_after, line_at, lines_at}
+use Rattle.speedate_commands.specs.Sort.{key_after, key_of, keys_after, line_at, lines_at}
 use Rattle.speedate_commands.specs.Sort.{in_order, is_earlier, is_earlier_line, no_prefix, part}
 use Rattle.speedate_commands.specs.Sort.{texts}
 use Rattle.speedate_commands.proofs.OrderLemmas.{map-in_order}

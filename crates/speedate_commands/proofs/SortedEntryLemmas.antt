@@ -1,16 +1,14 @@
 -- Lines in the order of the values of their entries are entries in the order of their values.
 use Rattle.std.proofs.Common.{◌≡◌, ◌∙◌, ap, sym, refl, ℤ, ℕ, Bool, true, false, List, [], ◌∷◌, ◌++◌, append_assoc, append-nil, if◌then◌else◌}
-use Rattle.speedate_commands.specs.Print.{Prefix}
 use Rattle.speedate_stream.specs.Machine.{head}
-use Rattle.speedate_commands.specs.Reading.{Bad, Found}
 use Rattle.speedate_commands.specs.Scan.{Line, Scan, is_value, keeps, line_of, passed}
-use Rattle.speedate_commands.specs.Entries.{Entry, Marked, entries, entry_and, lines_text, mark}
+use Rattle.speedate_commands.specs.Entries.{Entry, Marked, entries, entry_and, lines_text}
 use Rattle.speedate_commands.specs.Entries.{marked}
 use Rattle.speedate_commands.specs.Entries.{up_to_value}
-use Rattle.speedate_commands.specs.Sort.{AreKept, IsKept, Keyed, Keys, all_text, file_lines}
+use Rattle.speedate_commands.specs.Sort.{AreKept, IsKept, Keyed, all_text}
 use Rattle.speedate_commands.specs.Sort.{if_kept}
-use Rattle.speedate_commands.specs.Sort.{in_order, instant_after, is_earlier_entry, is_earlier_line}
-use Rattle.speedate_commands.specs.Sort.{keyed, keys_after, no_prefix, sorted_entries, sorted_text}
+use Rattle.speedate_commands.specs.Sort.{in_order, instant_after, is_earlier_entry}
+use Rattle.speedate_commands.specs.Sort.{keyed, no_prefix, sorted_entries, sorted_text}
 use Rattle.speedate_commands.specs.Sort.{texts}
 use Rattle.speedate_commands.proofs.OrderLemmas.{AreSome, HaveKey, IsSome, blocks, blocks-first}
 

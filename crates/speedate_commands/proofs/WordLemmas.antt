@@ -1,5 +1,5 @@
 -- The first place at which a word stands in a text.
-use Rattle.std.proofs.Common.{◌≡◌, ◌∙◌, ℕ, ◌+◌, ◌-◌, ◌<◌, ◌≤◌, Bool, List, [], ◌∷◌, length, take, drop, true, false, Option, Some, None, refl, ap, sym, add-one, arith, suc, get_or, drop-cons}
+use Rattle.std.proofs.Common.{◌≡◌, ◌∙◌, ℕ, ◌+◌, ◌-◌, ◌<◌, ◌≤◌, List, [], ◌∷◌, length, take, drop, true, false, Option, Some, None, refl, ap, sym, add-one, arith, get_or, drop-cons}
 use Rattle.std.proofs.lemmas.List.{drop_all, take_rest}
 use Rattle.speedate_commands.specs.Reading.{begins_with, end_of_word, moved_place}
 

@@ -1,8 +1,8 @@
 -- What duration a line has.
-use Rattle.std.specs.Prelude.{ℕ, ◌+◌, ◌==◌, ◌||◌, Bool, List, length, take, slice_index, nat_lt, Option, Some, None, Result, Ok, Err, if◌then◌else◌}
+use Rattle.std.specs.Prelude.{ℕ, ◌+◌, ◌==◌, ◌||◌, Bool, List, length, take, slice_index, Option, Some, None, Result, Ok, Err, if◌then◌else◌}
 use Rattle.std.specs.List.{position}
 use Rattle.speedate.specs.Ascii.{capital_m, capital_p, capital_t, capital_y}
-use Rattle.speedate.specs.Base.{Behavior, IsoOrder, ParseError}
+use Rattle.speedate.specs.Base.{Behavior, IsoOrder}
 use Rattle.speedate.specs.Duration.{duration_answer, duration_answer_or}
 use Rattle.speedate.specs.DurationNumbers.{DurationNumbers}
 use Rattle.speedate.specs.Refused.{placed, refused_place}

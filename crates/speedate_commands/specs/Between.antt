@@ -1,10 +1,9 @@
 -- The command `between`: the entries whose value lies between two bounds.
-use Rattle.std.specs.Prelude.{ℕ, ℤ, ◌&&◌, ◌||◌, not, Bool, true, false, List, [], Option, Some, None, is_some, int_le, int_lt, if◌then◌else◌}
+use Rattle.std.specs.Prelude.{ℕ, ℤ, ◌&&◌, ◌||◌, Bool, true, false, List, [], Option, Some, None, int_le, int_lt, if◌then◌else◌}
 use Rattle.speedate_stream.specs.Machine.{Machine}
 use Rattle.speedate_stream.specs.Watch.{one_more}
 use Rattle.speedate_commands.specs.Print.{prefix_text}
-use Rattle.speedate_commands.specs.Reading.{Bad, Found}
-use Rattle.speedate_commands.specs.Scan.{Line, Scan, is_stopped, is_value, keeps, line_of, passed}
+use Rattle.speedate_commands.specs.Scan.{Line, is_stopped, is_value, keeps, line_of, passed}
 pub use Rattle.speedate_commands.specs.declared.between.Bounds.{Bounds}
 pub use Rattle.speedate_commands.specs.declared.between.Between.{Between}
 

@@ -1,5 +1,5 @@
 -- The command `convert`: each line with its value written anew.
-use Rattle.std.specs.Prelude.{ℕ, ℤ, ◌∷◌, ◌++◌, Bool, List, [], take, Option, Some, None, is_some, Result, Ok, Err, if◌then◌else◌}
+use Rattle.std.specs.Prelude.{ℕ, ◌∷◌, ◌++◌, List, [], take, Option, Some, None, is_some, Result, Ok, Err, if◌then◌else◌}
 use Rattle.std.specs.Result.{result_ok}
 use Rattle.speedate.specs.Base.{ParseError}
 use Rattle.speedate.specs.Date.{date_text}

@@ -1,10 +1,9 @@
 -- Entries, and what `between` prints of them.
-use Rattle.std.specs.Prelude.{◌≡◌, ℕ, ℤ, ◌==◌, ◌&&◌, not, Bool, true, false, List, [], ◌∷◌, ◌++◌, if◌then◌else◌}
+use Rattle.std.specs.Prelude.{ℕ, ℤ, ◌==◌, ◌&&◌, not, Bool, List, [], ◌∷◌, ◌++◌, if◌then◌else◌}
 use Rattle.speedate.specs.Ascii.{line_feed}
-use Rattle.speedate_stream.specs.Machine.{Machine, head}
+use Rattle.speedate_stream.specs.Machine.{head}
 use Rattle.speedate_stream.specs.Watch.{one_more}
 use Rattle.speedate_commands.specs.Print.{Prefix, prefix_text}
-use Rattle.speedate_commands.specs.Reading.{Bad, Found}
 use Rattle.speedate_commands.specs.Scan.{Line, Scan, is_stopped, is_value, keeps, line_of, passed}
 use Rattle.speedate_commands.specs.Between.{Between, Bounds, lies_between}
 

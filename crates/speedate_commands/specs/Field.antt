@@ -1,8 +1,6 @@
 -- Where the fields of a line are.
 use Rattle.std.specs.Prelude.{ℕ, ◌+◌, ◌-◌, ◌≤◌, ◌==◌, zero, suc, List, [], ◌∷◌, length, drop, slice_index, nat_lt, Option, Some, None, if◌then◌else◌}
 use Rattle.std.specs.List.{position_or_len}
-use Rattle.speedate.specs.Lines.{without_return}
-use Rattle.speedate_stream.specs.Machine.{longest_line}
 pub use Rattle.speedate_commands.specs.declared.field.NthField.{NthField}
 pub use Rattle.speedate_commands.specs.declared.field.Field.{Field}
 

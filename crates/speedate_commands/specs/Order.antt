@@ -1,5 +1,5 @@
 -- The command `order`: each value that is earlier than the one before.
-use Rattle.std.specs.Prelude.{ℕ, ℤ, ◌-ℤ◌, Bool, true, false, List, [], ◌∷◌, ◌++◌, Option, Some, None, int_lt, codes, if◌then◌else◌}
+use Rattle.std.specs.Prelude.{ℕ, ℤ, ◌-ℤ◌, Bool, false, List, [], ◌∷◌, ◌++◌, Option, Some, None, int_lt, codes, if◌then◌else◌}
 use Rattle.std.specs.Result.{result_unwrap_or}
 use Rattle.speedate.specs.Ascii.{line_feed}
 use Rattle.speedate.specs.Duration.{amount_answer, duration_text}
@@ -7,7 +7,7 @@ use Rattle.speedate.specs.Requirement.{result_map}
 use Rattle.speedate_stream.specs.Machine.{Machine, head}
 use Rattle.speedate_stream.specs.Watch.{one_more}
 use Rattle.speedate_commands.specs.Print.{line_place}
-use Rattle.speedate_commands.specs.Reading.{Bad, Found}
+use Rattle.speedate_commands.specs.Reading.{Found}
 use Rattle.speedate_commands.specs.Scan.{Line, Scan, is_stopped, line_of, passed}
 pub use Rattle.speedate_commands.specs.declared.order.Latest.{Latest}
 pub use Rattle.speedate_commands.specs.declared.order.Order.{Order}

@@ -1,5 +1,5 @@
 -- What is printed of names, numbers and bad values.
-use Rattle.std.specs.Prelude.{ℕ, ◌+◌, List, [], ◌∷◌, ◌++◌, take, Bool, codes, decimal, if◌then◌else◌}
+use Rattle.std.specs.Prelude.{ℕ, List, [], ◌∷◌, ◌++◌, take, Bool, codes, decimal, if◌then◌else◌}
 use Rattle.speedate.specs.Ascii.{colon, line_feed}
 use Rattle.speedate.specs.Base.{CallKind}
 use Rattle.speedate.specs.Expected.{expected_text}

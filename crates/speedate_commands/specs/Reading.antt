@@ -1,5 +1,5 @@
 -- What is read of a line: where its value begins, and what value stands there.
-use Rattle.std.specs.Prelude.{◌≡◌, ◌≤◌, ℕ, ◌+◌, ◌-◌, ◌==◌, ◌&&◌, ◌||◌, not, Bool, true, false, List, [], ◌∷◌, length, take, drop, slice_index, nat_eq, nat_lt, nat_le, min, Option, Some, None, is_some, IsSomeAnd, Result, Ok, Err, ℤ, if◌then◌else◌}
+use Rattle.std.specs.Prelude.{◌≡◌, ◌≤◌, ℕ, ◌+◌, ◌-◌, ◌==◌, ◌&&◌, not, Bool, List, [], ◌∷◌, length, take, drop, slice_index, nat_eq, nat_lt, Option, Some, None, is_some, IsSomeAnd, Result, Ok, Err, ℤ, if◌then◌else◌}
 use Rattle.std.specs.Option.{unwrap_or}
 use Rattle.std.specs.Result.{result_unwrap_or}
 use Rattle.std.specs.Char.{is_ascii_digit}
@@ -11,7 +11,7 @@ use Rattle.speedate.specs.Refused.{placed, refused_place}
 use Rattle.speedate_base.specs.declared.refusal.Refused.{Refused}
 use Rattle.speedate.specs.Calendar.{Ymd}
 use Rattle.speedate.specs.Date.{date_answer, date_answer_or, date_front, date_front_or}
-use Rattle.speedate.specs.DateTime.{DateAndTime, date_and_time, date_time_answer}
+use Rattle.speedate.specs.DateTime.{DateAndTime, date_time_answer}
 use Rattle.speedate.specs.DateTime.{date_time_answer_or, date_time_front}
 use Rattle.speedate.specs.DateTime.{date_time_front_or, date_time_with_offset, utc_microsecond}
 use Rattle.speedate.specs.Lines.{without_return}

@@ -1,9 +1,9 @@
 -- What each line is to a command, and what is counted of the lines.
-use Rattle.std.specs.Prelude.{◌≡◌, ℕ, ◌+◌, ◌==◌, ◌&&◌, Bool, true, false, not, List, slice_set, nat_lt, Option, is_some, Result, if◌then◌else◌}
+use Rattle.std.specs.Prelude.{ℕ, ◌==◌, ◌&&◌, Bool, true, false, not, List, slice_set, nat_lt, Option, is_some, Result, if◌then◌else◌}
 use Rattle.speedate.specs.Base.{ParseError}
 use Rattle.speedate.specs.DateTime.{DateAndTime}
 use Rattle.speedate_stream.specs.Watch.{one_more}
-use Rattle.speedate_commands.specs.Reading.{Bad, Found, IsParsed, IsWithin, Reader, Reading, Why}
+use Rattle.speedate_commands.specs.Reading.{Bad, Found, IsParsed, IsWithin, Reading, Why}
 use Rattle.speedate_commands.specs.Reading.{read}
 pub use Rattle.speedate_commands.specs.declared.scan.UndatedLines.{UndatedLines}
 pub use Rattle.speedate_commands.specs.declared.scan.BadLines.{BadLines}

@@ -3,9 +3,8 @@ use Rattle.std.specs.Prelude.{◌≡◌, ℕ, ℤ, ◌-◌, ◌≤◌, Bool, tru
 use Rattle.std.specs.Io.KnownBytes.{Consumes}
 use Rattle.speedate_stream.specs.Machine.{head}
 use Rattle.speedate_commands.specs.Print.{Prefix}
-use Rattle.speedate_commands.specs.Reading.{Bad, Found}
-use Rattle.speedate_commands.specs.Scan.{Line, Scan, keeps, line_of, passed}
-use Rattle.speedate_commands.specs.Entries.{Entry, Marked, entries, lines_text, mark, marked}
+use Rattle.speedate_commands.specs.Scan.{Line, keeps, line_of, passed}
+use Rattle.speedate_commands.specs.Entries.{Entry, Marked, entries, lines_text, marked}
 use Rattle.speedate_commands.specs.Entries.{up_to_value}
 pub use Rattle.speedate_commands.specs.declared.sort.Keys.{Keys}
 pub use Rattle.speedate_commands.specs.declared.sort.Place.{Place}

@@ -1,4 +1,4 @@
-use Rattle.std.proofs.Common.{◌≡◌, ◌≤◌, length, take, arith, sym}
+use Rattle.std.proofs.Common.{arith, sym}
 use Rattle.speedate_commands.proofs.SeenLemmas.{length_before, seen_short}
 use Rattle.speedate_commands.proofs.convert.before_value.Goals as goal
 

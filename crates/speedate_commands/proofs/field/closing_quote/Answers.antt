@@ -1,5 +1,4 @@
-use Rattle.std.proofs.Common.{arith, rules, ◌≡◌, ◌≢◌, ◌+◌, ◌<◌, drop, get_or, length}
-use Rattle.speedate_commands.specs.Field.{before_quote}
+use Rattle.std.proofs.Common.{arith, rules, ◌+◌, ◌<◌, length}
 use Rattle.speedate_commands.proofs.FieldLemmas.{quote_doubled, quote_here, quote_later}
 use Rattle.speedate_commands.proofs.FieldLemmas.{quote_nowhere}
 use Rattle.speedate_commands.proofs.field.closing_quote.Goals as goal

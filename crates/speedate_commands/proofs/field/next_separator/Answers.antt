@@ -1,4 +1,4 @@
-use Rattle.std.proofs.Common.{arith, rules}
+use Rattle.std.proofs.Common.{rules}
 use Rattle.speedate_commands.proofs.FieldLemmas.{no_separator_after}
 use Rattle.speedate_commands.proofs.field.next_separator.Goals as goal
 

@@ -1,5 +1,4 @@
-use Rattle.std.proofs.Common.{◌≡◌, ◌∙◌, true, false, drop, arith, sym, rules}
-use Rattle.speedate_commands.specs.Reading.{begins_with}
+use Rattle.std.proofs.Common.{arith, rules}
 use Rattle.speedate_commands.proofs.WordLemmas.{search_begins, search_ends, search_fails}
 use Rattle.speedate_commands.proofs.WordLemmas.{search_goes_on}
 use Rattle.speedate_commands.proofs.reading.end_of_word.Goals as goal

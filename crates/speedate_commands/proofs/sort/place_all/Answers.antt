@@ -1,6 +1,6 @@
-use Rattle.std.proofs.Common.{rules, ◌≡◌, ◌∙◌, ◌+◌, ◌++◌, ◌∷◌, [], ap, sym, List, ℕ, drop, length, append_assoc}
+use Rattle.std.proofs.Common.{rules, ◌≡◌, ◌∙◌, ◌++◌, ◌∷◌, [], ap, sym, List, ℕ, drop, length, append_assoc}
 use Rattle.speedate.specs.Ascii.{line_feed}
-use Rattle.speedate.specs.Lines.{complete_lines, lines}
+use Rattle.speedate.specs.Lines.{complete_lines}
 use Rattle.speedate_commands.specs.Sort.{Keyed, Keys, Place, file_lines, key_after, keys_after}
 use Rattle.speedate_commands.specs.Sort.{lines_at}
 use Rattle.speedate_commands.specs.Sort.{part}

@@ -1,7 +1,7 @@
 use Rattle.std.proofs.Common.{◌∙◌, ◌+◌, ◌++◌, ◌∷◌, [], ap, sym, List, ℕ, drop, append_assoc, append-nil, arith}
 use Rattle.speedate.specs.Lines.{Pieces, complete_lines}
 use Rattle.speedate.proofs.LineLemmas.{pieces-from, pieces-rest}
-use Rattle.speedate_commands.specs.Sort.{Keyed, Keys, Place, file_lines, key_after, keys_after}
+use Rattle.speedate_commands.specs.Sort.{Keyed, Keys, file_lines, key_after, keys_after}
 use Rattle.speedate_commands.specs.Sort.{lines_at, part}
 use Rattle.speedate_commands.proofs.SortLemmas.{file_lines-cons}
 use Rattle.speedate_commands.proofs.sort.place_complete.Goals as goal

@@ -1,6 +1,5 @@
-use Rattle.std.proofs.Common.{rules, ◌≡◌, ◌∙◌, ◌+◌, ◌-◌, ◌++◌, ◌∷◌, [], ap, sym, List, ℕ, map, take, drop, append-nil}
+use Rattle.std.proofs.Common.{rules, ◌≡◌, ◌∙◌, ◌+◌, ◌++◌, ◌∷◌, [], ap, sym, List, ℕ}
 use Rattle.std.proofs.lemmas.List.{map-append}
-use Rattle.speedate.specs.Ascii.{line_feed}
 use Rattle.speedate_commands.specs.Sort.{Keyed, Place, line_at, lines_at, part}
 use Rattle.speedate_commands.proofs.SortLemmas.{one-line, part-ended}
 use Rattle.speedate_commands.proofs.sort.place_line.Goals as goal

@@ -1,4 +1,4 @@
-use Rattle.std.proofs.Common.{rules, ◌≡◌, ◌∙◌, ◌++◌, ◌+◌, ap, sym, ℕ, List, drop, append-nil}
+use Rattle.std.proofs.Common.{rules, ◌+◌, ℕ, List, drop}
 use Rattle.std.proofs.Math.Bool.{or-false}
 use Rattle.speedate_commands.specs.Sort.{Place, lines_at, texts}
 use Rattle.speedate_commands.proofs.SortLemmas.{OnlyWrites-after, texts-end, texts-step}

@@ -1,6 +1,6 @@
 use Rattle.std.proofs.Common.{rules, ◌≡◌, ◌∙◌, ◌++◌, ap, sym, ℕ, List, drop, length}
 use Rattle.speedate.specs.Lines.{complete_lines, lines}
-use Rattle.speedate_commands.specs.Sort.{Keyed, Keys, Place, file_lines}
+use Rattle.speedate_commands.specs.Sort.{Keyed, Place, file_lines}
 use Rattle.speedate_commands.proofs.SortLemmas.{lines_at-read, ok_part}
 use Rattle.speedate_commands.proofs.sort.Lines.add.Goals as goal
 

@@ -1,9 +1,8 @@
-use Rattle.std.proofs.Common.{◌≡◌, ◌∙◌, ap, sym, subst, ℕ, List}
+use Rattle.std.proofs.Common.{◌∙◌, ap, sym, subst, ℕ, List}
 use Rattle.std.specs.Io.KnownBytes.{Appends}
 use Rattle.speedate_stream.specs.Run.{AppendsBeginning}
 use Rattle.speedate_stream.proofs.SentLemmas.{Appends-all}
-use Rattle.speedate_commands.specs.Entries.{Marked}
-use Rattle.speedate_commands.specs.Sort.{Place, lines_at, sorted_entries, sorted_text, texts}
+use Rattle.speedate_commands.specs.Sort.{Place, lines_at, sorted_text, texts}
 use Rattle.speedate_commands.proofs.SortLemmas.{err_part, lines-in_order, ok_part}
 use Rattle.speedate_commands.proofs.SortLemmas.{placed-permutation}
 use Rattle.speedate_commands.proofs.SortedEntryLemmas.{entries_whole}
