@@ -42,7 +42,7 @@ pub fn run_merge<'a>(rt: &HostRuntime, keys: &Keys<'a>, files: &[&'a str]) -> u8
     let mut status = 0;
     for name in if files.is_empty() { &["-"] } else { files } {
         let Ok(opened) = open_source(rt, *keys, name) else {
-            return tell_memory(rt);
+            return end_without_memory(rt, &sources);
         };
         let Some(mut source) = opened else {
             status = READ;
@@ -54,7 +54,7 @@ pub fn run_merge<'a>(rt: &HostRuntime, keys: &Keys<'a>, files: &[&'a str]) -> u8
             source.line.clear();
         }
         if sources.push(source).is_err() {
-            return tell_memory(rt);
+            return end_without_memory(rt, &sources);
         }
         match begun {
             Ok(()) => {}
@@ -203,6 +203,12 @@ fn push_unlike(scan: &Scan<'_>, pending: &mut Pending)
     };
     push_bytes(advice.as_bytes(), pending);
     push_bytes(b"\n", pending);
+}
+
+/// Tells what is bad in the sources that were opened, and that there is no memory for a further one.
+fn end_without_memory(rt: &HostRuntime, sources: &[FileSource<'_>]) -> u8 {
+    tell_bad(rt, sources);
+    tell_memory(rt).max(tell_end(rt, sources, None))
 }
 
 /// Tells that memory ran out, and returns the exit status.

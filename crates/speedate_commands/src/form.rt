@@ -75,7 +75,7 @@ pub fn relaxed(behavior: MicrosecondsPrecisionOverflowBehavior) -> TimeConfig
 }
 
 /// The date-time at the front of a text, and how many bytes it takes. A text that is refused is parsed once
-/// more for the place of its error, so that the others do not pay for it.
+/// more for the place of its error, so that accepted texts do not pay for it.
 #[inline(always)]
 #[tactic(auto, unfolding(crate::specs::Reading::relaxed_front))]
 fn relaxed_front(
@@ -92,7 +92,7 @@ fn relaxed_front(
     }
 }
 
-/// The same, parsed with the place of an error.
+/// The same, by the parser that also finds the place of an error.
 #[cold]
 #[inline(never)]
 #[tactic(auto, using(crate::proofs::ReadingLemmas::placed_answer), unfolding(crate::specs::Reading::relaxed_front))]

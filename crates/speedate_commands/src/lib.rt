@@ -1,6 +1,7 @@
 //! What the commands of the program `speedate` print for the lines of their inputs: [`between`],
-//! [`in_order`], [`check`], [`convert`], [`merge`], [`order`], [`sort`], [`sum`] and [`summary`].
-//! [`reading`] says what the value of a line is, and [`scan`] what a line is to a command.
+//! [`check`], [`convert`], [`merge`], [`order`], [`sort`], [`sum`] and [`summary`]. [`in_order`] does what
+//! `between --in-order` does. [`reading`] says what the value of a line is, by [`form`], [`amount`] what its
+//! duration is, and [`scan`] what a line is to a command.
 #![tactic(auto)]
 
 pub mod amount;

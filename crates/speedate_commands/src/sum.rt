@@ -99,7 +99,8 @@ fn push_days(days: u32, pending: &mut Pending)
     }
 }
 
-/// Appends what follows the days of a duration: `T1H`.
+/// Appends what follows the days of a duration: `T1H`. A duration of nothing has `T0S`, so that `P` does
+/// not stand alone.
 fn push_clock(duration: &Duration, pending: &mut Pending)
     requires room { array_vec_len pending.old + 31 ≤ PENDING_MAX }
     ensures pushed { pending.new.items
