@@ -16,8 +16,8 @@ crate_of() {
     esac
 }
 
-# engine_of PROGRAM: prints what a program stands on besides, lowest first.
-engine_of() {
+# own_libraries PROGRAM: prints what a program stands on besides, lowest first.
+own_libraries() {
     case $1 in
     speedate) echo speedate_stream speedate_commands ;;
     *) echo speedate_stream ;;
