@@ -80,7 +80,7 @@ trace\n\
     ("sum", "", "PT0S\n"),
     ("sum", "-PT0S\nx\n", "PT0S\n"),
     ("sum", "400 days\n", "P400D\n"),
-    ("sum", "-364 days\n-2 days, 1:00\n", "-P365DT23H\n"),
+    ("sum", "-364 days\n-PT25H\n", "-P365DT1H\n"),
     ("sum", "999999999 days\n24:00\n", ""),
     (
         "sum",
