@@ -6,6 +6,7 @@
 
 # What the programs and the C functions stand on, lowest first.
 libraries='speedate_base speedate_civil speedate'
+# The programs.
 programs='speedate_lines speedate'
 
 # crate_of PROGRAM: prints the crate of a program.
