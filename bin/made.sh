@@ -20,7 +20,7 @@ crate_of() {
 # own_libraries PROGRAM: prints what a program stands on besides, lowest first.
 own_libraries() {
     case $1 in
-    speedate) echo speedate_stream speedate_commands ;;
+    speedate) echo speedate_stream speedate_scan speedate_commands speedate_sort speedate_options ;;
     *) echo speedate_stream ;;
     esac
 }

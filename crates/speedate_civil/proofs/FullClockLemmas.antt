@@ -1,6 +1,6 @@
 -- A text whose bytes lie between those of two texts begins with a date, and a clock with a second.
 use Rattle.std.proofs.Common.{◌≡◌, ◌∙◌, ap, sym, refl, ℕ, zero, suc, ◌+◌, ◌-◌, ◌*◌, ◌<◌, ◌≤◌, ◌==◌, Bool, true, ◌&&◌, nat_le, List, [], ◌∷◌, length, get_or, take, drop, codes, slice_index, arith, lit<, lit≤, get_or-drop, get_or-take, length-drop, length-take-le, leb-true}
-use Rattle.std.proofs.Common.{ℤ, pos, ◌+ℤ◌, ◌-ℤ◌, ◌*ℤ◌, Some, Ok}
+use Rattle.std.proofs.Common.{ℤ, pos, ◌+ℤ◌, ◌-ℤ◌, ◌*ℤ◌, Option, Some, None, Ok, if◌then◌else◌}
 use Rattle.std.proofs.lemmas.Bool.{and_parts}
 use Rattle.std.proofs.lemmas.Bool.Decides.{nat_tests}
 use Rattle.std.specs.Char.{is_ascii_digit}
@@ -10,11 +10,10 @@ use Rattle.speedate_base.proofs.PatternLemmas.{by_eight}
 use Rattle.speedate_base.specs.Ascii.{HasNoControl, colon, hyphen}
 use Rattle.speedate_civil.specs.Base.{Behavior}
 use Rattle.speedate_civil.specs.Calendar.{Ymd}
-use Rattle.speedate_civil.specs.Date.{date_front}
-use Rattle.speedate_civil.specs.DateTime.{DateAndTime, IsUtcFront, is_separator, local_second}
+use Rattle.speedate_civil.specs.DateTime.{DateAndTime, IsUtcFront, date_time_front, local_second}
 use Rattle.speedate_civil.specs.DateTime.{utc_microsecond}
-use Rattle.speedate_civil.specs.ParserParts.{HasFullClock, IsOffsetOrUtc, hour_and_minute_form}
-use Rattle.speedate_civil.specs.Time.{Clock, clock_front, clock_with_offset}
+use Rattle.speedate_civil.specs.ParserParts.{HasFullClock, IsFullFront, hour_and_minute_form}
+use Rattle.speedate_civil.specs.Time.{Clock, clock_with_offset}
 use Rattle.speedate_civil.proofs.FrontLemmas.{date_time_front-alone, date_time_front-is}
 use Rattle.speedate_civil.proofs.FrontLemmas.{time_front-is}
 use Rattle.speedate_civil.proofs.NoControlLemmas.{date_time_front-no_control}
@@ -186,24 +185,59 @@ pub looks-offset : (bytes : List ℕ) → length bytes ≡ 8 → LooksLikeOffset
 looks-offset = by_eight LooksLikeOffset looks-eight
 
 -- a date, a separator, a clock and an offset, or none, are a date-time at the front of a text
+front-is : (assumes_utc : Bool) (text : List ℕ) (date : Ymd) (clock : Clock) (offset : ℤ × ℕ)
+    → (is : IsFullFront assumes_utc text date clock offset) → (behavior : Behavior)
+    → date_time_front behavior text
+    ≡ Ok (
+      record { date = date; time = clock_with_offset clock is.found.offset },
+      11 + (clock.size + offset.1),
+    )
+front-is assumes_utc text date clock offset is behavior =
+    let read = is.found.offset in
+    let time = clock_with_offset clock read in
+    date_time_front-is behavior text (date, 10) (time, clock.size + offset.1) is.dated
+    (is.parted, tt)
+    (time_front-is behavior (drop 11 text) clock (read, offset.1) (is.timed behavior)
+    is.found.read)
+
+-- its bytes are bytes of the text
+front-size : (assumes_utc : Bool) (text : List ℕ) (date : Ymd) (clock : Clock)
+    (offset : ℤ × ℕ) → IsFullFront assumes_utc text date clock offset
+    → 11 + (clock.size + offset.1) ≤ length text
+front-size assumes_utc text date clock offset is = omega (arith, is.long, is.short, is.few)
+
+-- its offset is absent if it takes no bytes
+pub full-front : (text : List ℕ) (date : Ymd) (clock : Clock) (offset : ℤ × ℕ)
+    → IsFullFront true text date clock offset → (behavior : Behavior)
+    → date_time_front behavior text
+    ≡ Ok (
+      record {
+        date = date;
+        time = clock_with_offset clock (if offset.1 == 0 then None else Some offset.0);
+      },
+      11 + (clock.size + offset.1),
+    )
+full-front text date clock offset is behavior =
+    front-is true text date clock offset is behavior
+    ∙ ap (λ (read : Option ℤ). Ok (
+      record { date = date; time = clock_with_offset clock read },
+      11 + (clock.size + offset.1),
+    ))
+    is.found.told
+
+-- its microsecond in UTC is that of the date, the clock and the offset
 pub utc-front : (assumes_utc : Bool) (text : List ℕ) (date : Ymd) (clock : Clock) (offset : ℤ × ℕ)
-    (number : ℤ)
-    → 35 ≤ length text → date_front text ≡ Ok (date, 10)
-    → is_separator (slice_index text 10) ≡ true
-    → ((behavior : Behavior) → clock_front behavior (drop 11 text) ≡ Ok clock) → clock.size ≤ 15
-    → IsOffsetOrUtc assumes_utc (drop clock.size (drop 11 text)) offset → offset.1 ≤ 6
+    (number : ℤ) → IsFullFront assumes_utc text date clock offset
     → number ≡ utc_microsecond
     (record { date = date; time = clock_with_offset clock (Some offset.0) })
     → IsUtcFront assumes_utc text (number, 11 + (clock.size + offset.1))
-utc-front assumes_utc text date clock offset number long dated parted timed short found few is =
-    let rest : List ℕ = drop 11 text in
+utc-front assumes_utc text date clock offset number full is =
     let size : ℕ = 11 + (clock.size + offset.1) in
+    let found = full.found in
     let time = clock_with_offset clock found.offset in
     let value : DateAndTime = record { date = date; time = time } in
-    let within : size ≤ length text = omega (arith, long, short, few) in
-    let front = λ (behavior : Behavior).
-    date_time_front-is behavior text (date, 10) (time, clock.size + offset.1) dated (parted, tt)
-    (time_front-is behavior rest clock (found.offset, offset.1) (timed behavior) found.read) in
+    let within : size ≤ length text = front-size assumes_utc text date clock offset full in
+    let front = front-is assumes_utc text date clock offset full in
     let no_control = date_time_front-no_control Behavior.Error text in
     record {
       value = value;

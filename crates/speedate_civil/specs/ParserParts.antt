@@ -1,13 +1,16 @@
 -- What parsers decide by on their way to an answer.
-use Rattle.std.specs.Prelude.{◌≡◌, ℕ, ◌≤◌, List, [], ◌∷◌, Bool, true, false, ◌||◌, codes, drop, length, Option, is_some, Ok, ℤ, pos, if◌then◌else◌}
+use Rattle.std.specs.Prelude.{◌≡◌, ℕ, ◌≤◌, List, [], ◌∷◌, Bool, true, false, ◌||◌, ◌==◌, codes, drop, length, slice_index, Option, Some, None, is_some, Ok, ℤ, pos, if◌then◌else◌}
 use Rattle.std.specs.Option.{unwrap_or}
-use Rattle.speedate_civil.specs.Base.{ParseError}
+use Rattle.speedate_civil.specs.Base.{Behavior, ParseError}
 use Rattle.speedate_base.specs.Ascii.{colon, digit_zero}
 use Rattle.speedate_base.specs.Digits.{eight_at, fit_length, two_digits_at, two_digit_value}
 use Rattle.speedate_base.specs.Offset.{IsOffset}
 use Rattle.speedate_civil.specs.declared.time.pure.AfterMinute.{AfterMinute}
 use Rattle.speedate_civil.specs.declared.time.pure.SecondField.{SecondField}
-use Rattle.speedate_civil.specs.Time.{Clock, has_second, offset_front}
+use Rattle.speedate_civil.specs.Calendar.{Ymd}
+use Rattle.speedate_civil.specs.Date.{date_front}
+use Rattle.speedate_civil.specs.DateTime.{is_separator}
+use Rattle.speedate_civil.specs.Time.{Clock, clock_front, has_second, offset_front}
 
 -- the second of a clock that is given from its minute on
 abbrev pub second_of : List ℕ → SecondField
@@ -42,14 +45,26 @@ abbrev pub hour_and_minute_form : List ℕ
 hour_and_minute_form =
     digit_zero ∷ digit_zero ∷ colon ∷ digit_zero ∷ digit_zero ∷ 0 ∷ 0 ∷ 0 ∷ []
 
--- an offset of these seconds begins a text, in so many bytes, or none does, where that stands for
--- UTC
+-- an offset of these seconds begins a text, in so many bytes, or none does, in no byte, where that
+-- stands for UTC
 pub record IsOffsetOrUtc (assumes_utc : Bool) (rest : List ℕ) (front : ℤ × ℕ) : Type 0 where
   pub offset : Option ℤ
   pub read : offset_front rest ≡ Ok (offset, front.1)
   pub second : unwrap_or offset (pos 0) ≡ front.0
   pub there : (assumes_utc || is_some offset) ≡ true
+  pub told : offset ≡ (if front.1 == 0 then None else Some front.0)
   pub range : IsOffset front.0
+
+-- a date, a separator, a clock and such an offset begin a text of 35 bytes or more
+pub record IsFullFront (assumes_utc : Bool) (text : List ℕ) (date : Ymd) (clock : Clock)
+    (offset : ℤ × ℕ) : Type 0 where
+  pub long : 35 ≤ length text
+  pub dated : date_front text ≡ Ok (date, 10)
+  pub parted : is_separator (slice_index text 10) ≡ true
+  pub timed : (behavior : Behavior) → clock_front behavior (drop 11 text) ≡ Ok clock
+  pub short : clock.size ≤ 15
+  pub found : IsOffsetOrUtc assumes_utc (drop clock.size (drop 11 text)) offset
+  pub few : offset.1 ≤ 6
 
 -- a date's table may refuse a number by this fault: it is short, or has a sign, a digit or a
 -- decimal mark where none may stand

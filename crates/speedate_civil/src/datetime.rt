@@ -11,7 +11,7 @@ mod timezone;
 
 use crate::date::Date;
 use crate::time::Time;
-pub use full_clock::utc_front;
+pub use full_clock::{full_front, utc_front};
 pub use now::Moment;
 pub use parse::require_standard_date_time;
 pub use timestamp::timestamp_instant;

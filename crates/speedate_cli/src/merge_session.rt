@@ -4,11 +4,11 @@ ghost use Rattle.std.specs.Prelude.{◌+◌, ◌≤◌};
 ghost use Rattle.arrayvec.specs.ArrayVec.{array_vec_len};
 
 use crate::session::{BAD, Output, READ, Reports, WRITE, is_output, tell_count};
-use speedate_commands::merge::{Before, Halt, Halted, Source, merge};
 use speedate_commands::order::{Latest, push_late};
-use speedate_commands::print::{push_line_place, push_name};
-use speedate_commands::scan::{Offsets, REPORTS_MAX, Scan};
-use speedate_commands::sort::{Keys, Unread};
+use speedate_scan::print::{push_line_place, push_name};
+use speedate_scan::scan::{Offsets, REPORTS_MAX, Scan};
+use speedate_sort::merge::{Before, Halt, Halted, Source, merge};
+use speedate_sort::sort::{Keys, Unread};
 use speedate_stream::{PENDING_MAX, Pending, STEP_MAX, Watched, push_bytes};
 use std::alloc::AllocError;
 use std::fs::{self, File};

@@ -1,7 +1,7 @@
 //! The inputs of `sort`, and what is told of them on standard error.
 
 use crate::session::{BAD, Output, READ, Reports, WRITE, is_output, tell_count};
-use speedate_commands::sort::{Keys, Lines, Unread, Unsorted};
+use speedate_sort::sort::{Keys, Lines, Unread, Unsorted};
 use speedate_stream::Watched;
 use std::fs;
 

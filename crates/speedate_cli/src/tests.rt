@@ -7,12 +7,13 @@ mod searched;
 mod sorted;
 
 use crate::session::{Session, write_end};
-use crate::{
-    first_between, first_check, first_convert, first_order, first_sum, first_summary, options,
-};
 use clap::ArgMatches;
 use ends::{Sink, Source};
 use rows::{CLOCKS, COMMANDS, DURATIONS, LOG, OPTIONS};
+use speedate_options::commands::{
+    first_between, first_check, first_convert, first_order, first_sum, first_summary,
+};
+use speedate_options::program::program;
 use speedate_stream::run::RunError;
 use speedate_stream::{NoObserver, Watched};
 use std::alloc::AllocError;
@@ -130,7 +131,7 @@ fn run_words<R: AllocGlobal + Abort>(
     sink: Sink,
 ) -> Result<Ended, AllocError> {
     let list = words_of(rt, words)?;
-    let program = options::program(rt.alloc())?;
+    let program = program(rt.alloc())?;
     let matches = program.try_get_matches_from(list.as_slice());
     let matches = matches.ok().expect(rt, words);
     let (name, given) = matches.subcommand().expect(rt, words);
@@ -272,7 +273,7 @@ fn expect_flush<R: AllocGlobal + Abort>(rt: &R, name: &str, given: &ArgMatches<'
 fn each_end_fails_in_turn(rt: HostRuntime) -> Result<(), AllocError> {
     for words in EACH {
         let list = words_of(&rt, words)?;
-        let program = options::program(rt.alloc())?;
+        let program = program(rt.alloc())?;
         let matches = program.try_get_matches_from(list.as_slice());
         let matches = matches.ok().expect(&rt, words);
         let (name, given) = matches.subcommand().expect(&rt, words);

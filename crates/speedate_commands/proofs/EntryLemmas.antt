@@ -5,18 +5,15 @@ use Rattle.std.specs.Prelude.{◌&&◌, ◌==◌, not, Some, None, if◌then◌e
 use Rattle.speedate.specs.Ascii.{line_feed}
 use Rattle.speedate_stream.specs.Machine.{head, lines_output, rest_of}
 use Rattle.speedate_stream.specs.Watch.{one_more}
-use Rattle.speedate_commands.specs.Print.{Prefix}
-use Rattle.speedate_commands.specs.Reading.{Found, Reading, read}
-use Rattle.speedate_commands.specs.Scan.{Line, Offsets, Scan, UndatedLines, fits, is_stopped}
-use Rattle.speedate_commands.specs.Scan.{is_value}
-use Rattle.speedate_commands.specs.Scan.{judged, keeps, line_of, passed, undated_line}
-use Rattle.speedate_commands.specs.Scan.{unfit_line}
-use Rattle.speedate_commands.specs.Between.{Between, Bounds, between_after, between_machine}
+use Rattle.speedate_scan.specs.Reading.{read}
+use Rattle.speedate_scan.specs.Scan.{fits, is_stopped, is_value, judged, keeps, line_of, passed}
+use Rattle.speedate_scan.specs.Scan.{undated_line, unfit_line}
+use Rattle.speedate_scan.specs.Entries.{Marked, entries, entry_and, lines_text, marked}
+use Rattle.speedate_scan.specs.Entries.{printed_line, up_to_value}
+use Rattle.speedate_commands.specs.Base.{Found, Line, Offsets, Prefix, Reading, Scan, UndatedLines}
+use Rattle.speedate_commands.specs.Between.{Between, Bounds, awaits_header, between_after}
+use Rattle.speedate_commands.specs.Between.{between_lines, between_machine, entries_text, file_text}
 use Rattle.speedate_commands.specs.Between.{kept_after, lies_between, prints}
-use Rattle.speedate_commands.specs.Entries.{Marked, awaits_header, between_lines, entries}
-use Rattle.speedate_commands.specs.Entries.{entries_text, entry_and, file_text}
-use Rattle.speedate_commands.specs.Entries.{lines_text}
-use Rattle.speedate_commands.specs.Entries.{marked, printed_line, up_to_value}
 
 -- a marked line is printed, by whether its entry is
 abbrev prints_by : Bounds → Bool → Line → Bool → Bool

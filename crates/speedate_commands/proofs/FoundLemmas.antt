@@ -13,17 +13,16 @@ use Rattle.speedate.proofs.LineLemmas.{pieces-append, pieces-from, pieces-line, 
 use Rattle.speedate_stream.specs.Machine.{head, lines_output, state_after}
 use Rattle.speedate_stream.specs.Run.{Ends}
 use Rattle.speedate_stream.specs.Watch.{one_more}
-use Rattle.speedate_commands.specs.Reading.{Found, Reader, Reading, part, read}
-use Rattle.speedate_commands.specs.Scan.{Line, Offsets, Scan, UndatedLines, fits, has_offsets}
-use Rattle.speedate_commands.specs.Scan.{is_stopped}
-use Rattle.speedate_commands.specs.Scan.{judged, line_of, passed, undated_line, unfit_line}
-use Rattle.speedate_commands.specs.Between.{Between, between_after, between_machine}
-use Rattle.speedate_commands.specs.Entries.{Marked, awaits_header, between_lines, entries}
-use Rattle.speedate_commands.specs.Entries.{entries_text, file_text, mark, marked, printed_line}
+use Rattle.speedate_scan.specs.Reading.{part, read}
+use Rattle.speedate_scan.specs.Scan.{fits, has_offsets, is_stopped, judged, line_of, passed}
+use Rattle.speedate_scan.specs.Scan.{undated_line, unfit_line}
+use Rattle.speedate_scan.specs.Entries.{Marked, entries, mark, marked, printed_line}
+use Rattle.speedate_commands.specs.Base.{Found, Line, Offsets, Reader, Reading, Scan, UndatedLines}
+use Rattle.speedate_commands.specs.Between.{Between, awaits_header, between_after, between_lines}
+use Rattle.speedate_commands.specs.Between.{between_machine, entries_text, file_text}
 use Rattle.speedate_commands.specs.InOrder.{AreInOrder, EndsAt, EndsFirstLine, EndsFound, EndsPart}
-use Rattle.speedate_commands.specs.InOrder.{HasValueAt, IsInOrder, IsNumber, PrintsFile}
-use Rattle.speedate_commands.specs.InOrder.{PrintsRest, StartsAt, is_searched, is_settled}
-use Rattle.speedate_commands.specs.InOrder.{known_part}
+use Rattle.speedate_commands.specs.InOrder.{HasValueAt, IsInOrder, IsNumber, PrintsFile, PrintsRest}
+use Rattle.speedate_commands.specs.InOrder.{StartsAt, is_searched, is_settled, known_part}
 use Rattle.speedate_commands.specs.InOrder.{line_value, scan_after}
 use Rattle.speedate_commands.proofs.EntryLemmas.{between_prints, header_passed, line_is_header}
 use Rattle.speedate_commands.proofs.InOrderLemmas.{AskFor, BeginsEntry, BeginsWith, asked-after}

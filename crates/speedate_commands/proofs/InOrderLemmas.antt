@@ -5,16 +5,16 @@ use Rattle.std.specs.Prelude.{◌&&◌, ◌==◌, not, int_le, int_lt, Option, S
 use Rattle.speedate.specs.Ascii.{line_feed}
 use Rattle.speedate_stream.specs.Machine.{head}
 use Rattle.speedate_stream.specs.Watch.{one_more}
-use Rattle.speedate_commands.specs.Print.{Prefix, prefix_text, shown_name, with_colon}
-use Rattle.speedate_commands.specs.Reading.{Found, Reader, Reading, read}
-use Rattle.speedate_commands.specs.Scan.{Line, Offsets, Scan, Stop, fits, has_as, is_stopped}
-use Rattle.speedate_commands.specs.Scan.{is_value}
-use Rattle.speedate_commands.specs.Scan.{UndatedLines, judged, keeps, line_of, passed, settled}
-use Rattle.speedate_commands.specs.Scan.{stop_at_bad, undated_line, unfit_line}
-use Rattle.speedate_commands.specs.Between.{Bounds, is_begun, is_open, lies_between}
-use Rattle.speedate_commands.specs.Entries.{Entry, Marked, awaits_header, entries}
-use Rattle.speedate_commands.specs.Entries.{entries_text, entry_and, entry_text, lines_text}
-use Rattle.speedate_commands.specs.Entries.{mark, marked, printed_line, up_to_value}
+use Rattle.speedate_scan.specs.Print.{prefix_text, shown_name, with_colon}
+use Rattle.speedate_scan.specs.Reading.{read}
+use Rattle.speedate_scan.specs.Scan.{fits, has_as, is_stopped, is_value, judged, keeps, line_of}
+use Rattle.speedate_scan.specs.Scan.{passed, settled, stop_at_bad, undated_line, unfit_line}
+use Rattle.speedate_scan.specs.Entries.{Entry, Marked, entries, entry_and, lines_text, mark, marked}
+use Rattle.speedate_scan.specs.Entries.{printed_line, up_to_value}
+use Rattle.speedate_commands.specs.Base.{Found, Line, Offsets, Prefix, Reader, Reading, Scan, Stop}
+use Rattle.speedate_commands.specs.Base.{UndatedLines}
+use Rattle.speedate_commands.specs.Between.{Bounds, awaits_header, entries_text, entry_text}
+use Rattle.speedate_commands.specs.Between.{is_begun, is_open, lies_between}
 use Rattle.speedate_commands.specs.InOrder.{AreInOrder, NoneIsBefore, line_value, scan_after}
 use Rattle.speedate_commands.specs.InOrder.{value_in}
 use Rattle.speedate_commands.proofs.EntryLemmas.{header_came}

@@ -1,17 +1,8 @@
-mod ReadingLemmas
-mod WordLemmas
-mod FieldLemmas
-mod SeenLemmas
 mod EntryLemmas
 mod RunLemmas
 mod LineLemmas
 mod SummaryLemmas
 mod SumLemmas
-mod OrderLemmas
-mod SortLemmas
-mod SortedEntryLemmas
-mod MergeLemmas
-mod SourceLemmas
 mod InOrderLemmas
 mod SearchLemmas
 mod FoundLemmas

@@ -3,18 +3,15 @@ use Rattle.std.proofs.Common.{◌≡◌, ℕ, Bool, true, false, List, [], ◌�
 use Rattle.std.proofs.lemmas.List.{append-nil}
 use Rattle.std.specs.Prelude.{Option, Some, None, if◌then◌else◌}
 use Rattle.speedate_stream.specs.Machine.{head, lines_output, rest_of}
-use Rattle.speedate_commands.specs.Reading.{Found}
-use Rattle.speedate_commands.specs.Scan.{Line, keeps, line_of, passed}
+use Rattle.speedate_scan.specs.Scan.{keeps, line_of, passed}
+use Rattle.speedate_commands.specs.Base.{Found, Line}
 use Rattle.speedate_commands.specs.Check.{Check, check_lines, check_machine}
 use Rattle.speedate_commands.specs.Convert.{Convert, convert_line, convert_lines, convert_machine}
 use Rattle.speedate_commands.specs.Convert.{convert_rest, convert_text, converted, line_prefix}
-use Rattle.speedate_commands.specs.Convert.{text_of}
-use Rattle.speedate_commands.specs.Convert.{written_of}
+use Rattle.speedate_commands.specs.Convert.{text_of, written_of}
 use Rattle.speedate_commands.specs.Order.{Latest, Order, dated, dated_and, late_report}
-use Rattle.speedate_commands.specs.Order.{late_reports}
-use Rattle.speedate_commands.specs.Order.{latest_of, order_after}
-use Rattle.speedate_commands.specs.Order.{order_lines, order_machine, order_text, report_if_late}
-use Rattle.speedate_commands.specs.Order.{value_after}
+use Rattle.speedate_commands.specs.Order.{late_reports, latest_of, order_after, order_lines}
+use Rattle.speedate_commands.specs.Order.{order_machine, order_text, report_if_late, value_after}
 
 -- `check` prints the reports of the lines whose value is bad
 pub check_prints : (check : Check) (lines : List (List ℕ))

@@ -9,7 +9,8 @@ use Rattle.speedate.specs.Lines.{IsLineEnd, IsOneLine, Pieces, complete_lines, l
 use Rattle.speedate.specs.Lines.{onto_first, unfinished_line}
 use Rattle.speedate.proofs.LineLemmas.{pieces-append}
 use Rattle.speedate.proofs.LineLemmas.{pieces-onto_first, unfinished-free}
-use Rattle.speedate_commands.specs.Reading.{Reader, part}
+use Rattle.speedate_scan.specs.Reading.{part}
+use Rattle.speedate_commands.specs.Base.{Reader}
 use Rattle.speedate_commands.specs.InOrder.{EndsFirstLine, HasValueAt, known_part, line_value}
 
 -- Parts.

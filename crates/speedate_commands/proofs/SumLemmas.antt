@@ -4,8 +4,9 @@ use Rattle.std.specs.Prelude.{Option, Some, None, Result, Ok, Err, if◌then◌e
 use Rattle.speedate.specs.Duration.{signed_amount}
 use Rattle.speedate.specs.DurationNumbers.{DurationNumbers}
 use Rattle.speedate_stream.specs.Machine.{head, lines_output, state_after}
-use Rattle.speedate_commands.specs.Scan.{Line, Scan}
-use Rattle.speedate_commands.specs.Sum.{IsExact, IsSumAfter, Sum, amount_of, amounts_of, scan_after}
+use Rattle.speedate_scan.specs.Amount.{amount_of}
+use Rattle.speedate_commands.specs.Base.{Line, Scan}
+use Rattle.speedate_commands.specs.Sum.{IsExact, IsSumAfter, Sum, amounts_of, scan_after}
 use Rattle.speedate_commands.specs.Sum.{sum_after, sum_machine, sum_of, total_after, with_first}
 
 adds_up : (sum : Sum) (all : List (List ℕ)) → state_after sum_machine sum all ≡ sum_of sum all

@@ -1,7 +1,7 @@
 -- A run of `summary` adds its lines up, and prints none.
 use Rattle.std.proofs.Common.{◌≡◌, ℕ, List, [], ◌∷◌, refl}
 use Rattle.speedate_stream.specs.Machine.{head, lines_output, state_after}
-use Rattle.speedate_commands.specs.Scan.{line_of}
+use Rattle.speedate_scan.specs.Scan.{line_of}
 use Rattle.speedate_commands.specs.Summary.{Summary, summary_after, summary_machine, summary_of}
 
 pub summary_adds : (summary : Summary) (all : List (List ℕ))

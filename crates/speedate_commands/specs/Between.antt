@@ -1,9 +1,12 @@
 -- The command `between`: the entries whose value lies between two bounds.
-use Rattle.std.specs.Prelude.{ℕ, ℤ, ◌&&◌, ◌||◌, Bool, true, false, List, [], Option, Some, None, int_le, int_lt, if◌then◌else◌}
+use Rattle.std.specs.Prelude.{ℕ, ℤ, ◌==◌, ◌&&◌, ◌||◌, not, Bool, true, false, List, [], ◌∷◌, ◌++◌, Option, Some, None, int_le, int_lt, if◌then◌else◌}
 use Rattle.speedate_stream.specs.Machine.{Machine}
 use Rattle.speedate_stream.specs.Watch.{one_more}
-use Rattle.speedate_commands.specs.Print.{prefix_text}
-use Rattle.speedate_commands.specs.Scan.{Line, is_stopped, is_value, keeps, line_of, passed}
+use Rattle.speedate_scan.specs.Entries.{Entry, Marked, entries, lines_text, marked, printed_line}
+use Rattle.speedate_scan.specs.Entries.{up_to_value}
+use Rattle.speedate_scan.specs.Print.{prefix_text}
+use Rattle.speedate_scan.specs.Scan.{is_stopped, is_value, keeps, line_of, passed}
+use Rattle.speedate_commands.specs.Base.{Line, Scan}
 pub use Rattle.speedate_commands.specs.declared.between.Bounds.{Bounds}
 pub use Rattle.speedate_commands.specs.declared.between.Between.{Between}
 
@@ -79,3 +82,36 @@ between_machine = record {
   rest = λ between head. between_rest between (line_of between.scan head);
   done = λ between. is_stopped between.scan.stop;
 }
+
+-- What is printed of a file.
+
+-- an entry whole if its value lies between the bounds, and otherwise nothing of it
+abbrev pub entry_text : Bounds → Entry → List ℕ
+entry_text bounds entry =
+    if lies_between bounds entry.instant then lines_text entry.lines else []
+
+-- the entries whose value lies between the bounds
+abbrev pub entries_text : Bounds → List Entry → List ℕ
+entries_text bounds [] = []
+entries_text bounds (entry ∷ entries) = entry_text bounds entry ++ entries_text bounds entries
+
+-- what `between` prints of lines without a header: the rest of an entry that has begun and is
+-- printed, and then the entries whose value lies between the bounds
+abbrev pub between_lines : Bounds → Bool → List Marked → List ℕ
+between_lines bounds is_kept lines =
+    (if is_kept then lines_text (up_to_value lines) else []) ++ entries_text bounds (entries lines)
+
+-- a file begins with a header that has not come yet
+abbrev pub awaits_header : Scan → Bool
+awaits_header scan = not (is_stopped scan.stop) && (scan.has_header && (scan.number == 0))
+
+-- what `between` prints of a file: its header, if it has one, and then the entries
+abbrev pub file_text : Between → List (List ℕ) → List ℕ
+file_text between [] = []
+file_text between (line ∷ lines) =
+    if awaits_header between.scan
+    then printed_line between.prefix between.scan line
+    ++ between_lines between.bounds between.is_kept
+    (marked between.prefix (passed between.scan Line.Header) lines)
+    else between_lines between.bounds between.is_kept
+    (marked between.prefix between.scan (line ∷ lines))

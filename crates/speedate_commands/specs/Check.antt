@@ -2,8 +2,9 @@
 use Rattle.std.specs.Prelude.{ℕ, List, [], ◌∷◌, ◌++◌, None}
 use Rattle.speedate_stream.specs.Machine.{Machine, head}
 use Rattle.speedate_stream.specs.Watch.{one_more}
-use Rattle.speedate_commands.specs.Print.{call_kind, report_text}
-use Rattle.speedate_commands.specs.Scan.{Line, Scan, is_stopped, line_of, passed}
+use Rattle.speedate_scan.specs.Print.{call_kind, report_text}
+use Rattle.speedate_scan.specs.Scan.{is_stopped, line_of, passed}
+use Rattle.speedate_commands.specs.Base.{Line, Scan}
 pub use Rattle.speedate_commands.specs.declared.check.Check.{Check}
 
 -- what is reported of a line

@@ -8,9 +8,10 @@ use Rattle.speedate.specs.DateTime.{date_time_text_with}
 use Rattle.speedate.specs.declared.FractionDigits.{FractionDigits}
 use Rattle.speedate_stream.specs.Machine.{Machine, head, rest_of}
 use Rattle.speedate_stream.specs.Watch.{one_more}
-use Rattle.speedate_commands.specs.Print.{prefix_text}
-use Rattle.speedate_commands.specs.Reading.{Bad, Form, Found, Why, value_of}
-use Rattle.speedate_commands.specs.Scan.{Line, is_stopped, keeps, line_of, passed}
+use Rattle.speedate_scan.specs.Print.{prefix_text}
+use Rattle.speedate_scan.specs.Reading.{value_of}
+use Rattle.speedate_scan.specs.Scan.{is_stopped, keeps, line_of, passed}
+use Rattle.speedate_commands.specs.Base.{Bad, Form, Found, Line, Why}
 pub use Rattle.speedate_commands.specs.declared.convert.Target.{Target}
 pub use Rattle.speedate_commands.specs.declared.convert.Convert.{Convert}
 

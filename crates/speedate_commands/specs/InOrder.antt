@@ -6,11 +6,11 @@ use Rattle.speedate.specs.Ascii.{line_feed}
 use Rattle.speedate.specs.Lines.{IsLineEnd, complete_lines, lines}
 use Rattle.speedate_stream.specs.Machine.{head, state_after}
 use Rattle.speedate_stream.specs.declared.run.RunError.{RunError}
-use Rattle.speedate_commands.specs.Reading.{Reader, Reading, part, read}
-use Rattle.speedate_commands.specs.Scan.{Offsets, Scan, has_as, is_stopped, line_of, passed}
-use Rattle.speedate_commands.specs.Scan.{has_offsets, stop_at_bad}
-use Rattle.speedate_commands.specs.Between.{Between, between_machine}
-use Rattle.speedate_commands.specs.Entries.{Entry, entries, file_text, marked}
+use Rattle.speedate_scan.specs.Reading.{part, read}
+use Rattle.speedate_scan.specs.Scan.{has_as, has_offsets, is_stopped, line_of, passed, stop_at_bad}
+use Rattle.speedate_scan.specs.Entries.{Entry, entries, marked}
+use Rattle.speedate_commands.specs.Base.{Offsets, Reader, Reading, Report, Scan}
+use Rattle.speedate_commands.specs.Between.{Between, between_machine, file_text}
 
 -- A text that is read at any byte.
 
@@ -120,6 +120,21 @@ IsNumber between text begin start number =
     (number ≡ min (between.scan.number + length (complete_lines (part text begin start)))
     (2 ^ 64 - 1))
     ⊎ ((number ≡ between.scan.number) × (between.prefix.has_number ≡ false))
+
+-- what is known of lines with these reports, once those before them that were not read are counted
+abbrev pub renumbered : Scan → ℕ → List Report → Scan
+renumbered scan skipped reports = record scan {
+  number = min (scan.number + skipped) (2 ^ 64 - 1);
+  reports = reports;
+}
+
+-- what is known after an entry that is not printed
+abbrev pub entry_passed : Between → Between
+entry_passed between = record between {
+  scan = record between.scan { offsets = Offsets.Only (has_offsets between.scan.offsets) };
+  is_kept = false;
+  has_value = true;
+}
 
 -- the lines of a part of a file were printed, unless the run has ended
 abbrev pub EndsFound : Between → Between → Option (List ℕ) → Option (List ℕ) → List ℕ → Type 0

@@ -1,16 +1,9 @@
-pub mod Field
-pub mod Reading
-pub mod Scan
-pub mod Print
+pub mod Base
 pub mod Check
 pub mod Between
 pub mod Order
 pub mod Summary
 pub mod Convert
-pub mod Entries
 pub mod Runs
-pub mod Amount
 pub mod Sum
-pub mod Sort
-pub mod Merge
 pub mod InOrder

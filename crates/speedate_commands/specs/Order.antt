@@ -6,9 +6,9 @@ use Rattle.speedate.specs.Duration.{amount_answer, duration_text}
 use Rattle.speedate.specs.Requirement.{result_map}
 use Rattle.speedate_stream.specs.Machine.{Machine, head}
 use Rattle.speedate_stream.specs.Watch.{one_more}
-use Rattle.speedate_commands.specs.Print.{line_place}
-use Rattle.speedate_commands.specs.Reading.{Found}
-use Rattle.speedate_commands.specs.Scan.{Line, Scan, is_stopped, line_of, passed}
+use Rattle.speedate_scan.specs.Print.{line_place}
+use Rattle.speedate_scan.specs.Scan.{is_stopped, line_of, passed}
+use Rattle.speedate_commands.specs.Base.{Found, Line, Scan}
 pub use Rattle.speedate_commands.specs.declared.order.Latest.{Latest}
 pub use Rattle.speedate_commands.specs.declared.order.Order.{Order}
 

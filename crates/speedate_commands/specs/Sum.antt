@@ -1,5 +1,5 @@
 -- The command `sum`: the total of the durations of lines.
-use Rattle.std.specs.Prelude.{◌≡◌, ℕ, ℤ, ◌+ℤ◌, ◌^◌, ◌==◌, ◌&&◌, Bool, List, [], ◌∷◌, ◌++◌, Option, Some, None, Result, Ok, Err, is_err, not, nat_lt, unsigned_abs, if◌then◌else◌}
+use Rattle.std.specs.Prelude.{◌≡◌, ℕ, ℤ, ◌+ℤ◌, ◌^◌, ◌&&◌, Bool, List, [], ◌∷◌, ◌++◌, Option, Some, None, Result, Ok, Err, is_err, not, nat_lt, unsigned_abs, if◌then◌else◌}
 use Rattle.std.specs.List.{fold}
 use Rattle.std.specs.Result.{result_unwrap_or}
 use Rattle.speedate.specs.Ascii.{capital_d, line_feed}
@@ -9,24 +9,12 @@ use Rattle.speedate.specs.Duration.{start_text}
 use Rattle.speedate.specs.DurationNumbers.{DurationNumbers}
 use Rattle.speedate.specs.Requirement.{result_map}
 use Rattle.speedate_stream.specs.Machine.{Machine, head}
-use Rattle.speedate_commands.specs.Amount.{read_duration}
-use Rattle.speedate_commands.specs.Reading.{Reading}
-use Rattle.speedate_commands.specs.Scan.{Line, Scan, counted, is_stopped, judged, passed}
+use Rattle.speedate_scan.specs.Amount.{amount_of}
+use Rattle.speedate_scan.specs.Scan.{counted, is_stopped, passed}
+use Rattle.speedate_commands.specs.Base.{Line, Scan}
 pub use Rattle.speedate_commands.specs.declared.sum.Sum.{Sum}
 
 -- What is added.
-
--- a duration that was read, or what the line is instead
-abbrev pub judged_amount : Scan → Result DurationNumbers Reading → Result DurationNumbers Line
-judged_amount scan (Ok numbers) = Ok numbers
-judged_amount scan (Err reading) = Err (judged scan reading)
-
--- the duration of a line, or what a line is that has none, by its head
-unfoldable pub amount_of : Scan → List ℕ → Result DurationNumbers Line
-amount_of scan head =
-    if is_stopped scan.stop then Err Line.Late
-    else if scan.has_header && (scan.number == 0) then Err Line.Header
-    else judged_amount scan (read_duration scan.reader head)
 
 -- what is known of the lines after one more
 abbrev pub scan_after : Scan → Result DurationNumbers Line → Scan

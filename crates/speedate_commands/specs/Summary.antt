@@ -12,9 +12,9 @@ use Rattle.speedate_stream.specs.Machine.{Machine, head}
 use Rattle.speedate_stream.specs.Watch.{one_more}
 use Rattle.speedate_commands.specs.Convert.{written_text}
 use Rattle.speedate_commands.specs.Order.{Latest, duration_between, latest_of, order_after}
-use Rattle.speedate_commands.specs.Print.{line_place}
-use Rattle.speedate_commands.specs.Reading.{Form}
-use Rattle.speedate_commands.specs.Scan.{Line, is_counted, is_stopped, is_value, line_of}
+use Rattle.speedate_scan.specs.Print.{line_place}
+use Rattle.speedate_scan.specs.Scan.{is_counted, is_stopped, is_value, line_of}
+use Rattle.speedate_commands.specs.Base.{Form, Line}
 pub use Rattle.speedate_commands.specs.declared.summary.Gap.{Gap}
 pub use Rattle.speedate_commands.specs.declared.summary.Summary.{Summary}
 

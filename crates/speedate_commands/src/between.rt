@@ -2,16 +2,15 @@
 
 ghost use Rattle.std.specs.Prelude.{◌≡◌, ◌+◌, ◌++◌, ◌≤◌, Err, IfSome, OnOk, false, true};
 ghost use Rattle.arrayvec.specs.ArrayVec.{array_vec_len};
-ghost use Rattle.speedate_commands.specs.Between.{before_after, between_rest, between_text, is_begun};
-ghost use Rattle.speedate_commands.specs.Between.{is_open, kept_after, lies_between, prints};
-ghost use Rattle.speedate_commands.specs.Between.{between_machine};
-ghost use Rattle.speedate_commands.specs.Entries.{file_text};
+ghost use Rattle.speedate_commands.specs.Between.{before_after, between_machine, between_rest};
+ghost use Rattle.speedate_commands.specs.Between.{between_text, file_text, is_begun, is_open};
+ghost use Rattle.speedate_commands.specs.Between.{kept_after, lies_between, prints};
 ghost use Rattle.speedate_commands.specs.Runs.{EndsWith};
 ghost use Rattle.speedate_stream.specs.Run.{EndsBy, PrintsBeginning, PrintsProgress};
 
-use crate::print::{PREFIX_MAX, Prefix};
-use crate::reading::Found;
-use crate::scan::{Line, Scan};
+use speedate_scan::print::{PREFIX_MAX, Prefix};
+use speedate_scan::reading::Found;
+use speedate_scan::scan::{Line, Scan};
 use speedate_stream::run::{RunError, run};
 use speedate_stream::{LineMachine, Observer, PENDING_MAX, Pending, Watched};
 use std::io::{Read, Write};

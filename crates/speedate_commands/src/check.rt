@@ -6,8 +6,8 @@ ghost use Rattle.speedate_commands.specs.Check.{check_lines, check_machine, chec
 ghost use Rattle.speedate_commands.specs.Runs.{EndsWith};
 ghost use Rattle.speedate_stream.specs.Run.{EndsBy, PrintsBeginning, PrintsProgress};
 
-use crate::print::{REPORT_MAX, push_report};
-use crate::scan::{Line, Scan};
+use speedate_scan::print::{REPORT_MAX, push_report};
+use speedate_scan::scan::{Line, Scan};
 use speedate_stream::run::{RunError, run};
 use speedate_stream::{LineMachine, Observer, PENDING_MAX, Pending, Watched};
 use std::io::{Read, Write};

@@ -3,17 +3,16 @@
 ghost use Rattle.std.specs.Prelude.{◌≡◌, ℕ, ℤ, ◌+◌, ◌-◌, ◌^◌, ◌<◌, ◌≤◌, ◌⊎◌, List, Option, None, IfOk, IfSome, OnOk, drop, false, length, true};
 ghost use Rattle.std.specs.Io.KnownBytes.{Appends};
 ghost use Rattle.speedate.specs.Lines.{lines};
-ghost use Rattle.speedate_commands.specs.Entries.{awaits_header, file_text};
+ghost use Rattle.speedate_commands.specs.Between.{awaits_header, file_text};
 ghost use Rattle.speedate_commands.specs.InOrder.{EndsAt, EndsFound, EndsPart, FailsBy, IsNumber};
-ghost use Rattle.speedate_commands.specs.InOrder.{PrintsFile};
-ghost use Rattle.speedate_commands.specs.InOrder.{PrintsRest};
-ghost use Rattle.speedate_commands.specs.InOrder.{StartsAt, is_searched, is_settled};
-ghost use Rattle.speedate_commands.specs.Reading.{part};
-ghost use Rattle.speedate_commands.specs.Scan.{has_offsets};
+ghost use Rattle.speedate_commands.specs.InOrder.{PrintsFile, PrintsRest, StartsAt, entry_passed};
+ghost use Rattle.speedate_commands.specs.InOrder.{is_searched, is_settled, renumbered};
+ghost use Rattle.speedate_scan.specs.Reading.{part};
+ghost use Rattle.speedate_scan.specs.Scan.{has_offsets};
 
 use crate::between::Between;
-use crate::scan::{BadLines, Offsets, REPORTS_MAX, Scan};
 use crate::search::{ReadAt, Values, Window, count_lines, second_line};
+use speedate_scan::scan::{BadLines, Offsets, REPORTS_MAX, Scan};
 use speedate_stream::run::{RunError, run};
 use speedate_stream::{NoObserver, Watched};
 use std::io::{self, Write};
@@ -87,7 +86,7 @@ impl Between<'_> {
 
     /// Passes over the last entries of a file, whose values are not before the second bound.
     fn pass_entry(&mut self)
-        ensures stop { self.new.scan.stop ≡ self.old.scan.stop }
+        ensures passed { self.new ≡ entry_passed self.old }
     {
         self.is_kept = false;
         self.has_value = true;
@@ -111,17 +110,15 @@ impl Between<'_> {
     }
 }
 
-impl Scan<'_> {
-    /// Counts lines that were not read before others, and moves the reports of these, from one on.
-    fn renumber(&mut self, first: u64, skipped: u64)
-        ensures stop { self.new.stop ≡ self.old.stop }
-    {
-        self.number = self.number.saturating_add(skipped);
-        for index in 0..REPORTS_MAX {
-            if index as u64 >= first {
-                let number = self.reports[index].number;
-                self.reports[index].number = number.saturating_add(skipped);
-            }
+/// Counts lines that were not read before others, and moves the reports of these, from one on.
+fn renumber(scan: &mut Scan<'_>, first: u64, skipped: u64)
+    ensures renumbered { scan.new ≡ renumbered scan.old skipped scan.new.reports }
+{
+    scan.number = scan.number.saturating_add(skipped);
+    for index in 0..REPORTS_MAX {
+        if index as u64 >= first {
+            let number = scan.reports[index].number;
+            scan.reports[index].number = number.saturating_add(skipped);
         }
     }
 }
@@ -170,7 +167,7 @@ fn print_found<S: ReadAt, W: Write>(
             command.scan.bad = told;
             return Err(RunError::Read);
         };
-        command.scan.renumber(told, skipped);
+        renumber(&mut command.scan, told, skipped);
     }
     Ok(())
 }

@@ -8,10 +8,10 @@ ghost use Rattle.speedate_commands.specs.Order.{order_lines, order_machine};
 ghost use Rattle.speedate_commands.specs.Runs.{EndsWith};
 ghost use Rattle.speedate_stream.specs.Run.{EndsBy, PrintsBeginning, PrintsProgress};
 
-use crate::print::push_line_place;
-use crate::reading::Found;
-use crate::scan::{Line, Scan};
 use speedate::Duration;
+use speedate_scan::print::push_line_place;
+use speedate_scan::reading::Found;
+use speedate_scan::scan::{Line, Scan};
 use speedate_stream::run::{RunError, run};
 use speedate_stream::{LineMachine, Observer, PENDING_MAX, Pending, STEP_MAX, Watched, push_bytes};
 use std::io::{Read, Write};
@@ -40,16 +40,16 @@ pub struct Order<'a> {
     pub late: u64,
 }
 
-impl<'a> Scan<'a> {
+impl<'a> Latest<'a> {
     /// The value of the line that is looked at, with where it stands.
-    pub fn latest(&self, found: &Found) -> Latest<'a>
-        ensures latest { result ≡ latest_of self.now found.now }
+    pub fn new(scan: &Scan<'a>, found: &Found) -> Self
+        ensures latest { result ≡ latest_of scan.now found.now }
     {
         Latest {
             instant: found.instant,
             offset: found.offset,
-            name: self.name,
-            number: self.next_number(),
+            name: scan.name,
+            number: scan.next_number(),
         }
     }
 }
@@ -70,7 +70,7 @@ impl<'a> Order<'a> {
         ensures value { result ≡ value_after self.now line.now }
     {
         match line {
-            Line::Value(found) => Some(self.scan.latest(found)),
+            Line::Value(found) => Some(Latest::new(&self.scan, found)),
             _ => self.latest,
         }
     }

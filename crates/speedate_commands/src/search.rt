@@ -6,10 +6,10 @@ ghost use Rattle.std.specs.Io.KnownBytes.{ReadConsumes};
 ghost use Rattle.speedate.specs.Lines.{complete_lines};
 ghost use Rattle.speedate_commands.specs.InOrder.{EndsFirstLine, HasValueAt, IsBefore, IsFrom, ReadsAt};
 ghost use Rattle.speedate_commands.specs.InOrder.{known_part, line_value};
-ghost use Rattle.speedate_commands.specs.Reading.{part};
+ghost use Rattle.speedate_scan.specs.Reading.{part};
 
-use crate::reading::{Reader, Reading};
 use speedate::line_end;
+use speedate_scan::reading::{Reader, Reading};
 use speedate_stream::run::head;
 use std::io::{self, Read};
 

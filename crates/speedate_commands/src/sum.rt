@@ -1,22 +1,19 @@
 //! The command `sum`: the total of the durations of lines.
 
-ghost use Rattle.std.specs.Prelude.{◌≡◌, ◌+◌, ◌++◌, ◌≤◌, Err, IfErr, OnOk, false, true};
+ghost use Rattle.std.specs.Prelude.{◌≡◌, ◌+◌, ◌++◌, ◌≤◌, Err, OnOk, false, true};
 ghost use Rattle.arrayvec.specs.ArrayVec.{array_vec_len};
 ghost use Rattle.speedate.specs.Ascii.{capital_d};
 ghost use Rattle.speedate.specs.Duration.{counted_text, duration_numbers, rest_text, start_text};
 ghost use Rattle.speedate.specs.Requirement.{result_map};
-ghost use Rattle.speedate_commands.specs.Reading.{IsReadWithin};
 ghost use Rattle.speedate_commands.specs.Runs.{EndsAdded};
-ghost use Rattle.speedate_commands.specs.Sum.{IsSumAfter, amount_of, in_days, is_too_large};
-ghost use Rattle.speedate_commands.specs.Sum.{judged_amount};
+ghost use Rattle.speedate_commands.specs.Sum.{IsSumAfter, in_days, is_too_large};
 ghost use Rattle.speedate_commands.specs.Sum.{sum_after, sum_machine};
 ghost use Rattle.speedate_commands.specs.Sum.{total_after, total_answer, total_text, with_amount};
 ghost use Rattle.speedate_stream.specs.Run.{EndsBy, PrintsBeginning, PrintsProgress};
 
-use crate::print::push_number;
-use crate::reading::Reading;
-use crate::scan::{Line, Scan};
 use speedate::{Duration, ParseError};
+use speedate_scan::print::push_number;
+use speedate_scan::scan::{Line, Scan};
 use speedate_stream::run::{RunError, run};
 use speedate_stream::{LineMachine, Observer, PENDING_MAX, Pending, Watched, push_bytes};
 use std::io::{Read, Write};
@@ -34,34 +31,6 @@ pub struct Sum<'a> {
     pub scan: Scan<'a>,
     /// The total so far, in microseconds, unless it is too large.
     pub total: Option<i128>,
-}
-
-impl Scan<'_> {
-    /// The duration of a line, by its head, or what a line is that has none.
-    #[tactic(auto, unfolding(crate::specs::Sum::amount_of))]
-    fn amount(&self, head: &[u8]) -> Result<Duration, Line>
-        ensures amount { result_map duration_numbers result ≡ amount_of self.now head.now }
-    {
-        if self.is_stopped() {
-            return Err(Line::Late);
-        }
-        if self.has_header && self.number == 0 {
-            return Err(Line::Header);
-        }
-        self.judged_amount(self.reader.read_duration(head), head)
-    }
-
-    /// A duration that was read of a line, or what the line is instead.
-    fn judged_amount(&self, read: Result<Duration, Reading>, head: &[u8]) -> Result<Duration, Line>
-        requires within { IfErr read (λ reading. IsReadWithin reading head.now) }
-        ensures judged { result_map duration_numbers result
-            ≡ judged_amount self.now (result_map duration_numbers read) }
-    {
-        match read {
-            Ok(duration) => Ok(duration),
-            Err(reading) => Err(self.judged(reading, head)),
-        }
-    }
 }
 
 /// A total with one more duration.

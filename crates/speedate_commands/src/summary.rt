@@ -15,12 +15,12 @@ ghost use Rattle.speedate_commands.specs.Order.{latest_of};
 ghost use Rattle.speedate_stream.specs.Run.{EndsBy, PrintsBeginning, PrintsProgress};
 
 use crate::convert::push_value;
-use crate::form::Form;
 use crate::order::{Latest, Order, push_duration_text};
-use crate::print::{push_line_place, push_number};
-use crate::reading::Found;
-use crate::scan::Line;
 use speedate::{DateTime, DateTimeConfig, ParseError, TimeConfig, TimestampUnit};
+use speedate_scan::form::Form;
+use speedate_scan::print::{push_line_place, push_number};
+use speedate_scan::reading::Found;
+use speedate_scan::scan::Line;
 use speedate_stream::run::{RunError, run};
 use speedate_stream::{LineMachine, Observer, PENDING_MAX, Pending, Watched, push_bytes};
 use std::io::{Read, Write};
@@ -87,7 +87,7 @@ impl<'a> Summary<'a> {
         ensures first { result ≡ first_after self.now line.now }
     {
         match (line, &self.first) {
-            (Line::Value(found), None) => Some(self.order.scan.latest(found)),
+            (Line::Value(found), None) => Some(Latest::new(&self.order.scan, found)),
             _ => self.first,
         }
     }
@@ -112,7 +112,7 @@ impl<'a> Summary<'a> {
         };
         let gap = Gap {
             from: before.instant,
-            to: self.order.scan.latest(found),
+            to: Latest::new(&self.order.scan, found),
         };
         if self.longest_size() < gap.size() {
             Some(gap)

@@ -4,6 +4,7 @@ use crate::rows::{
     date_time_config, expect, expect_front, parsed, quoted, same, time_config, value, words,
 };
 use speedate::{Date, DateTime, DateTimeConfig, IntFloat, Moment, ParseError, float_parse_str};
+use speedate_civil::datetime::full_front;
 
 /// Texts that are no timestamps, and the answer of each parser.
 const TEXTS: &str = "\
@@ -126,6 +127,19 @@ const FRONTS: &str = "\
 '2026-11-22'                         invalid_char_date_time_sep
 '2026-11-22 opening balance'         invalid_char_hour
 '2026-11-22T12:13:14.1234567 x'      second_fraction_too_long";
+
+/// Texts, and what `full_front` finds at their front, with its bytes; `too_short` stands for `None`.
+const FULL_FRONTS: &str = "\
+'2026-11-22T12:13:14Z GET /index.html 200'      2026-11-22T12:13:14Z 20
+'2026-11-22t12:13:14+01:00 GET /index.html'     2026-11-22T12:13:14+01:00 25
+'2026-11-22 12:13:14.123456-0130 GET /'         2026-11-22T12:13:14.123456-01:30 31
+'2026-11-22_12:13:14,5 opening balance 1.00'    2026-11-22T12:13:14.500000 21
+'2026-11-22T12:13:14 GET /index.html 200 OK'    2026-11-22T12:13:14 19
+'2026-11-22T12:13:14Z GET /index.htm'           2026-11-22T12:13:14Z 20
+'2026-11-22T12:13:14Z GET /index.ht'            too_short
+'2026-11-22T12:13Z GET /index.html 200 OK'      too_short
+'2026-11-22T12:13:14.1234567Z GET /index.html'  too_short
+'2026-02-29T12:13:14Z GET /index.html 200'      too_short";
 
 /// Texts, those of RFC 3339 and of JSON Schema's tests among them, and the answers of the relaxed parser and
 /// of the strict one, which takes those of RFC 3339 alone. A second 60 is one of the standard, and refused.
@@ -265,6 +279,15 @@ fn fronts(rt: HostRuntime) {
     for row in FRONTS.lines() {
         let (_, text, want) = quoted(&rt, row);
         let read = DateTime::parse_front(text.as_bytes(), &config);
+        expect_front(&rt, read, want, row);
+    }
+}
+
+#[test]
+fn full_fronts(rt: HostRuntime) {
+    for row in FULL_FRONTS.lines() {
+        let (_, text, want) = quoted(&rt, row);
+        let read = full_front(text.as_bytes()).ok_or(ParseError::TooShort);
         expect_front(&rt, read, want, row);
     }
 }

@@ -7,6 +7,8 @@ mod calendar;
 #[cfg(test)]
 mod choices;
 #[cfg(test)]
+mod column_clocks;
+#[cfg(test)]
 mod column_parts;
 #[cfg(test)]
 mod column_print;

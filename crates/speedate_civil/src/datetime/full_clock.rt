@@ -1,7 +1,8 @@
-//! The instants of date-times at the front of texts that have a clock with its second, as most have.
+//! Date-times, and their instants, at the front of texts that have a clock with its second, as most have.
 
-ghost use Rattle.std.specs.Prelude.{IfSome, IsTrue};
-ghost use Rattle.speedate_civil.specs.DateTime.{IsUtcFront};
+ghost use Rattle.std.specs.Prelude.{◌≡◌, ◌==◌, ◌≤◌, IfSome, IsTrue, None, Ok, Some, length, if◌then◌else◌};
+ghost use Rattle.speedate_civil.specs.Base.{Behavior};
+ghost use Rattle.speedate_civil.specs.DateTime.{IsUtcFront, date_and_time, date_time_front};
 ghost use Rattle.speedate_civil.specs.ParserParts.{HasFullClock};
 
 use super::DateTime;
@@ -36,6 +37,37 @@ pub fn utc_front(bytes: &[u8], assumes_utc: bool) -> Option<(i64, usize)>
     let time = clock.at_offset(Some(offset));
     let number = DateTime { date, time }.timestamp_tz_us();
     Some((number, TIME_PLACE + (clock.size + size)))
+}
+
+/// The date-time at the front of a text, and how many bytes it takes, under the conditions of [`utc_front`];
+/// its offset may be missing, and is then `None`. It is 1970-01-01T00:00:01Z, and 20, from
+/// `b"1970-01-01T00:00:01Z\n1970-01-01T00:00Z"`.
+///
+/// `None` says nothing of the text: it may begin with a date-time all the same.
+#[inline(always)]
+pub fn full_front(bytes: &[u8]) -> Option<(DateTime, usize)>
+    ensures front { (behavior : Behavior) → IfSome result (λ front.
+        date_time_front behavior bytes.now ≡ Ok (date_and_time front.0, front.1)) }
+    ensures within { IfSome result (λ front. front.1 ≤ length bytes.now) }
+{
+    // The calls of `utc_front` again: a function that both call makes columns slower.
+    if !has_full_clock(bytes) || !has_separator(bytes) {
+        return None;
+    }
+    let date = Date::of_digits(bytes)?;
+    let rest = &bytes[TIME_PLACE..];
+    let clock = PureTime::of_digits(rest)?;
+    let (offset, size) = offset_or_utc(rest, clock.size, true)?;
+    let time = clock.at_offset(some_offset(offset, size));
+    Some((DateTime { date, time }, TIME_PLACE + (clock.size + size)))
+}
+
+/// The offset, if it takes bytes of the text.
+#[inline(always)]
+fn some_offset(offset: i32, size: usize) -> Option<i32>
+    ensures offset { result ≡ (if size == 0 then None else Some offset) }
+{
+    if size == 0 { None } else { Some(offset) }
 }
 
 /// Whether a text begins as a date looks and, after a byte from a space to `t`, as a clock with its second

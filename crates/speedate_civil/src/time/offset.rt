@@ -99,6 +99,7 @@ fn is_sign(byte: u8) -> bool
 fn short_offset(west: bool, front: u8x8) -> Option<(i32, usize)>
     ensures offset { IfSome result (λ read. signed_front west 1 front ≡ Ok (Some read.0, read.1)) }
     ensures range { IfSome result (λ read. IsOffset read.0) }
+    ensures some { IfSome result (λ read. 1 ≤ read.1) }
     ensures short { IfSome result (λ read. read.1 ≤ 6) }
 {
     match colon_offset(west, front) {

@@ -3,10 +3,11 @@
 use super::ends::{Sink, Source};
 use super::sorted::Breaking;
 use super::words_of;
-use crate::{first_merge, options};
-use speedate_commands::merge::{Before, Halt, Halted, Source as FileSource, merge};
-use speedate_commands::scan::Offsets;
-use speedate_commands::sort::{Keys, Unread};
+use speedate_options::commands::first_merge;
+use speedate_options::program::program;
+use speedate_scan::scan::Offsets;
+use speedate_sort::merge::{Before, Halt, Halted, Source as FileSource, merge};
+use speedate_sort::sort::{Keys, Unread};
 use speedate_stream::{Failed, Watched};
 use std::alloc::AllocError;
 use std::io::{BufReader, Read};
@@ -131,7 +132,7 @@ fn merged<R: AllocGlobal + Abort, I: Read + Drop>(
     sink: Sink,
 ) -> Result<Ended, AllocError> {
     let list = words_of(rt, words)?;
-    let program = options::program(rt.alloc())?;
+    let program = program(rt.alloc())?;
     let matches = program.try_get_matches_from(list.as_slice());
     let matches = matches.ok().expect(rt, words);
     let (_, given) = matches.subcommand().expect(rt, words);

@@ -4,10 +4,11 @@ use super::ends::Sink;
 use super::{whole, words_of};
 use crate::seeking::Seeking;
 use crate::session::Session;
-use crate::{first_between, options};
 use speedate_commands::in_order::between_in_order;
-use speedate_commands::scan::Report;
 use speedate_commands::search::ReadAt;
+use speedate_options::commands::first_between;
+use speedate_options::program::program;
+use speedate_scan::scan::Report;
 use speedate_stream::Watched;
 use speedate_stream::run::RunError;
 use std::alloc::AllocError;
@@ -65,7 +66,7 @@ fn search_text<R: AllocGlobal + Abort, S: ReadAt>(
     size: u64,
 ) -> Result<Searched, AllocError> {
     let list = words_of(rt, words)?;
-    let program = options::program(rt.alloc())?;
+    let program = program(rt.alloc())?;
     let matches = program.try_get_matches_from(list.as_slice());
     let matches = matches.ok().expect(rt, words);
     let (_, given) = matches.subcommand().expect(rt, words);

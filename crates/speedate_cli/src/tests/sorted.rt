@@ -3,8 +3,9 @@
 use super::ends::{Sink, Source};
 use super::rows::{CLOCKS, LOG};
 use super::words_of;
-use crate::{first_keys, options};
-use speedate_commands::sort::{Keys, Lines, Unread, Unsorted};
+use speedate_options::commands::first_keys;
+use speedate_options::program::program;
+use speedate_sort::sort::{Keys, Lines, Unread, Unsorted};
 use speedate_stream::Watched;
 use std::alloc::AllocError;
 use std::io::{self, ErrorKind, Read};
@@ -124,7 +125,7 @@ fn sorted<R: AllocGlobal + Abort>(
     step: usize,
 ) -> Result<Printed, AllocError> {
     let list = words_of(rt, words)?;
-    let program = options::program(rt.alloc())?;
+    let program = program(rt.alloc())?;
     let matches = program.try_get_matches_from(list.as_slice());
     let matches = matches.ok().expect(rt, words);
     let (_, given) = matches.subcommand().expect(rt, words);
@@ -143,7 +144,7 @@ fn sorted_log<R: AllocGlobal + Abort, I: Read>(
     sink: Sink,
 ) -> Result<(Result<(), Unread>, Printed), AllocError> {
     let list = words_of(rt, "sort")?;
-    let program = options::program(rt.alloc())?;
+    let program = program(rt.alloc())?;
     let matches = program.try_get_matches_from(list.as_slice());
     let matches = matches.ok().expect(rt, "sort");
     let (_, given) = matches.subcommand().expect(rt, "sort");

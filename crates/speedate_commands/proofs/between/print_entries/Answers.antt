@@ -1,5 +1,4 @@
-use Rattle.speedate_commands.specs.Between.{between_machine}
-use Rattle.speedate_commands.specs.Entries.{file_text}
+use Rattle.speedate_commands.specs.Between.{between_machine, file_text}
 use Rattle.speedate_commands.proofs.EntryLemmas.{between_prints}
 use Rattle.speedate_commands.proofs.RunLemmas.{ends_with}
 use Rattle.speedate_commands.proofs.between.print_entries.Goals as goal

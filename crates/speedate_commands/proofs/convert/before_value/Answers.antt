@@ -1,5 +1,5 @@
 use Rattle.std.proofs.Common.{arith, sym}
-use Rattle.speedate_commands.proofs.SeenLemmas.{length_before, seen_short}
+use Rattle.speedate_scan.proofs.SeenLemmas.{length_before, seen_short}
 use Rattle.speedate_commands.proofs.convert.before_value.Goals as goal
 
 pub slice_bounds-result-end : goal.slice_bounds-result-end

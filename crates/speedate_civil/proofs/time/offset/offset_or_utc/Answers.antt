@@ -1,4 +1,4 @@
-use Rattle.std.proofs.Common.{rules, ◌≡◌, ◌≢◌, ◌∙◌, ap, sym, refl, add-zero, ℕ, ℤ, pos, ◌==◌, ◌||◌, Bool, true, false, List, drop, slice_index, Option, Some, None, Ok, IfSome, drop-drop, get_or-drop, arith, ◌+◌}
+use Rattle.std.proofs.Common.{rules, ◌≡◌, ◌≢◌, ◌∙◌, ap, sym, refl, add-zero, ℕ, ℤ, pos, ◌==◌, ◌||◌, Bool, true, false, List, drop, slice_index, Option, Some, None, Ok, IfSome, drop-drop, get_or-drop, arith, ◌+◌, ◌≤◌}
 use Rattle.std.proofs.lemmas.Bool.Decides.{nat_tests}
 use Rattle.std.proofs.lemmas.List.{take_rest}
 use Rattle.speedate_base.specs.Ascii.{colon, hyphen}
@@ -33,16 +33,17 @@ signed-is : (assumes_utc : Bool) (rest numbers : List ℕ) (byte : ℕ) (read : 
     → slice_index rest 0 ≡ byte → drop 1 rest ≡ numbers → is_plus_or_minus byte ≡ true
     → IfSome read (λ front. signed_front (byte == hyphen) 1 (eight_at numbers 0)
     ≡ Ok (Some front.0, front.1))
-    → IfSome read (λ front. IsOffset front.0)
+    → IfSome read (λ front. IsOffset front.0) → IfSome read (λ front. 1 ≤ front.1)
     → IfSome read (IsOffsetOrUtc assumes_utc rest)
-signed-is assumes_utc rest numbers byte (Some front) at after sign is small = record {
+signed-is assumes_utc rest numbers byte (Some front) at after sign is small some = record {
   offset = Some front.0;
   read = rw (at, sign, after) (sym (signed-eight (byte == hyphen) numbers) ∙ is);
   second = refl;
   there = there assumes_utc;
+  told = grind (arith, nat_tests, some);
   range = small;
 }
-signed-is assumes_utc rest numbers byte None at after sign is small = tt
+signed-is assumes_utc rest numbers byte None at after sign is small some = tt
 
 -- UTC itself
 utc-is : (rest : List ℕ) (byte : ℕ) → slice_index rest 0 ≡ byte → is_utc byte ≡ true
@@ -64,7 +65,7 @@ returns-then-is_sign-clause-offset c =
     let front = rw (c.first_eight.ensures.bytes, take_rest bytes (place + 1)) at
     c.short_offset.ensures.offset in
     signed-is c.args.assumes_utc rest _ _ c.short_offset.result at (drop-drop 1 place bytes) sign
-    front c.short_offset.ensures.range
+    front c.short_offset.ensures.range c.short_offset.ensures.some
 
 pub returns-then-is_utc-clause-offset : goal.returns-then-is_utc-clause-offset
 returns-then-is_utc-clause-offset c =
@@ -74,6 +75,7 @@ returns-then-is_utc-clause-offset c =
       read = utc-is (drop c.args.place c.args.bytes.now) _ at (sym c.if-is_utc.ensures.value);
       second = refl;
       there = there c.args.assumes_utc;
+      told = refl;
       range = search rules;
     }
 
@@ -88,5 +90,6 @@ returns-then-first-clause-offset c =
       read = none-is (drop c.args.place bytes) _ at sign utc c.if-first.true;
       second = refl;
       there = rw c.if-assumes_utc.true refl;
+      told = refl;
       range = search rules;
     }

@@ -1,9 +1,0 @@
-use Rattle.std.proofs.Common.{◌-◌, length}
-use Rattle.speedate_commands.proofs.WordLemmas.{IsSearchedUpTo}
-use Rattle.speedate_commands.proofs.reading.end_of_word.Given as goal
-
-abbrev pub invariant-loop-place : goal.invariant-loop-place
-invariant-loop-place l = IsSearchedUpTo l.word l.text l.place
-
-abbrev pub decreases-loop-place : goal.decreases-loop-place
-decreases-loop-place l = length l.text - l.place

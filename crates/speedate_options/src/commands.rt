@@ -1,0 +1,131 @@
+//! Each command before its first line, by what was given.
+
+use crate::options::{self, Options, Refusal};
+use clap::ArgMatches;
+use speedate::MicrosecondsPrecisionOverflowBehavior::{Error, Truncate};
+use speedate_commands::between::Between;
+use speedate_commands::check::Check;
+use speedate_commands::convert::Convert;
+use speedate_commands::order::Order;
+use speedate_commands::sum::Sum;
+use speedate_commands::summary::Summary;
+use speedate_scan::reading::{Bad, Why};
+use speedate_scan::scan::{Offsets, REPORTS_MAX, Report, Scan, Stop};
+use speedate_sort::sort::Keys;
+
+/// The command `between` before the first line.
+pub fn first_between<'a>(given: &ArgMatches<'a>) -> Result<Between<'a>, Refusal> {
+    let options = options::common(given, Truncate)?;
+    let (bounds, offsets) = options::bounds(given, options.reader.offset)?;
+    Ok(Between {
+        scan: first_scan(&options, offsets),
+        bounds,
+        prefix: options.prefix,
+        is_kept: false,
+        has_value: false,
+        before: 0,
+        is_in_order: given.get_flag("in-order"),
+    })
+}
+
+/// The command `check` before the first line.
+pub fn first_check<'a>(given: &ArgMatches<'a>) -> Result<Check<'a>, Refusal> {
+    let options = options::common(given, Error)?;
+    Ok(Check {
+        scan: first_scan(&options, Offsets::Any),
+    })
+}
+
+/// The command `convert` before the first line.
+pub fn first_convert<'a>(given: &ArgMatches<'a>) -> Result<Convert<'a>, Refusal> {
+    let digits = options::fraction_digits(given)?;
+    let options = options::common(given, if digits.is_some() { Truncate } else { Error })?;
+    Ok(Convert {
+        scan: first_scan(&options, Offsets::Any),
+        prefix: options.prefix,
+        target: options::target(given)?,
+        digits,
+    })
+}
+
+/// What the command `merge` knows before the first line of each file.
+pub fn first_merge<'a>(given: &ArgMatches<'a>) -> Result<Keys<'a>, Refusal> {
+    let files = given.get_strs("FILE").unwrap_or(&[]);
+    if given.get_flag("header") && files.len() > 1 {
+        return Err("merge takes --header with one FILE");
+    }
+    let mut is_given = false;
+    for &name in files {
+        if name == "-" && is_given {
+            return Err("merge takes standard input once");
+        }
+        is_given = is_given || name == "-";
+    }
+    first_keys(given)
+}
+
+/// The command `order` before the first line.
+pub fn first_order<'a>(given: &ArgMatches<'a>) -> Result<Order<'a>, Refusal> {
+    let options = options::common(given, Truncate)?;
+    Ok(Order {
+        scan: first_scan(&options, Offsets::AsFirst),
+        latest: None,
+        late: 0,
+    })
+}
+
+/// The command `sum` before the first line.
+pub fn first_sum<'a>(given: &ArgMatches<'a>) -> Result<Sum<'a>, Refusal> {
+    let options = options::common(given, Error)?;
+    Ok(Sum {
+        scan: first_scan(&options, Offsets::Any),
+        total: Some(0),
+    })
+}
+
+/// What the command `sort` knows before the first line.
+pub fn first_keys<'a>(given: &ArgMatches<'a>) -> Result<Keys<'a>, Refusal> {
+    let options = options::common(given, Truncate)?;
+    if options.has_header && given.get_strs("FILE").unwrap_or(&[]).len() > 1 {
+        return Err("sort takes --header with one FILE");
+    }
+    Ok(Keys {
+        scan: first_scan(&options, Offsets::AsFirst),
+        instant: i64::MIN,
+    })
+}
+
+/// The command `summary` before the first line.
+pub fn first_summary<'a>(given: &ArgMatches<'a>) -> Result<Summary<'a>, Refusal> {
+    Ok(Summary {
+        order: first_order(given)?,
+        lines: 0,
+        values: 0,
+        undated: 0,
+        first: None,
+        longest: None,
+    })
+}
+
+/// What is known before the first line.
+fn first_scan<'a>(options: &Options<'a>, offsets: Offsets) -> Scan<'a> {
+    let nothing = Report {
+        number: 0,
+        bad: Bad {
+            place: 0,
+            why: Why::Within,
+        },
+    };
+    Scan {
+        reader: options.reader,
+        undated_lines: options.undated_lines,
+        bad_lines: options.bad_lines,
+        has_header: options.has_header,
+        name: b"-",
+        number: 0,
+        offsets,
+        stop: Stop::No,
+        bad: 0,
+        reports: [nothing; REPORTS_MAX],
+    }
+}

@@ -1,0 +1,7 @@
+//! What a command line of the program `speedate` asks for: [`program`] has its commands and their options,
+//! [`options`] what the options ask for, and [`commands`] each command before its first line.
+#![tactic(auto)]
+
+pub mod commands;
+pub mod options;
+pub mod program;

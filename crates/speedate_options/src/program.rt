@@ -1,0 +1,215 @@
+//! The command line: its commands, and their options.
+
+use clap::{Arg, ArgAction, Command};
+use std::alloc::{AllocError, Global};
+
+/// Whether a command prints lines of its input.
+#[derive(Clone, Copy, PartialEq, Eq)]
+enum Prints {
+    /// It prints no lines of its input, or prints them alone.
+    Reports,
+    /// It prints lines of its input, after their file and number if these are asked for.
+    Lines,
+}
+
+/// The program's command line.
+pub fn program<'a>(alloc: Global) -> Result<Command<'a>, AllocError> {
+    Command::new(alloc, "speedate")
+        .version("1.0.0")
+        .bin_name("speedate")?
+        .about(
+            "Selects, orders, converts, checks and sums up lines by their date-times, and adds up durations",
+        )
+        .subcommand_required(true)
+        .arg_required_else_help(true)
+        .subcommand(between(alloc)?)?
+        .subcommand(check(alloc)?)?
+        .subcommand(convert(alloc)?)?
+        .subcommand(merge(alloc)?)?
+        .subcommand(order(alloc)?)?
+        .subcommand(sort(alloc)?)?
+        .subcommand(sum(alloc)?)?
+        .subcommand(summary(alloc)?)
+}
+
+/// The command `between`.
+fn between<'a>(alloc: Global) -> Result<Command<'a>, AllocError> {
+    let command = Command::new(alloc, "between")
+        .about("Prints the entries with FROM <= instant < TO; a bound of .. is open")
+        .arg(bound(alloc, "FROM"))?
+        .arg(bound(alloc, "TO"))?
+        .arg(flag(alloc, "in-order").help(
+            "The values of each file never fall: search for FROM and TO",
+        ))?;
+    with_common(alloc, command, Prints::Lines)
+}
+
+/// The command `check`.
+fn check<'a>(alloc: Global) -> Result<Command<'a>, AllocError> {
+    let command = Command::new(alloc, "check").about(
+        "Prints FILE:LINE:COLUMN: expected .. for each bad value",
+    );
+    with_common(alloc, command, Prints::Reports)
+}
+
+/// The command `convert`.
+fn convert<'a>(alloc: Global) -> Result<Command<'a>, AllocError> {
+    let command = Command::new(alloc, "convert")
+        .about("Prints each line with its value written anew, the other bytes as they are")
+        .arg(valued(alloc, "to", "WHAT").help(
+            "How a value is written: text, utc, or an offset +HH:MM [default: text]",
+        ))?
+        .arg(valued(alloc, "fraction", "N").help(
+            "Exactly 0, 3 or 6 digits of a second, rounded down; implies --digits truncate",
+        ))?;
+    with_common(alloc, command, Prints::Lines)
+}
+
+/// The command `merge`.
+fn merge<'a>(alloc: Global) -> Result<Command<'a>, AllocError> {
+    let command = Command::new(alloc, "merge").about(
+        "Prints the entries of all files in the order of their values; each file is in order",
+    );
+    with_common(alloc, command, Prints::Reports)
+}
+
+/// The command `order`.
+fn order<'a>(alloc: Global) -> Result<Command<'a>, AllocError> {
+    let command = Command::new(alloc, "order").about(
+        "Prints each value that is earlier than the one before, and by how much",
+    );
+    with_common(alloc, command, Prints::Reports)
+}
+
+/// The command `sum`.
+fn sum<'a>(alloc: Global) -> Result<Command<'a>, AllocError> {
+    let command = Command::new(alloc, "sum").about(
+        "Prints the exact total of durations, one in each line; years and months are bad",
+    );
+    let command = with_lines(alloc, with_digits(alloc, with_field(alloc, command)?)?)?;
+    with_files(alloc, command)
+}
+
+/// The command `sort`.
+fn sort<'a>(alloc: Global) -> Result<Command<'a>, AllocError> {
+    let command = Command::new(alloc, "sort").about(
+        "Prints the entries of all files in the order of their values; reads them into memory",
+    );
+    with_common(alloc, command, Prints::Reports)
+}
+
+/// The command `summary`.
+fn summary<'a>(alloc: Global) -> Result<Command<'a>, AllocError> {
+    let command = Command::new(alloc, "summary").about(
+        "Prints how many lines and values there are, the first, the last and the longest gap",
+    );
+    with_common(alloc, command, Prints::Reports)
+}
+
+/// A command with what every command takes.
+fn with_common<'a>(
+    alloc: Global,
+    command: Command<'a>,
+    prints: Prints,
+) -> Result<Command<'a>, AllocError> {
+    let command = with_place(alloc, command)?
+        .arg(valued(alloc, "kind", "KIND").help("datetime or date [default: datetime]"))?
+        .arg(flag(alloc, "strict").help("Accept only RFC 3339"))?;
+    let command = with_digits(alloc, command)?.arg(
+        valued(alloc, "offset", "OFFSET")
+            .allow_hyphen_values(true)
+            .help("utc or +HH:MM for values and bounds that have none"),
+    )?;
+    let command = with_lines(alloc, command)?;
+    let command = match prints {
+        Prints::Lines => with_prefix(alloc, command)?,
+        Prints::Reports => command,
+    };
+    with_files(alloc, command)
+}
+
+/// A command with what is done with digits past the sixth.
+fn with_digits<'a>(alloc: Global, command: Command<'a>) -> Result<Command<'a>, AllocError> {
+    command.arg(valued(alloc, "digits", "WHAT").help("Digits past the sixth: refuse or truncate"))
+}
+
+/// A command with what is done with lines that have no good value.
+fn with_lines<'a>(alloc: Global, command: Command<'a>) -> Result<Command<'a>, AllocError> {
+    command
+        .arg(valued(alloc, "undated", "WHAT").help(
+            "Lines without a value: join, drop or bad [default: join, with --field bad]",
+        ))?
+        .arg(valued(alloc, "bad", "WHAT").help(
+            "Lines with a bad value: keep, drop or stop [default: keep]",
+        ))?
+        .arg(flag(alloc, "header").help("The first line of each file has no value"))
+}
+
+/// A command with its files.
+fn with_files<'a>(alloc: Global, command: Command<'a>) -> Result<Command<'a>, AllocError> {
+    command.arg(
+        Arg::new(alloc, "FILE")
+            .action(ArgAction::Append)
+            .num_args(0..)
+            .help("The files; none, or -, is standard input"),
+    )
+}
+
+/// A command with where the value of a line begins.
+fn with_place<'a>(alloc: Global, command: Command<'a>) -> Result<Command<'a>, AllocError> {
+    let command = command.arg(
+        valued(alloc, "after", "TEXT")
+            .allow_hyphen_values(true)
+            .help("The value comes after the first TEXT of a line [default: at its front]"),
+    )?;
+    with_field(alloc, command)
+}
+
+/// A command with the field that is the value of a line.
+fn with_field<'a>(alloc: Global, command: Command<'a>) -> Result<Command<'a>, AllocError> {
+    command
+        .arg(valued(alloc, "field", "N").help(
+            "The value is all of field N, which may be quoted as in CSV",
+        ))?
+        .arg(
+            valued(alloc, "separator", "C")
+                .allow_hyphen_values(true)
+                .help("What separates fields; \\t is a tab [default: a comma]"),
+        )
+}
+
+/// A command with what it prints before each line.
+fn with_prefix<'a>(alloc: Global, command: Command<'a>) -> Result<Command<'a>, AllocError> {
+    command
+        .arg(
+            flag(alloc, "number")
+                .short('n')
+                .help("The line's number before each line"),
+        )?
+        .arg(
+            flag(alloc, "name")
+                .short('H')
+                .help("The file's name before each line"),
+        )
+}
+
+/// An option without a value.
+fn flag<'a>(alloc: Global, name: &'a str) -> Arg<'a> {
+    Arg::new(alloc, name).long(name).action(ArgAction::SetTrue)
+}
+
+/// An option with a value.
+fn valued<'a>(alloc: Global, name: &'a str, value: &'a str) -> Arg<'a> {
+    Arg::new(alloc, name)
+        .long(name)
+        .value_name(value)
+        .action(ArgAction::Set)
+}
+
+/// A bound of `between`.
+fn bound<'a>(alloc: Global, name: &'a str) -> Arg<'a> {
+    Arg::new(alloc, name)
+        .required(true)
+        .action(ArgAction::Set)
+        .help("A date-time, a date, which is its midnight, or ..")
+}

@@ -1,0 +1,149 @@
+-- Where the fields of a line are.
+use Rattle.std.proofs.Common.{◌≡◌, ◌≢◌, ◌∙◌, ℕ, ◌+◌, ◌-◌, ◌<◌, ◌≤◌, zero, suc, Bool, List, [], ◌∷◌, length, take, drop, true, false, Some, None, refl, ap, arith, get_or, length-drop}
+use Rattle.std.proofs.lemmas.Bool.Decides.{nat_tests}
+use Rattle.std.specs.Prelude.{◌==◌, nat_lt}
+use Rattle.std.specs.List.{position, position_or_len}
+use Rattle.std.proofs.lemmas.List.{drop_all, take_rest}
+use Rattle.std.proofs.lemmas.List.Sums.{prefix_len-le-length}
+use Rattle.speedate_scan.specs.Field.{before_quote, field_after, field_at, next_separator}
+use Rattle.speedate_scan.proofs.WordLemmas.{parts_at}
+
+is_other : (byte : ℕ) → byte ≢ 34 → (byte == 34) ≡ false
+is_other byte other = grind (arith, nat_tests)
+
+is_quote : (byte : ℕ) → byte ≡ 34 → (byte == 34) ≡ true
+is_quote byte same = grind (arith, nat_tests)
+
+-- Bytes of a quoted field, by the first of them.
+
+other_first : (byte : ℕ) (bytes : List ℕ) → (byte == 34) ≡ false
+    → before_quote (byte ∷ bytes) ≡ 1 + before_quote bytes
+unfolding before_quote
+other_first byte [] other = rw other refl
+other_first byte (next ∷ bytes) other = rw other refl
+
+doubled_first : (byte next : ℕ) (bytes : List ℕ) → (byte == 34) ≡ true → (next == 34) ≡ true
+    → before_quote (byte ∷ next ∷ bytes) ≡ 2 + before_quote bytes
+unfolding before_quote
+doubled_first byte next bytes first second = rw (first, second) refl
+
+single_first : (byte : ℕ) (bytes : List ℕ) → (byte == 34) ≡ true
+    → (get_or bytes 0 0 == 34) ≡ false → before_quote (byte ∷ bytes) ≡ 0
+unfolding before_quote
+single_first byte [] first other = rw first refl
+single_first byte (next ∷ bytes) first other = rw (first, other) refl
+
+nothing_first : before_quote [] ≡ 0
+unfolding before_quote
+nothing_first = refl
+
+-- The same from a place of a text on.
+
+-- a byte that is no quote is passed
+pub quote_later : (text : List ℕ) (place : ℕ) → place < length text → get_or text place 0 ≢ 34
+    → before_quote (drop place text) ≡ 1 + before_quote (drop (place + 1) text)
+quote_later text place within other =
+    ap before_quote (parts_at text place within)
+    ∙ other_first (get_or text place 0) (drop (place + 1) text)
+    (is_other (get_or text place 0) other)
+
+-- a doubled quote is passed
+pub quote_doubled : (text : List ℕ) (place : ℕ) → place + 1 < length text
+    → get_or text place 0 ≡ 34 → get_or text (place + 1) 0 ≡ 34
+    → before_quote (drop place text) ≡ 2 + before_quote (drop (place + 2) text)
+quote_doubled text place within first second =
+    let here : place < length text = omega arith in
+    let after : place + 1 + 1 ≡ place + 2 = omega arith in
+    ap before_quote (parts_at text place here)
+    ∙ ap (λ (l : List ℕ). before_quote (get_or text place 0 ∷ l)) (parts_at text (place + 1) within)
+    ∙ doubled_first (get_or text place 0) (get_or text (place + 1) 0) (drop (place + 1 + 1) text)
+    (is_quote (get_or text place 0) first) (is_quote (get_or text (place + 1) 0) second)
+    ∙ ap (λ (n : ℕ). 2 + before_quote (drop n text)) after
+
+-- the byte after a place, as the first one of what follows it
+first_after : (text : List ℕ) (place : ℕ) → get_or (drop place text) 0 0 ≡ get_or text place 0
+first_after [] zero = refl
+first_after [] (suc place) = refl
+first_after (byte ∷ bytes) zero = refl
+first_after (byte ∷ bytes) (suc place) = first_after bytes place
+
+-- a quote that is not doubled closes the field
+pub quote_here : (text : List ℕ) (place : ℕ) → place < length text → get_or text place 0 ≡ 34
+    → get_or text (place + 1) 0 ≢ 34 → before_quote (drop place text) ≡ 0
+quote_here text place within first other =
+    let next : (get_or (drop (place + 1) text) 0 0 == 34) ≡ false =
+    rw (first_after text (place + 1)) (is_other (get_or text (place + 1) 0) other) in
+    ap before_quote (parts_at text place within)
+    ∙ single_first (get_or text place 0) (drop (place + 1) text)
+    (is_quote (get_or text place 0) first) next
+
+-- without a quote the field goes to the text's end
+pub quote_nowhere : (text : List ℕ) (place : ℕ) → length text ≤ place
+    → before_quote (drop place text) ≡ 0
+quote_nowhere text place ended =
+    ap before_quote (drop_all place text ended) ∙ nothing_first
+
+-- The next separator.
+
+separator_is : (test : ℕ → Bool) (text : List ℕ) (place : ℕ)
+    → Some place ≡ position test text → place ≡ position_or_len test text
+separator_is test text place found = grind (arith, nat_tests, prefix_len-le-length)
+
+no_separator : (test : ℕ → Bool) (text : List ℕ)
+    → None ≡ position test text → length text ≡ position_or_len test text
+no_separator test text none = grind (arith, nat_tests, prefix_len-le-length)
+
+pub separator_from : (separator : ℕ) (text : List ℕ) (from place : ℕ)
+    → Some place ≡ position (λ byte. byte == separator) (drop from text)
+    → from + place ≡ next_separator separator text from
+separator_from separator text from place found =
+    ap (λ (n : ℕ). from + n) (separator_is (λ byte. byte == separator) (drop from text) place found)
+
+pub no_separator_from : (separator : ℕ) (text : List ℕ) (from : ℕ) → from ≤ length text
+    → None ≡ position (λ byte. byte == separator) (drop from text)
+    → length text ≡ next_separator separator text from
+no_separator_from separator text from within none =
+    let all = no_separator (λ byte. byte == separator) (drop from text) none in
+    let left = length-drop from text in
+    omega (arith, all, left)
+
+pub no_separator_after : (separator : ℕ) (text : List ℕ) (from : ℕ) → from ≤ length text
+    → None ≡ position (λ byte. byte == separator) (take (length text - from) (drop from text))
+    → length text ≡ next_separator separator text from
+no_separator_after separator text from within none =
+    no_separator_from separator text from within (rw take_rest at none)
+
+-- The field after others.
+
+is_less : (one other : ℕ) → one < other → nat_lt one other ≡ true
+is_less one other less = grind (arith, nat_tests)
+
+is_no_less : (one other : ℕ) → other ≤ one → nat_lt one other ≡ false
+is_no_less one other most = grind (arith, nat_tests)
+
+-- a field that is sought after others is sought after the first of them
+pub field_later : (separator : ℕ) (text : List ℕ) (start others : ℕ) → 0 < others
+    → (field_at separator text start).end < length text
+    → field_after separator text start others
+    ≡ field_after separator text ((field_at separator text start).end + 1) (others - 1)
+unfolding field_after
+field_later separator text start zero some within = absurd (omega arith)
+field_later separator text start (suc others) some within =
+    let less : suc others - 1 ≡ others = omega arith in
+    rw (less, is_less (field_at separator text start).end (length text) within) refl
+
+-- no field comes after one that ends the text
+pub field_missing : (separator : ℕ) (text : List ℕ) (start others : ℕ) → 0 < others
+    → length text ≤ (field_at separator text start).end
+    → field_after separator text start others ≡ None
+unfolding field_after
+field_missing separator text start zero some ended = absurd (omega arith)
+field_missing separator text start (suc others) some ended =
+    rw (is_no_less (field_at separator text start).end (length text) ended) refl
+
+-- a field that is sought after no others is the one that begins there
+pub field_here : (separator : ℕ) (text : List ℕ) (start others : ℕ) → others ≤ 0
+    → field_after separator text start others ≡ Some (field_at separator text start)
+unfolding field_after
+field_here separator text start zero none = refl
+field_here separator text start (suc others) none = absurd (omega arith)

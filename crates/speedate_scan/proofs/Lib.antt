@@ -1,0 +1,4 @@
+mod ReadingLemmas
+mod WordLemmas
+mod FieldLemmas
+pub mod SeenLemmas

@@ -1,0 +1,35 @@
+-- A parser's answer with the place of its error, and texts that claim to be dates.
+use Rattle.std.proofs.Common.{◌≡◌, ℕ, ◌+◌, Bool, true, false, ◌&&◌, nat_le, List, codes, Option, Result, Ok, Err, refl, arith, if◌then◌else◌}
+use Rattle.std.proofs.lemmas.Bool.Decides.{nat_tests}
+use Rattle.speedate.specs.Base.{ParseError}
+use Rattle.speedate.specs.Requirement.{result_map}
+use Rattle.speedate.specs.Refused.{refused_place, without_place}
+use Rattle.speedate_base.specs.declared.refusal.Refused.{Refused}
+use Rattle.speedate_base.specs.Digits.{eight_at, fit_length}
+use Rattle.speedate_scan.specs.Reading.{claims, with_place}
+
+-- what a parser says of its answer and of its error's place is its answer with that place
+pub placed_answer : {A B : Type 0} (view : A → B) (result : Result A Refused)
+    (answer : Result B ParseError) (place : Option ℕ)
+    → without_place (result_map view result) ≡ answer → refused_place result ≡ place
+    → result_map view result ≡ with_place answer place
+placed_answer view (Ok value) answer place read at_place = rw (← read) refl
+placed_answer view (Err refused) answer place read at_place = rw (← read, ← at_place) refl
+
+-- five or more of nested tests hold if and only if the first five do
+five_of : (a b c d e : Bool) (n : ℕ)
+    → nat_le 5 (if a then 1 + (if b then 1 + (if c then 1 + (if d then 1
+    + (if e then 1 + n else 0) else 0) else 0) else 0) else 0)
+    ≡ (a && b && c && d && e)
+five_of false b c d e n = refl
+five_of true false c d e n = refl
+five_of true true false d e n = refl
+five_of true true true false e n = refl
+five_of true true true true false n = refl
+five_of true true true true true n = grind (arith, nat_tests)
+
+-- a text claims to be a date if five or more of its first bytes fit the pattern of one
+pub claims_by_length : (text : List ℕ)
+    → nat_le 5 (fit_length (codes "0000-00-") (eight_at text 0)) ≡ claims text
+unfolding claims
+claims_by_length text = five_of _ _ _ _ _ _

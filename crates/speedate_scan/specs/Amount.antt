@@ -1,0 +1,110 @@
+-- What duration a line has.
+use Rattle.std.specs.Prelude.{ℕ, ◌+◌, ◌==◌, ◌&&◌, ◌||◌, Bool, List, length, take, slice_index, Option, Some, None, Result, Ok, Err, if◌then◌else◌}
+use Rattle.std.specs.List.{position}
+use Rattle.speedate.specs.Ascii.{capital_m, capital_p, capital_t, capital_y}
+use Rattle.speedate.specs.Base.{Behavior, IsoOrder}
+use Rattle.speedate.specs.Duration.{duration_answer, duration_answer_or}
+use Rattle.speedate.specs.DurationNumbers.{DurationNumbers}
+use Rattle.speedate.specs.Refused.{placed, refused_place}
+use Rattle.speedate_base.specs.Numbers.{sign_size}
+use Rattle.speedate_base.specs.declared.refusal.Refused.{Refused}
+use Rattle.speedate_scan.specs.Field.{Field, nth_field}
+use Rattle.speedate_scan.specs.Reading.{Bad, Place, Reader, Reading, Why, alone, fields_of, is_cut}
+use Rattle.speedate_scan.specs.Reading.{not_within, part, with_place, without_field}
+use Rattle.speedate_scan.specs.Scan.{Line, Scan, is_stopped, judged}
+
+-- Years and months, whose lengths differ.
+
+-- a text is one of ISO 8601: it begins with `P`, after its sign
+abbrev pub is_iso : List ℕ → Bool
+is_iso text = slice_index text (sign_size text) == capital_p
+
+-- the bytes of a text up to a place, or all of them
+abbrev pub up_to : Option ℕ → List ℕ → List ℕ
+up_to None text = text
+up_to (Some place) text = take place text
+
+-- the bytes of a text before its first `T`
+abbrev pub before_time : List ℕ → List ℕ
+before_time text = up_to (position (λ byte. byte == capital_t) text) text
+
+-- where the first item of years or months of a duration has its designator: a `Y`, or an `M`
+-- before the `T`; the days and the clock of the other forms have neither
+unfoldable pub years_or_months : List ℕ → Option ℕ
+years_or_months text =
+    if is_iso text
+    then position (λ byte. (byte == capital_y) || (byte == capital_m)) (before_time text)
+    else None
+
+-- What duration is a part of a line.
+
+-- the duration that a text is
+unfoldable pub duration_whole : Behavior → List ℕ → Result DurationNumbers Refused
+duration_whole behavior text =
+    with_place (duration_answer IsoOrder.Lax behavior text)
+    (refused_place (duration_answer_or placed IsoOrder.Lax behavior text))
+
+-- a duration of a text that begins at a byte of a line, by where the text has years or months
+abbrev pub exact : ℕ → Option ℕ → DurationNumbers → Result DurationNumbers Bad
+exact from None numbers = Ok numbers
+exact from (Some place) numbers =
+    Err (record { place = from + place; why = Why.NoYearsOrMonths })
+
+-- what was parsed from a byte of a line on
+abbrev pub exact_from : ℕ → List ℕ → Result DurationNumbers Refused → Result DurationNumbers Bad
+exact_from from text (Ok numbers) = exact from (years_or_months text) numbers
+exact_from from text (Err refused) =
+    Err (record { place = from + refused.place; why = Why.Parse refused.fault })
+
+-- the duration that a part of a line is: years and months are bad
+unfoldable pub exact_between : Behavior → List ℕ → ℕ → ℕ → Result DurationNumbers Bad
+exact_between behavior head from to =
+    exact_from from (part head from to) (duration_whole behavior (part head from to))
+
+-- What duration a line has.
+
+-- a duration, or what is bad
+abbrev pub or_bad : Result DurationNumbers Bad → Result DurationNumbers Reading
+or_bad (Ok numbers) = Ok numbers
+or_bad (Err bad) = Err (Reading.Bad bad)
+
+-- the duration of a field that ends before the cut of a longer line; an empty field has none
+abbrev pub field_duration : Behavior → List ℕ → Field → Result DurationNumbers Reading
+field_duration behavior head field =
+    if field.from == field.to then Err (Reading.Undated field.from)
+    else or_bad (alone field (exact_between behavior head field.from field.to))
+
+-- the duration of a line by where its field is, if it is there
+abbrev pub duration_in : Behavior → List ℕ → Option Field → Result DurationNumbers Reading
+duration_in behavior head None = Err (without_field head)
+duration_in behavior head (Some field) =
+    if is_cut head field.end then Err (not_within field.from)
+    else field_duration behavior head field
+
+-- all of a line, as a field
+abbrev pub whole_line : List ℕ → Field
+whole_line head =
+    record { from = 0; to = length (fields_of head); end = length (fields_of head) }
+
+-- where the text of a duration is: it is a field, or else the whole line
+abbrev pub duration_place : Place → List ℕ → Option Field
+duration_place (Place.Field which) head = nth_field which (fields_of head)
+duration_place Place.Front head = Some (whole_line head)
+duration_place (Place.After word) head = Some (whole_line head)
+
+-- the duration of a line, or what is read of a line that has none
+unfoldable pub read_duration : Reader → List ℕ → Result DurationNumbers Reading
+read_duration reader head =
+    duration_in reader.behavior head (duration_place reader.place head)
+
+-- a duration that was read, or what the line is instead
+abbrev pub judged_amount : Scan → Result DurationNumbers Reading → Result DurationNumbers Line
+judged_amount scan (Ok numbers) = Ok numbers
+judged_amount scan (Err reading) = Err (judged scan reading)
+
+-- the duration of a line, or what a line is that has none, by its head
+unfoldable pub amount_of : Scan → List ℕ → Result DurationNumbers Line
+amount_of scan head =
+    if is_stopped scan.stop then Err Line.Late
+    else if scan.has_header && (scan.number == 0) then Err Line.Header
+    else judged_amount scan (read_duration scan.reader head)

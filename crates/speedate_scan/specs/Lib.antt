@@ -1,0 +1,6 @@
+pub mod Field
+pub mod Reading
+pub mod Amount
+pub mod Scan
+pub mod Print
+pub mod Entries

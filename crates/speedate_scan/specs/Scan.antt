@@ -1,0 +1,173 @@
+-- What each line is to a command, and what is counted of the lines.
+use Rattle.std.specs.Prelude.{ℕ, ◌==◌, ◌&&◌, Bool, true, false, not, List, slice_set, nat_lt, Option, is_some, Result, if◌then◌else◌}
+use Rattle.speedate.specs.Base.{ParseError}
+use Rattle.speedate.specs.DateTime.{DateAndTime}
+use Rattle.speedate_stream.specs.Watch.{one_more}
+use Rattle.speedate_scan.specs.Reading.{Bad, Found, IsParsed, IsWithin, Reading, Why, read}
+pub use Rattle.speedate_scan.specs.declared.scan.UndatedLines.{UndatedLines}
+pub use Rattle.speedate_scan.specs.declared.scan.BadLines.{BadLines}
+pub use Rattle.speedate_scan.specs.declared.scan.Offsets.{Offsets}
+pub use Rattle.speedate_scan.specs.declared.scan.Stop.{Stop}
+pub use Rattle.speedate_scan.specs.declared.scan.Report.{Report}
+pub use Rattle.speedate_scan.specs.declared.scan.Line.{Line}
+pub use Rattle.speedate_scan.specs.declared.scan.Scan.{Scan}
+
+-- a value has an offset as it is to have one
+abbrev pub has_as : Bool → Found → Bool
+has_as true found = is_some found.offset
+has_as false found = not (is_some found.offset)
+
+-- a value fits
+abbrev pub fits : Offsets → Found → Bool
+fits Offsets.Any found = true
+fits Offsets.AsFirst found = true
+fits (Offsets.Only has_offset) found = has_as has_offset found
+fits (Offsets.AsBounds has_offset) found = has_as has_offset found
+
+-- which values fit after one that fits
+abbrev pub settled : Offsets → Found → Offsets
+settled Offsets.Any found = Offsets.Any
+settled Offsets.AsFirst found = Offsets.Only (is_some found.offset)
+settled (Offsets.Only has_offset) found = Offsets.Only (is_some found.offset)
+settled (Offsets.AsBounds has_offset) found = Offsets.Only (is_some found.offset)
+
+-- what is bad about a value that does not fit: its offset, or that there is none at its end
+abbrev pub unfit : Found → Bad
+unfit found =
+    if is_some found.offset then record { place = found.from; why = Why.NoOffset }
+    else record { place = found.to; why = Why.Parse ParseError.TzRequired }
+
+-- a line whose value does not fit: if it is the first one, it does not fit the bounds
+abbrev pub unfit_line : Offsets → Found → Line
+unfit_line Offsets.Any found = Line.Bad (unfit found)
+unfit_line Offsets.AsFirst found = Line.Bad (unfit found)
+unfit_line (Offsets.Only has_offset) found = Line.Bad (unfit found)
+unfit_line (Offsets.AsBounds has_offset) found = Line.Unfit
+
+-- a line without a value, which would begin at this byte
+abbrev pub undated_line : UndatedLines → ℕ → Line
+undated_line UndatedLines.Bad place =
+    Line.Bad (record { place = place; why = Why.Parse ParseError.TooShort })
+undated_line UndatedLines.Join place = Line.Undated
+undated_line UndatedLines.Drop place = Line.Undated
+
+-- what a line is by what is read of it
+abbrev pub judged : Scan → Reading → Line
+judged scan (Reading.Value found) =
+    if fits scan.offsets found then Line.Value found else unfit_line scan.offsets found
+judged scan (Reading.Bad bad) = Line.Bad bad
+judged scan (Reading.Undated place) = undated_line scan.undated_lines place
+
+-- a run has ended before its input
+abbrev pub is_stopped : Stop → Bool
+is_stopped Stop.No = false
+is_stopped Stop.AtBad = true
+is_stopped Stop.AtUnfit = true
+
+-- what a line is, by its head
+unfoldable pub line_of : Scan → List ℕ → Line
+line_of scan head =
+    if is_stopped scan.stop then Line.Late
+    else if scan.has_header && (scan.number == 0) then Line.Header
+    else judged scan (read scan.reader head)
+
+-- the value of a line lies within it
+abbrev pub IsFoundWithin : Line → List ℕ → Type 0
+IsFoundWithin (Line.Value found) head = IsWithin found head
+IsFoundWithin Line.Late head = Unit {0}
+IsFoundWithin Line.Header head = Unit {0}
+IsFoundWithin (Line.Bad bad) head = Unit {0}
+IsFoundWithin Line.Unfit head = Unit {0}
+IsFoundWithin Line.Undated head = Unit {0}
+
+-- lines with a bad value are not left out
+abbrev pub keeps_bad : BadLines → Bool
+keeps_bad BadLines.Keep = true
+keeps_bad BadLines.Drop = false
+keeps_bad BadLines.Stop = false
+
+-- lines without a value are not left out
+abbrev pub keeps_undated : UndatedLines → Bool
+keeps_undated UndatedLines.Join = true
+keeps_undated UndatedLines.Bad = true
+keeps_undated UndatedLines.Drop = false
+
+-- a line is not left out
+abbrev pub keeps : Scan → Line → Bool
+keeps scan Line.Header = true
+keeps scan (Line.Value found) = true
+keeps scan (Line.Bad bad) = keeps_bad scan.bad_lines
+keeps scan Line.Undated = keeps_undated scan.undated_lines
+keeps scan Line.Late = false
+keeps scan Line.Unfit = false
+
+-- a line was counted
+abbrev pub counted : Scan → Scan
+counted scan = record scan { number = one_more scan.number }
+
+-- the reports with one more, if it is one of the first ten
+abbrev pub with_report : List Report → ℕ → Report → List Report
+with_report reports count report =
+    if nat_lt count 10 then slice_set reports count report else reports
+
+-- a line was counted whose value is bad
+abbrev pub noted : Scan → Bad → Scan
+noted scan bad = record scan {
+  number = one_more scan.number;
+  bad = one_more scan.bad;
+  reports = with_report scan.reports scan.bad
+      (record { number = one_more scan.number; bad = bad });
+}
+
+-- whether the run has ended at a line whose value is bad
+abbrev pub stop_at_bad : BadLines → Stop
+stop_at_bad BadLines.Keep = Stop.No
+stop_at_bad BadLines.Drop = Stop.No
+stop_at_bad BadLines.Stop = Stop.AtBad
+
+-- a line has a value
+abbrev pub is_value : Line → Bool
+is_value (Line.Value found) = true
+is_value Line.Header = false
+is_value (Line.Bad bad) = false
+is_value Line.Undated = false
+is_value Line.Late = false
+is_value Line.Unfit = false
+
+-- a line is counted: it came before the run ended
+abbrev pub is_counted : Line → Bool
+is_counted Line.Late = false
+is_counted Line.Header = true
+is_counted (Line.Value found) = true
+is_counted (Line.Bad bad) = true
+is_counted Line.Unfit = true
+is_counted Line.Undated = true
+
+-- values are to have an offset
+abbrev pub has_offsets : Offsets → Bool
+has_offsets Offsets.Any = false
+has_offsets Offsets.AsFirst = false
+has_offsets (Offsets.Only has_offset) = has_offset
+has_offsets (Offsets.AsBounds has_offset) = has_offset
+
+-- what is known after a line
+unfoldable pub passed : Scan → Line → Scan
+passed scan Line.Late = scan
+passed scan Line.Header = counted scan
+passed scan Line.Undated = counted scan
+passed scan (Line.Value found) =
+    record (counted scan) { offsets = settled scan.offsets found }
+passed scan (Line.Bad bad) = record (noted scan bad) {
+  stop = if is_stopped (stop_at_bad scan.bad_lines) then Stop.AtBad else scan.stop;
+}
+passed scan Line.Unfit = record (counted scan) { stop = Stop.AtUnfit }
+
+-- the value that was parsed of a line is the one that was found in it
+abbrev pub IsLineParsed : (Found → Result (DateAndTime × ℕ) Bad) → Line → Option DateAndTime
+    → Type 0
+IsLineParsed value_of (Line.Value found) value = IsParsed value_of (Reading.Value found) value
+IsLineParsed value_of Line.Late value = Unit {0}
+IsLineParsed value_of Line.Header value = Unit {0}
+IsLineParsed value_of (Line.Bad bad) value = Unit {0}
+IsLineParsed value_of Line.Unfit value = Unit {0}
+IsLineParsed value_of Line.Undated value = Unit {0}

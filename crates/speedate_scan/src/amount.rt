@@ -1,0 +1,253 @@
+//! What duration a line has.
+
+ghost use Rattle.std.specs.Prelude.{◌≡◌, ◌+◌, ◌≤◌, ◌==◌, ◌||◌, IfErr, IfSome, length};
+ghost use Rattle.std.specs.List.{position};
+ghost use Rattle.speedate.specs.Ascii.{capital_m, capital_t, capital_y};
+ghost use Rattle.speedate.specs.Duration.{duration_numbers};
+ghost use Rattle.speedate.specs.Requirement.{result_map};
+ghost use Rattle.speedate_scan.specs.Amount.{amount_of, before_time, duration_in, duration_place, duration_whole};
+ghost use Rattle.speedate_scan.specs.Amount.{exact, exact_between, field_duration, is_iso, judged_amount};
+ghost use Rattle.speedate_scan.specs.Amount.{read_duration, whole_line, years_or_months};
+ghost use Rattle.speedate_scan.specs.Field.{IsFieldWithin};
+ghost use Rattle.speedate_scan.specs.Reading.{IsReadWithin, alone, fields_of};
+
+use crate::field::{Field, byte_at};
+use crate::form::relaxed;
+use crate::reading::{
+    Bad, Place, Reader, Reading, Why, fields_of, is_cut, not_within, without_field,
+};
+use crate::scan::{Line, Scan};
+use speedate::{Duration, MicrosecondsPrecisionOverflowBehavior, ParseError, Refused};
+use speedate_base::numbers::sign;
+
+/// Whether a text is one of ISO 8601: it begins with `P`, after its sign.
+fn is_iso(text: &[u8]) -> bool
+    ensures iso { result ≡ is_iso text.now }
+{
+    let (_, size) = sign(text);
+    byte_at(text, size) == b'P'
+}
+
+/// The place of the first `T` of a text.
+fn time_place(text: &[u8]) -> Option<usize>
+    ensures place { result ≡ position (λ byte. byte == capital_t) text.now }
+    ensures within { IfSome result (λ place. place ≤ length text.now) }
+{
+    text.iter().position(|&byte| byte == b'T')
+}
+
+/// The bytes of a text before its first `T`.
+fn before_time(text: &[u8]) -> &[u8]
+    ensures before { result.now ≡ before_time text.now }
+    ensures short { length result.now ≤ length text.now }
+{
+    match time_place(text) {
+        Some(place) => &text[..place],
+        None => text,
+    }
+}
+
+/// The place of the first `Y` or `M` of a text.
+fn designator_place(text: &[u8]) -> Option<usize>
+    ensures place { result
+        ≡ position (λ byte. (byte == capital_y) || (byte == capital_m)) text.now }
+    ensures within { IfSome result (λ place. place ≤ length text.now) }
+{
+    text.iter().position(|&byte| byte == b'Y' || byte == b'M')
+}
+
+/// Where the first item of years or months of a duration has its designator: 2 in `b"P1Y"`.
+#[tactic(auto, unfolding(crate::specs::Amount::years_or_months))]
+fn years_or_months(text: &[u8]) -> Option<usize>
+    ensures place { result ≡ years_or_months text.now }
+    ensures within { IfSome result (λ place. place ≤ length text.now) }
+{
+    if is_iso(text) {
+        designator_place(before_time(text))
+    } else {
+        None
+    }
+}
+
+/// The duration that a text is.
+#[tactic(auto, using(crate::proofs::ReadingLemmas::placed_answer), unfolding(crate::specs::Amount::duration_whole))]
+fn duration_whole(
+    text: &[u8],
+    behavior: MicrosecondsPrecisionOverflowBehavior,
+) -> Result<Duration, Refused>
+    ensures whole { result_map duration_numbers result ≡ duration_whole behavior text.now }
+    ensures within { IfErr result (λ refused. refused.place ≤ length text.now) }
+{
+    Duration::parse_or_place(text, &relaxed(behavior))
+}
+
+/// A duration of a text that begins at a byte of a line. It is bad if the text has years or months.
+fn exact(from: usize, place: Option<usize>, duration: Duration) -> Result<Duration, Bad>
+    requires room { IfSome place (λ place. from + place ≤ usize.MAX) }
+    ensures exact { result_map duration_numbers result
+        ≡ exact from place (duration_numbers duration) }
+{
+    match place {
+        None => Ok(duration),
+        Some(place) => Err(Bad {
+            place: from + place,
+            why: Why::NoYearsOrMonths,
+        }),
+    }
+}
+
+/// The duration that a part of a line is, by its head. Years and months are bad.
+#[tactic(auto, unfolding(crate::specs::Amount::exact_between))]
+fn exact_between(
+    head: &[u8],
+    from: usize,
+    to: usize,
+    behavior: MicrosecondsPrecisionOverflowBehavior,
+) -> Result<Duration, Bad>
+    requires ordered { from ≤ to }
+    requires within { to ≤ length head.now }
+    ensures exact { result_map duration_numbers result ≡ exact_between behavior head.now from to }
+{
+    let text = &head[from..to];
+    match duration_whole(text, behavior) {
+        Ok(duration) => exact(from, years_or_months(text), duration),
+        Err(refused) => Err(Bad {
+            place: from + refused.place,
+            why: Why::Parse(refused.fault),
+        }),
+    }
+}
+
+/// The duration that a field of a line is, by its head. What comes after the quote that closes the field is
+/// bad.
+fn duration_alone(
+    head: &[u8],
+    field: &Field,
+    behavior: MicrosecondsPrecisionOverflowBehavior,
+) -> Result<Duration, Bad>
+    requires ordered { field.now.from ≤ field.now.to }
+    requires ends { field.now.to ≤ field.now.end }
+    requires within { field.now.end ≤ length head.now }
+    ensures alone { result_map duration_numbers result
+        ≡ alone field.now (exact_between behavior head.now field.now.from field.now.to) }
+{
+    match exact_between(head, field.from, field.to, behavior) {
+        Ok(duration) => {
+            if field.end - field.to > 1 {
+                return Err(Bad {
+                    place: field.to + 1,
+                    why: Why::Parse(ParseError::ExtraCharacters),
+                });
+            }
+            Ok(duration)
+        }
+        Err(bad) => Err(bad),
+    }
+}
+
+/// The duration of a field of a line, by its head, or what is read of a field that has none.
+fn field_duration(
+    head: &[u8],
+    field: &Field,
+    behavior: MicrosecondsPrecisionOverflowBehavior,
+) -> Result<Duration, Reading>
+    requires ordered { field.now.from ≤ field.now.to }
+    requires ends { field.now.to ≤ field.now.end }
+    requires within { field.now.end ≤ length head.now }
+    ensures read { result_map duration_numbers result
+        ≡ field_duration behavior head.now field.now }
+    ensures within { IfErr result (λ reading. IsReadWithin reading head.now) }
+{
+    if field.from == field.to {
+        return Err(Reading::Undated(field.from));
+    }
+    match duration_alone(head, field, behavior) {
+        Ok(duration) => Ok(duration),
+        Err(bad) => Err(Reading::Bad(bad)),
+    }
+}
+
+/// The duration of a line, by its head and where its field is, or what is read of a line that has none.
+#[tactic(auto, using(crate::proofs::SeenLemmas::fields_within, crate::proofs::SeenLemmas::seen_within))]
+fn duration_in(
+    head: &[u8],
+    field: Option<Field>,
+    behavior: MicrosecondsPrecisionOverflowBehavior,
+) -> Result<Duration, Reading>
+    requires within { IfSome field (λ field. IsFieldWithin field (fields_of head.now)) }
+    ensures read { result_map duration_numbers result ≡ duration_in behavior head.now field }
+    ensures within { IfErr result (λ reading. IsReadWithin reading head.now) }
+{
+    match field {
+        None => Err(without_field(head)),
+        Some(field) => {
+            if is_cut(head, field.end) {
+                return Err(not_within(field.from));
+            }
+            field_duration(head, &field, behavior)
+        }
+    }
+}
+
+/// All of a line, by its head, as a field.
+fn whole_line(head: &[u8]) -> Field
+    ensures field { result ≡ whole_line head.now }
+    ensures within { IsFieldWithin result (fields_of head.now) }
+{
+    let end = fields_of(head).len();
+    Field {
+        from: 0,
+        to: end,
+        end,
+    }
+}
+
+impl Reader<'_> {
+    /// Where the text of the duration of a line is, by its head: it is a field, or else the whole line.
+    fn duration_place(&self, head: &[u8]) -> Option<Field>
+        ensures place { result ≡ duration_place self.now.place head.now }
+        ensures within { IfSome result (λ field. IsFieldWithin field (fields_of head.now)) }
+    {
+        match self.place {
+            Place::Field(which) => which.find(fields_of(head)),
+            _ => Some(whole_line(head)),
+        }
+    }
+
+    /// The duration of a line, by its head, or what is read of a line that has none.
+    #[tactic(auto, unfolding(crate::specs::Amount::read_duration))]
+    pub fn read_duration(&self, head: &[u8]) -> Result<Duration, Reading>
+        ensures read { result_map duration_numbers result ≡ read_duration self.now head.now }
+        ensures within { IfErr result (λ reading. IsReadWithin reading head.now) }
+    {
+        duration_in(head, self.duration_place(head), self.behavior)
+    }
+}
+
+impl Scan<'_> {
+    /// The duration of a line, by its head, or what a line is that has none.
+    #[tactic(auto, unfolding(crate::specs::Amount::amount_of))]
+    pub fn amount(&self, head: &[u8]) -> Result<Duration, Line>
+        ensures amount { result_map duration_numbers result ≡ amount_of self.now head.now }
+    {
+        if self.is_stopped() {
+            return Err(Line::Late);
+        }
+        if self.has_header && self.number == 0 {
+            return Err(Line::Header);
+        }
+        self.judged_amount(self.reader.read_duration(head), head)
+    }
+
+    /// A duration that was read of a line, or what the line is instead.
+    fn judged_amount(&self, read: Result<Duration, Reading>, head: &[u8]) -> Result<Duration, Line>
+        requires within { IfErr read (λ reading. IsReadWithin reading head.now) }
+        ensures judged { result_map duration_numbers result
+            ≡ judged_amount self.now (result_map duration_numbers read) }
+    {
+        match read {
+            Ok(duration) => Ok(duration),
+            Err(reading) => Err(self.judged(reading, head)),
+        }
+    }
+}

@@ -1,0 +1,11 @@
+//! What the lines of a text are to the commands of the program `speedate`. [`reading`] says what the value of a
+//! line is, by [`form`] and [`field`], [`amount`] what its duration is, [`scan`] what a line is to a command,
+//! and [`print`] how names, numbers and bad values are printed.
+#![tactic(auto)]
+
+pub mod amount;
+pub mod field;
+pub mod form;
+pub mod print;
+pub mod reading;
+pub mod scan;

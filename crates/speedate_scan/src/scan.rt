@@ -1,0 +1,326 @@
+//! What each line is to a command, and what is counted of the lines.
+
+ghost use Rattle.std.specs.Prelude.{◌≡◌, ◌+◌, ◌++◌, ◌≤◌, length, is_some};
+ghost use Rattle.std.specs.Option.{option_map};
+ghost use Rattle.speedate.specs.DateTime.{date_and_time};
+ghost use Rattle.speedate_stream.specs.Watch.{one_more};
+ghost use Rattle.speedate_scan.specs.Reading.{IsReadWithin, value_of};
+ghost use Rattle.speedate_scan.specs.Scan.{IsFoundWithin, IsLineParsed, has_offsets, is_counted, keeps};
+ghost use Rattle.speedate_scan.specs.Scan.{counted, fits, is_stopped, is_value, judged, line_of};
+ghost use Rattle.speedate_scan.specs.Scan.{noted, passed, settled, unfit};
+
+use crate::reading::{Bad, Found, Reader, Reading, Why};
+use speedate::{DateTime, ParseError};
+
+/// How many bad values are reported one by one.
+pub const REPORTS_MAX: usize = 10;
+
+/// What is done with lines that have no value.
+#[derive(Clone, Copy, Debug, PartialEq, Eq)]
+pub enum UndatedLines {
+    /// They belong to the entry before them.
+    Join,
+    /// They are left out.
+    Drop,
+    /// They are bad.
+    Bad,
+}
+
+/// What is done with lines whose value is bad.
+#[derive(Clone, Copy, Debug, PartialEq, Eq)]
+pub enum BadLines {
+    /// They belong to the entry before them.
+    Keep,
+    /// They are left out.
+    Drop,
+    /// The first of them ends the run.
+    Stop,
+}
+
+/// Which values fit: with an offset or without one.
+#[derive(Clone, Copy, Debug, PartialEq, Eq)]
+pub enum Offsets {
+    /// All values.
+    Any,
+    /// Those that have one as the first value has, which is still to come.
+    AsFirst,
+    /// Those that have one, or have none.
+    Only(bool),
+    /// The same, as the bounds have it, and the first value is still to come. If it does not fit, the
+    /// run ends.
+    AsBounds(bool),
+}
+
+/// Whether the run has ended before its input.
+#[derive(Clone, Copy, Debug, PartialEq, Eq)]
+pub enum Stop {
+    /// It has not.
+    No,
+    /// A value was bad.
+    AtBad,
+    /// The first value did not fit the bounds.
+    AtUnfit,
+}
+
+/// A bad value of a line.
+#[derive(Clone, Copy, Debug)]
+pub struct Report {
+    /// The number of the line.
+    pub number: u64,
+    /// What is bad.
+    pub bad: Bad,
+}
+
+/// What a line is to a command.
+#[derive(Clone, Copy)]
+pub enum Line {
+    /// A line after the run has ended.
+    Late,
+    /// The first line of a file that has a header.
+    Header,
+    /// A line with a value that fits.
+    Value(Found),
+    /// A line whose value is bad.
+    Bad(Bad),
+    /// The line of the first value, which does not fit the bounds.
+    Unfit,
+    /// A line without a value.
+    Undated,
+}
+
+/// What is known of the lines so far, and how they are read.
+#[derive(Clone, Copy)]
+pub struct Scan<'a> {
+    /// How values are read.
+    pub reader: Reader<'a>,
+    /// What is done with lines that have no value.
+    pub undated_lines: UndatedLines,
+    /// What is done with lines whose value is bad.
+    pub bad_lines: BadLines,
+    /// Whether the first line of a file is a header.
+    pub has_header: bool,
+    /// The name of the file.
+    pub name: &'a [u8],
+    /// How many lines of the file have been read.
+    pub number: u64,
+    /// Which values fit.
+    pub offsets: Offsets,
+    /// Whether the run has ended.
+    pub stop: Stop,
+    /// How many values were bad.
+    pub bad: u64,
+    /// The first of them.
+    pub reports: [Report; REPORTS_MAX],
+}
+
+impl Line {
+    /// Whether the line has a value.
+    pub fn is_value(&self) -> bool
+        ensures value { result ≡ is_value self.now }
+    {
+        matches!(self, Line::Value(_))
+    }
+}
+
+impl Line {
+    /// Whether the line came before the run ended.
+    pub fn is_counted(&self) -> bool
+        ensures counted { result ≡ is_counted self.now }
+    {
+        !matches!(self, Line::Late)
+    }
+}
+
+impl Offsets {
+    /// Whether a value fits.
+    fn fits(self, found: &Found) -> bool
+        ensures fits { result ≡ fits self found.now }
+    {
+        match self {
+            Offsets::Any | Offsets::AsFirst => true,
+            Offsets::Only(has_offset) | Offsets::AsBounds(has_offset) => {
+                found.offset.is_some() == has_offset
+            }
+        }
+    }
+
+    /// Which values fit after one that fits.
+    fn settled(self, found: &Found) -> Self
+        ensures settled { result ≡ settled self found.now }
+    {
+        match self {
+            Offsets::Any => Offsets::Any,
+            _ => Offsets::Only(found.offset.is_some()),
+        }
+    }
+}
+
+/// What is bad about a value that does not fit: that it has no offset, or that it has one.
+fn unfit(found: &Found) -> Bad
+    ensures unfit { result ≡ unfit found.now }
+{
+    if found.offset.is_some() {
+        Bad {
+            place: found.from,
+            why: Why::NoOffset,
+        }
+    } else {
+        Bad {
+            place: found.to,
+            why: Why::Parse(ParseError::TzRequired),
+        }
+    }
+}
+
+impl<'a> Scan<'a> {
+    /// Begins a file with this name: its lines are counted anew.
+    pub fn begin(&mut self, name: &'a [u8])
+        ensures begun { self.new ≡ record self.old { name = name.entry; number = 0 } }
+    {
+        self.name = name;
+        self.number = 0;
+    }
+}
+
+impl Scan<'_> {
+    /// Whether the run has ended.
+    pub fn is_stopped(&self) -> bool
+        ensures stopped { result ≡ is_stopped self.now.stop }
+    {
+        match self.stop {
+            Stop::No => false,
+            Stop::AtBad | Stop::AtUnfit => true,
+        }
+    }
+
+    /// Whether values are to have an offset.
+    pub fn has_offsets(&self) -> bool
+        ensures has { result ≡ has_offsets self.now.offsets }
+    {
+        match self.offsets {
+            Offsets::Any | Offsets::AsFirst => false,
+            Offsets::Only(has_offset) | Offsets::AsBounds(has_offset) => has_offset,
+        }
+    }
+
+    /// The number of the line that is looked at.
+    pub fn next_number(&self) -> u64
+        ensures number { result ≡ one_more self.now.number }
+    {
+        self.number.saturating_add(1)
+    }
+
+    /// What a line is, by its head.
+    #[inline(always)]
+    pub fn line(&self, head: &[u8]) -> Line
+        ensures line { result ≡ line_of self.now head.now }
+        ensures within { IsFoundWithin result head.now }
+    {
+        self.line_with_value(head).0
+    }
+
+    /// What a line is, by its head, and its value, if it has one.
+    #[inline(always)]
+    #[tactic(auto, unfolding(crate::specs::Scan::line_of))]
+    pub fn line_with_value(&self, head: &[u8]) -> (Line, Option<DateTime>)
+        ensures line { result.0 ≡ line_of self.now head.now }
+        ensures within { IsFoundWithin result.0 head.now }
+        ensures value { IsLineParsed (value_of self.now.reader head.now) result.0
+            (option_map date_and_time result.1) }
+    {
+        if self.is_stopped() {
+            return (Line::Late, None);
+        }
+        if self.has_header && self.number == 0 {
+            return (Line::Header, None);
+        }
+        let (reading, value) = self.reader.parse(head);
+        (self.judged(reading, head), value)
+    }
+
+    /// What a line is by what is read of it.
+    #[inline(always)]
+    pub fn judged(&self, reading: Reading, head: &[u8]) -> Line
+        requires within { IsReadWithin reading head.now }
+        ensures judged { result ≡ judged self.now reading }
+        ensures within { IsFoundWithin result head.now }
+    {
+        match reading {
+            Reading::Value(found) => {
+                if self.offsets.fits(&found) {
+                    return Line::Value(found);
+                }
+                match self.offsets {
+                    Offsets::AsBounds(_) => Line::Unfit,
+                    _ => Line::Bad(unfit(&found)),
+                }
+            }
+            Reading::Bad(bad) => Line::Bad(bad),
+            Reading::Undated(place) => {
+                if self.undated_lines == UndatedLines::Bad {
+                    let why = Why::Parse(ParseError::TooShort);
+                    Line::Bad(Bad { place, why })
+                } else {
+                    Line::Undated
+                }
+            }
+        }
+    }
+
+    /// Whether a line is not left out: no line after the run has ended, and no bad or undated one that
+    /// is to be dropped.
+    pub fn keeps(&self, line: &Line) -> bool
+        ensures keeps { result ≡ keeps self.now line.now }
+    {
+        match line {
+            Line::Header | Line::Value(_) => true,
+            Line::Bad(_) => self.bad_lines == BadLines::Keep,
+            Line::Undated => self.undated_lines != UndatedLines::Drop,
+            Line::Late | Line::Unfit => false,
+        }
+    }
+
+    /// Counts a line, and notes what is bad about it.
+    #[tactic(auto, unfolding(crate::specs::Scan::passed))]
+    pub fn pass(&mut self, line: Line)
+        ensures passed { self.new ≡ passed self.old line }
+    {
+        match line {
+            Line::Late => {}
+            Line::Header | Line::Undated => self.count(),
+            Line::Value(found) => {
+                self.offsets = self.offsets.settled(&found);
+                self.count();
+            }
+            Line::Bad(bad) => {
+                if self.bad_lines == BadLines::Stop {
+                    self.stop = Stop::AtBad;
+                }
+                self.note(bad);
+            }
+            Line::Unfit => {
+                self.stop = Stop::AtUnfit;
+                self.count();
+            }
+        }
+    }
+
+    /// Counts a line.
+    pub fn count(&mut self)
+        ensures counted { self.new ≡ counted self.old }
+    {
+        self.number = self.number.saturating_add(1);
+    }
+
+    /// Counts a line whose value is bad, and keeps the report if it is one of the first.
+    fn note(&mut self, bad: Bad)
+        ensures noted { self.new ≡ noted self.old bad }
+    {
+        self.count();
+        if self.bad < REPORTS_MAX as u64 {
+            let number = self.number;
+            self.reports[self.bad as usize] = Report { number, bad };
+        }
+        self.bad = self.bad.saturating_add(1);
+    }
+}

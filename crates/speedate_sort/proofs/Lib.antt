@@ -1,0 +1,5 @@
+mod OrderLemmas
+mod SortLemmas
+mod SortedEntryLemmas
+mod MergeLemmas
+mod SourceLemmas

@@ -1,0 +1,242 @@
+-- Lines at places of a text, and lines added one by one.
+use Rattle.std.proofs.Common.{◌≡◌, ◌∙◌, ap, sym, subst, refl, ℕ, ℤ, ◌+◌, ◌-◌, ◌<◌, ◌≤◌, Bool, true, false, List, [], ◌∷◌, ◌++◌, length, take, drop, get_or, slice_index, All, arith, append_assoc, append-nil, Option, Some, None, if◌then◌else◌, Result, Ok, Err, is_err, OnOk, OnErr}
+use Rattle.std.proofs.lemmas.Bool.{false≢true, true≢false}
+use Rattle.std.proofs.lemmas.Grind.{take_at_read}
+use Rattle.std.specs.List.Sorted.{IsPermutation}
+use Rattle.std.proofs.lemmas.List.Sorted.{All-permutation}
+use Rattle.std.proofs.lemmas.List.{drop-append-le, take-append-le, length-drop, length-append, get_or-drop, drop_more, take-append-drop, take_rest, drop_all}
+use Rattle.std.proofs.lemmas.List.Elements.{All-head, All-tail, All-nil, All-cons}
+use Rattle.speedate.specs.Ascii.{line_feed}
+use Rattle.speedate.specs.Lines.{complete_lines, last_line, lines, unfinished_line}
+use Rattle.std.proofs.Math.Bool.{or-false}
+use Rattle.speedate_stream.specs.Machine.{head}
+use Rattle.speedate_stream.specs.Run.{AppendsBut, OnlyWrites}
+use Rattle.speedate_stream.specs.Watch.{Watch}
+use Rattle.speedate_stream.proofs.SentLemmas.{OnlyWrites-then}
+use Rattle.speedate_scan.specs.Print.{prefix_text}
+use Rattle.speedate_scan.specs.Scan.{keeps, line_of}
+use Rattle.speedate_scan.specs.Entries.{printed_line}
+use Rattle.speedate_sort.specs.Base.{Line, Scan}
+use Rattle.speedate_sort.specs.Sort.{IsPlaced, Keyed, Keys, Place, file_lines, if_kept, in_order}
+use Rattle.speedate_sort.specs.Sort.{instant_after, is_earlier, is_earlier_line, key_after, key_of}
+use Rattle.speedate_sort.specs.Sort.{keys_after, line_at, lines_at, no_prefix, part, texts}
+use Rattle.speedate_sort.proofs.OrderLemmas.{map-in_order}
+
+-- a part of a text stays where more stands after it
+pub part-grown : (text more : List ℕ) (from to : ℕ) → from ≤ to → to ≤ length text
+    → part (text ++ more) from to ≡ part text from to
+part-grown text more from to ordered within =
+    ap (take (to - from)) (drop-append-le from text more (omega (arith, ordered, within)))
+    ∙ take-append-le (to - from) (drop from text) more
+    (omega (arith, ordered, within, length-drop from text))
+
+pub lines_at-grown : (text more : List ℕ) (places : List Place) → All (IsPlaced text) places
+    → lines_at (text ++ more) places ≡ lines_at text places
+lines_at-grown text more [] within = refl
+lines_at-grown text more (place ∷ places) within =
+    let first = All-head (IsPlaced text) place places within in
+    ap (λ (bytes : List ℕ). record { instant = place.instant; text = bytes }
+    ∷ lines_at (text ++ more) places) (part-grown text more place.from place.to first.0 first.1)
+    ∙ ap (λ (l : List Keyed). line_at text place ∷ l)
+    (lines_at-grown text more places (All-tail (IsPlaced text) place places within))
+
+pub placed-grown : (text more : List ℕ) (places : List Place) → All (IsPlaced text) places
+    → All (IsPlaced (text ++ more)) places
+placed-grown text more [] within = All-nil (IsPlaced (text ++ more))
+placed-grown text more (place ∷ places) within =
+    let first = All-head (IsPlaced text) place places within in
+    All-cons (IsPlaced (text ++ more)) place places
+    (first.0, omega (arith, first.1, length-append text more))
+    (placed-grown text more places (All-tail (IsPlaced text) place places within))
+
+-- a line and the line feed after it
+pub part-ended : (text : List ℕ) (from end : ℕ) → from ≤ end → end < length text
+    → slice_index text end ≡ line_feed
+    → part text from (end + 1) ≡ part text from end ++ line_feed ∷ []
+part-ended text from end ordered inside ends =
+    let size : end + 1 - from ≡ end - from + 1 = omega (arith, ordered) in
+    let short : end - from < length (drop from text) =
+    omega (arith, ordered, inside, length-drop from text) in
+    let place : from + (end - from) ≡ end = omega (arith, ordered) in
+    let byte : get_or (drop from text) (end - from) 0 ≡ line_feed =
+    get_or-drop from text (end - from) 0 ∙ ap (λ (n : ℕ). get_or text n 0) place ∙ ends in
+    ap (λ (n : ℕ). take n (drop from text)) size
+    ∙ (take_at_read (drop from text) (end - from) 0 short).1
+    ∙ ap (λ (b : ℕ). part text from end ++ b ∷ []) byte
+
+-- a line of `sort` has no prefix
+pub printed-alone : (scan : Scan) (line : List ℕ)
+    → printed_line no_prefix scan line ≡ line ++ line_feed ∷ []
+unfolding prefix_text
+printed-alone scan line = refl
+
+kept_some : (kept : Bool) (instant found : ℤ) (text : List ℕ)
+    → (if kept then Some instant else None) ≡ Some found
+    → if_kept kept instant text ≡ record { instant = found; text = text } ∷ []
+kept_some true instant found text is = cc
+kept_some false instant found text is = cc
+
+kept_none : (kept : Bool) (instant : ℤ) (text : List ℕ)
+    → (if kept then Some instant else None) ≡ None → if_kept kept instant text ≡ []
+kept_none true instant text is = cc
+kept_none false instant text is = refl
+
+-- one line of a file is added
+pub one-line : (keys : Keys) (line : List ℕ) (found : ℤ) → key_of keys line ≡ Some found
+    → file_lines keys (line ∷ []) ≡ record { instant = found; text = line ++ line_feed ∷ [] } ∷ []
+one-line keys line found is =
+    let what : Line = line_of keys.scan (head line) in
+    append-nil (if_kept (keeps keys.scan what) (instant_after keys.instant what)
+    (printed_line no_prefix keys.scan line))
+    ∙ kept_some (keeps keys.scan what) (instant_after keys.instant what) found
+    (printed_line no_prefix keys.scan line) is
+    ∙ ap (λ (text : List ℕ). record { instant = found; text = text } ∷ [])
+    (printed-alone keys.scan line)
+
+-- a line is left out
+pub no-line : (keys : Keys) (line : List ℕ) → key_of keys line ≡ None
+    → file_lines keys (line ∷ []) ≡ []
+no-line keys line is =
+    let what : Line = line_of keys.scan (head line) in
+    append-nil (if_kept (keeps keys.scan what) (instant_after keys.instant what)
+    (printed_line no_prefix keys.scan line))
+    ∙ kept_none (keeps keys.scan what) (instant_after keys.instant what)
+    (printed_line no_prefix keys.scan line) is
+
+-- a first line, and then others
+pub file_lines-cons : (keys : Keys) (line : List ℕ) (lines : List (List ℕ))
+    → file_lines keys (line ∷ lines)
+    ≡ file_lines keys (line ∷ []) ++ file_lines (key_after keys line) lines
+file_lines-cons keys line lines =
+    let what : Line = line_of keys.scan (head line) in
+    ap (λ (l : List Keyed). l ++ file_lines (key_after keys line) lines)
+    (sym (append-nil (if_kept (keeps keys.scan what) (instant_after keys.instant what)
+    (printed_line no_prefix keys.scan line))))
+
+-- lines, and then others
+pub file_lines-append : (keys : Keys) (lines others : List (List ℕ))
+    → file_lines keys (lines ++ others)
+    ≡ file_lines keys lines ++ file_lines (keys_after keys lines) others
+file_lines-append keys [] others = refl
+file_lines-append keys (line ∷ lines) others =
+    let what : Line = line_of keys.scan (head line) in
+    let first = if_kept (keeps keys.scan what) (instant_after keys.instant what)
+    (printed_line no_prefix keys.scan line) in
+    ap (λ (l : List Keyed). first ++ l) (file_lines-append (key_after keys line) lines others)
+    ∙ sym (append_assoc first (file_lines (key_after keys line) lines)
+    (file_lines (keys_after (key_after keys line) lines) others))
+
+pub keys_after-append : (keys : Keys) (lines others : List (List ℕ))
+    → keys_after keys (lines ++ others) ≡ keys_after (keys_after keys lines) others
+keys_after-append keys [] others = refl
+keys_after-append keys (line ∷ lines) others =
+    keys_after-append (key_after keys line) lines others
+
+last_line-some : (line : List ℕ) → 0 < length line → last_line line ≡ line ∷ []
+last_line-some [] some = absurd (omega (arith, some))
+last_line-some (byte ∷ bytes) some = refl
+
+last_line-none : (line : List ℕ) → length line ≤ 0 → last_line line ≡ []
+last_line-none [] none = refl
+last_line-none (byte ∷ bytes) none = absurd (omega (arith, none))
+
+-- the last line of a text, to which a line feed was added
+pub lines-ended : (text : List ℕ) (from start end : ℕ) → end ≡ length text → start < end
+    → drop start text ≡ unfinished_line (drop from text)
+    → lines (drop from text) ≡ complete_lines (drop from text)
+    ++ part (text ++ line_feed ∷ []) start end ∷ []
+lines-ended text from start end long some rest =
+    let same : part (text ++ line_feed ∷ []) start end ≡ drop start text =
+    part-grown text (line_feed ∷ []) start end (omega (arith, some)) (omega (arith, long))
+    ∙ ap (λ (n : ℕ). take (n - start) (drop start text)) long
+    ∙ take_rest text start in
+    ap (λ (l : List (List ℕ)). complete_lines (drop from text) ++ l)
+    (ap last_line (sym rest)
+    ∙ last_line-some (drop start text) (omega (arith, some, long, length-drop start text))
+    ∙ ap (λ (l : List ℕ). l ∷ []) (sym same))
+
+-- a text that a line feed ends, or that is empty
+pub lines-complete : (text : List ℕ) (from start : ℕ) → length text ≤ start
+    → drop start text ≡ unfinished_line (drop from text)
+    → lines (drop from text) ≡ complete_lines (drop from text)
+lines-complete text from start none rest =
+    ap (λ (l : List (List ℕ)). complete_lines (drop from text) ++ l)
+    (ap last_line (sym rest)
+    ∙ last_line-none (drop start text) (omega (arith, none, length-drop start text)))
+    ∙ append-nil (complete_lines (drop from text))
+
+-- the lines at places in order are the lines in order
+pub lines-in_order : (text : List ℕ) (places sorted : List Place)
+    → sorted ≡ in_order is_earlier places
+    → lines_at text sorted ≡ in_order is_earlier_line (lines_at text places)
+lines-in_order text places sorted is =
+    ap (lines_at text) is ∙ map-in_order (line_at text) is_earlier_line places
+
+pub placed-permutation : (text : List ℕ) (places sorted : List Place)
+    → IsPermutation places sorted → All (IsPlaced text) places → All (IsPlaced text) sorted
+placed-permutation text places sorted moved within =
+    All-permutation (IsPlaced text) places sorted moved within
+
+-- the line at the next place, and the lines at the others
+pub texts-step : (text : List ℕ) (places : List Place) (index : ℕ) (default : Place)
+    (waiting : List ℕ) → index < length places
+    → waiting ++ texts (lines_at text (drop index places))
+    ≡ (waiting ++ part text (get_or places index default).from (get_or places index default).to)
+    ++ texts (lines_at text (drop (index + 1) places))
+texts-step text places index default waiting below =
+    let place : Place = get_or places index default in
+    ap (λ (l : List Place). waiting ++ texts (lines_at text l))
+    (drop_more places index default below)
+    ∙ sym (append_assoc waiting (part text place.from place.to)
+    (texts (lines_at text (drop (index + 1) places))))
+
+-- no place is left
+pub texts-end : (text : List ℕ) (places : List Place) (index : ℕ) (waiting : List ℕ)
+    → length places ≤ index → waiting ++ texts (lines_at text (drop index places)) ≡ waiting
+texts-end text places index waiting past =
+    ap (λ (l : List Place). waiting ++ texts (lines_at text l)) (drop_all index places past)
+    ∙ append-nil waiting
+
+-- a text was read after another
+read-after : (old new : List ℕ) → take (length old) new ≡ old
+    → new ≡ old ++ drop (length old) new
+read-after old new begins =
+    sym (take-append-drop (length old) new)
+    ∙ ap (λ (l : List ℕ). l ++ drop (length old) new) begins
+
+pub lines_at-read : (old new : List ℕ) (places : List Place) → take (length old) new ≡ old
+    → All (IsPlaced old) places → lines_at new places ≡ lines_at old places
+lines_at-read old new places begins within =
+    ap (λ (text : List ℕ). lines_at text places) (read-after old new begins)
+    ∙ lines_at-grown old (drop (length old) new) places within
+
+pub placed-read : (old new : List ℕ) (places : List Place) → take (length old) new ≡ old
+    → All (IsPlaced old) places → All (IsPlaced new) places
+placed-read old new places begins within =
+    subst (λ (text : List ℕ). All (IsPlaced text) places) (sym (read-after old new begins))
+    (placed-grown old (drop (length old) new) places within)
+
+-- what holds at `Ok`, and what holds at an error
+pub ok_part : {T E P : Type 0} (result : Result T E) → is_err result ≡ false → OnOk result P → P
+ok_part (Ok value) is holds = holds
+ok_part (Err fault) is holds = absurd (true≢false is)
+
+pub err_part : {T E P : Type 0} (result : Result T E) → is_err result ≡ true → OnErr result P → P
+err_part (Ok value) is holds = absurd (false≢true is)
+err_part (Err fault) is holds = holds
+
+-- a call had to write what was left after others, none of which failed
+pub OnlyWrites-after : {W A E : Type 0} {contents : W → Option (List ℕ)} {a b c : Watch W}
+    {left bytes : List ℕ} {result : Result A E}
+    → b.failed ≡ a.failed → b.flushes ≡ a.flushes
+    → AppendsBut left (contents a.inner) (contents b.inner) bytes
+    → OnlyWrites contents b c result [] left → OnlyWrites contents a c result [] bytes
+OnlyWrites-after {result = result} failed flushes sent call =
+    OnlyWrites-then {A = Unit {0}} {E = Unit {0}} {value = tt} result (record {
+      writes = record {
+        failed = failed ∙ sym (or-false _);
+        sent = sent;
+        beginning = tt;
+      };
+      unflushed = flushes;
+    }) call

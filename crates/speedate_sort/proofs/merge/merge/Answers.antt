@@ -1,0 +1,41 @@
+use Rattle.std.proofs.Common.{◌≡◌, ◌++◌, subst, List, ℕ, None}
+use Rattle.speedate_stream.specs.Run.{AppendsBeginning}
+use Rattle.speedate_stream.proofs.SentLemmas.{AppendsBeginning-left, AppendsBeginning-more}
+use Rattle.speedate_sort.specs.Merge.{due, files_left}
+use Rattle.speedate_sort.proofs.SourceLemmas.{merges-all, merges-sent}
+use Rattle.speedate_sort.proofs.merge.merge.Goals as goal
+
+pub returns-in_err-send-clause-beginning : goal.returns-in_err-send-clause-beginning
+returns-in_err-send-clause-beginning g c =
+    let bytes : List ℕ = due (files_left g.R.Read.remaining c.args.sources.now) in
+    λ known.
+    let merges = c.in_ok-halted.ensures.merged known in
+    subst (λ (l : List ℕ). AppendsBeginning (g.W.Write.contents c.args.output.now.inner)
+    (g.W.Write.contents c.send.new.output.inner) (l ++ bytes)) c.new-pending.ensures.empty
+    (AppendsBeginning-left merges.sent
+    (AppendsBeginning-more merges.left c.in_err-send.ensures.sent.writes.beginning))
+
+pub returns-in_err-flush-clause-beginning : goal.returns-in_err-flush-clause-beginning
+returns-in_err-flush-clause-beginning g c = λ known.
+    let merges = c.in_ok-halted.ensures.merged known in
+    record {
+      left = merges.left;
+      sent = merges-sent c.new-pending.ensures.empty merges c.in_ok-send.ensures.sent.writes.sent
+          c.in_err-flush.ensures.bytes;
+    }
+
+pub returns-clause-merged : goal.returns-clause-merged
+returns-clause-merged g c = λ is known.
+    let ended : c.in_ok-halted.halted ≡ None = cc in
+    merges-all (g.W.Write.contents c.flush.new.self.inner) ended c.new-pending.ensures.empty
+    (c.in_ok-halted.ensures.merged known)
+    c.in_ok-send.ensures.sent.writes.sent c.in_ok-flush.ensures.bytes
+
+pub returns-clause-beginning : goal.returns-clause-beginning
+returns-clause-beginning g c = λ known.
+    let merges = c.in_ok-halted.ensures.merged known in
+    record {
+      left = merges.left;
+      sent = merges-sent c.new-pending.ensures.empty merges c.in_ok-send.ensures.sent.writes.sent
+          c.in_ok-flush.ensures.bytes;
+    }

@@ -1,0 +1,302 @@
+//! The command `sort`: the entries of all files in the order of their values.
+
+ghost use Rattle.std.specs.Prelude.{◌≡◌, ◌-◌, ◌++◌, ◌<◌, ◌≤◌, ℤ, All, Err, IfOk, List, OnOk, [], ◌∷◌, drop, false, length, slice_index, true};
+ghost use Rattle.std.specs.Io.KnownBytes.{Appends, IsAtEnd};
+ghost use Rattle.std.specs.List.Sorted.{IsPermutation};
+ghost use Rattle.speedate.specs.Ascii.{line_feed};
+ghost use Rattle.speedate.specs.Lines.{complete_lines, lines, unfinished_line};
+ghost use Rattle.speedate_scan.specs.Entries.{Marked};
+ghost use Rattle.speedate_sort.specs.Sort.{Adds, AreKept, FailsBy, IsPlaced, Keyed, file_lines, in_order};
+ghost use Rattle.speedate_sort.specs.Sort.{instant_after, is_earlier, kept_instant, key_after};
+ghost use Rattle.speedate_sort.specs.Sort.{key_of, keyed, keys_after, lines_at, part};
+ghost use Rattle.speedate_sort.specs.Sort.{sorted_entries, sorted_text, texts};
+ghost use Rattle.speedate_scan.specs.Scan.{passed};
+ghost use Rattle.speedate_stream.specs.Run.{AppendsBeginning, OnlyWrites, Writes};
+
+use speedate::line_end;
+use speedate_scan::scan::{Line, Scan};
+use speedate_stream::run::{head, pass, send};
+use speedate_stream::{Failed, Pending, Watched};
+use std::alloc::{AllocError, Global};
+use std::io::{ErrorKind, Read, Write};
+use std::marker::Model;
+
+/// What is known of the lines so far.
+#[derive(Clone, Copy)]
+pub struct Keys<'a> {
+    /// What each line is to a command, and what is counted of the lines.
+    pub scan: Scan<'a>,
+    /// The value of the entry that has begun, in microseconds as `Found::instant` counts them; the least
+    /// number before the first entry.
+    pub instant: i64,
+}
+
+/// Where a line stands in a text.
+#[derive(Clone, Copy, Debug)]
+pub struct Place {
+    /// The value of its entry.
+    pub instant: i64,
+    /// Where it begins.
+    pub from: usize,
+    /// Where the next one begins: the byte after its line feed.
+    pub to: usize,
+}
+
+/// Why the lines of an input were not added.
+#[derive(Clone, Copy, Debug, PartialEq, Eq)]
+pub enum Unread {
+    /// The input failed: the complete lines that were read are added.
+    Read,
+    /// Memory ran out.
+    Memory,
+}
+
+/// Why lines were not printed.
+#[derive(Clone, Copy, Debug, PartialEq, Eq)]
+pub enum Unsorted {
+    /// Memory ran out, and nothing was written.
+    Memory,
+    /// The output failed: what was written is a beginning of what is printed.
+    Write,
+}
+
+/// Lines in memory, each with the value of its entry.
+#[derive(Drop)]
+pub struct Lines {
+    text: Vec<u8>,
+    places: Vec<Place>,
+}
+
+impl Model for Lines {
+    ghost Value = { List Keyed };
+
+    ghost view = { λ lines. lines_at lines.text.items lines.places.items };
+
+    ghost invariant = { λ lines. All (IsPlaced lines.text.items) lines.places.items };
+}
+
+impl Keys<'_> {
+    /// The value of the entry of a line.
+    fn instant_after(&self, line: &Line) -> i64
+        ensures instant { result ≡ instant_after self.now.instant line.now }
+    {
+        match line {
+            Line::Value(found) => found.instant,
+            _ => self.instant,
+        }
+    }
+
+    /// Counts a line, and returns the value of its entry, or `None` if the line is left out.
+    fn pass(&mut self, line: &[u8]) -> Option<i64>
+        ensures key { result ≡ key_of self.old line.now }
+        ensures after { self.new ≡ key_after self.old line.now }
+    {
+        let line = self.scan.line(head(line));
+        self.pass_line(line)
+    }
+
+    /// Counts a line by what it is, and returns the value of its entry, or `None` if the line is left
+    /// out.
+    pub fn pass_line(&mut self, line: Line) -> Option<i64>
+        ensures key { result ≡ kept_instant self.old line }
+        ensures after { self.new ≡ record {
+          scan = passed self.old.scan line;
+          instant = instant_after self.old.instant line;
+        } }
+    {
+        let instant = self.instant_after(&line);
+        let is_kept = self.scan.keeps(&line);
+        self.scan.pass(line);
+        self.instant = instant;
+        if is_kept { Some(instant) } else { None }
+    }
+}
+
+/// Adds a line of a text, which is ended by the line feed at `end`, unless it is left out.
+fn place_line(
+    keys: &mut Keys<'_>,
+    text: &[u8],
+    from: usize,
+    end: usize,
+    places: &mut Vec<Place>,
+) -> Result<(), AllocError>
+    requires ordered { from ≤ end }
+    requires inside { end < length text.now }
+    requires ends { slice_index text.now end ≡ line_feed }
+    requires within { All (IsPlaced text.now) places.old.items }
+    ensures within { All (IsPlaced text.now) places.new.items }
+    ensures keys { keys.new ≡ key_after keys.old (part text.now from end) }
+    ensures placed { OnOk result (lines_at text.now places.new.items
+        ≡ lines_at text.now places.old.items
+        ++ file_lines keys.old (part text.now from end ∷ [])) }
+{
+    if let Some(instant) = keys.pass(&text[from..end]) {
+        places.push(Place {
+            instant,
+            from,
+            to: end + 1,
+        })?;
+    }
+    Ok(())
+}
+
+/// Adds the complete lines of a text from a byte on, and returns where the unfinished line begins.
+fn place_complete(
+    keys: &mut Keys<'_>,
+    text: &[u8],
+    from: usize,
+    places: &mut Vec<Place>,
+) -> Result<usize, AllocError>
+    requires inside { from ≤ length text.now }
+    requires within { All (IsPlaced text.now) places.old.items }
+    ensures within { All (IsPlaced text.now) places.new.items }
+    ensures keys { OnOk result (keys.new ≡ keys_after keys.old (complete_lines (drop from text.now))) }
+    ensures placed { OnOk result (lines_at text.now places.new.items
+        ≡ lines_at text.now places.old.items
+        ++ file_lines keys.old (complete_lines (drop from text.now))) }
+    ensures start { IfOk result (λ start. start ≤ length text.now) }
+    ensures rest { IfOk result (λ start. drop start text.now ≡ unfinished_line (drop from text.now)) }
+{
+    let mut start = from;
+    while let Some(end) = line_end(text, start) {
+        place_line(keys, text, start, end, places)?;
+        start = end + 1;
+    }
+    Ok(start)
+}
+
+/// Adds the lines of a text from a byte on. A last line without line feed gets one.
+fn place_all(
+    keys: &mut Keys<'_>,
+    text: &mut Vec<u8>,
+    from: usize,
+    places: &mut Vec<Place>,
+) -> Result<(), AllocError>
+    requires inside { from ≤ length text.old.items }
+    requires within { All (IsPlaced text.old.items) places.old.items }
+    ensures within { All (IsPlaced text.new.items) places.new.items }
+    ensures keys { OnOk result (keys.new ≡ keys_after keys.old (lines (drop from text.old.items))) }
+    ensures placed { OnOk result (lines_at text.new.items places.new.items
+        ≡ lines_at text.old.items places.old.items
+        ++ file_lines keys.old (lines (drop from text.old.items))) }
+{
+    let start = place_complete(keys, text, from, places)?;
+    let end = text.len();
+    if start < end {
+        text.push(b'\n')?;
+        place_line(keys, text, start, end, places)?;
+    }
+    Ok(())
+}
+
+/// Brings places into the order of the values of their lines. Those of one value stay as they are.
+fn sort_places(places: &mut Vec<Place>) -> Result<(), AllocError>
+    ensures permutation { IsPermutation places.old.items places.new.items }
+    ensures sorted { OnOk result (places.new.items ≡ in_order is_earlier places.old.items) }
+{
+    places.sort_by_key(|place| place.instant)
+}
+
+/// Writes the lines at places of a text, one after the other.
+fn write_places<W: Write>(
+    text: &[u8],
+    places: &[Place],
+    output: &mut Watched<W>,
+) -> Result<(), Failed>
+    requires within { All (IsPlaced text.now) places.now }
+    ensures sent { OnlyWrites W.contents output.old output.new result []
+        (texts (lines_at text.now places.now)) }
+{
+    let mut pending = Pending::new();
+    for place in places {
+        pass(&text[place.from..place.to], &mut pending, output)?;
+    }
+    send(&mut pending, output)
+}
+
+/// Writes the lines at places of a text, one after the other, and flushes.
+fn print_places<W: Write>(
+    text: &[u8],
+    places: &[Place],
+    output: &mut Watched<W>,
+) -> Result<(), Failed>
+    requires within { All (IsPlaced text.now) places.now }
+    ensures printed { Writes W.contents output.old output.new result []
+        (texts (lines_at text.now places.now)) }
+    ensures flushed { OnOk result (output.new.flushed ≡ true) }
+{
+    write_places(text, places, output)?;
+    output.flush()
+}
+
+impl Lines {
+    /// No lines.
+    pub fn new(alloc: Global) -> Self
+        ensures empty { result ≡ [] }
+    {
+        Lines {
+            text: Vec::new(alloc),
+            places: Vec::new(alloc),
+        }
+    }
+
+    /// Adds the lines of an input, which is read to its end.
+    ///
+    /// Fails with `Unread::Read` if a read fails: the complete lines that were read are added. Fails
+    /// with `Unread::Memory` if memory runs out.
+    pub fn add<R: Read>(&mut self, keys: &mut Keys<'_>, input: &mut R) -> Result<(), Unread>
+        ensures added { OnOk result (Adds lines self.old self.new keys.old keys.new
+            (R.remaining input.old) (R.remaining input.new)) }
+        ensures ended { OnOk result (IsAtEnd (R.remaining input.new)) }
+        ensures read_failed { result ≡ Err Unread.Read → Adds complete_lines self.old self.new
+            keys.old keys.new (R.remaining input.old) (R.remaining input.new) }
+    {
+        let from = self.text.len();
+        match input.read_to_end(&mut self.text) {
+            Ok(_) => {
+                if place_all(keys, &mut self.text, from, &mut self.places).is_err() {
+                    return Err(Unread::Memory);
+                }
+                Ok(())
+            }
+            Err(error) => {
+                if error.kind() == ErrorKind::OutOfMemory {
+                    return Err(Unread::Memory);
+                }
+                if place_complete(keys, &self.text, from, &mut self.places).is_err() {
+                    return Err(Unread::Memory);
+                }
+                Err(Unread::Read)
+            }
+        }
+    }
+
+    /// Writes the lines in the order of the values of their entries, and flushes. Lines of entries of one
+    /// value stay in the order in which they were added.
+    ///
+    /// Fails with `Unsorted::Memory` if memory runs out, and then nothing is written, and with
+    /// `Unsorted::Write` if a write or the flush fails.
+    pub fn print<W: Write>(&mut self, output: &mut Watched<W>) -> Result<(), Unsorted>
+        ensures sorted { OnOk result (Appends (W.contents output.old.inner)
+            (W.contents output.new.inner) (sorted_text self.old)) }
+        // The lines of files are then entries in the order of their values, each whole.
+        ensures entries { OnOk result ((instant : ℤ) (lines : List Marked) → AreKept lines
+            → self.old ≡ keyed instant lines
+            → Appends (W.contents output.old.inner) (W.contents output.new.inner)
+            (sorted_entries instant lines)) }
+        ensures flushed { OnOk result (output.new.flushed ≡ true) }
+        ensures memory { result ≡ Err Unsorted.Memory → output.new ≡ output.old }
+        // If the output had not failed before, it has failed if and only if the answer says so.
+        ensures failed { output.old.failed ≡ false → FailsBy result output.new.failed }
+        ensures write_failed { result ≡ Err Unsorted.Write → AppendsBeginning
+            (W.contents output.old.inner) (W.contents output.new.inner) (sorted_text self.old) }
+    {
+        if sort_places(&mut self.places).is_err() {
+            return Err(Unsorted::Memory);
+        }
+        if print_places(&self.text, &self.places, output).is_err() {
+            return Err(Unsorted::Write);
+        }
+        Ok(())
+    }
+}
