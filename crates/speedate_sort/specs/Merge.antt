@@ -135,13 +135,14 @@ number_after scan number line = if is_value line then one_more scan.number else 
 abbrev pub number_of : Keys → ℕ → List ℕ → ℕ
 number_of keys number text = number_after keys.scan number (line_of keys.scan (head text))
 
--- a text was read last, and is counted in one of these numbers, if it has a value
+-- a line of this text was read last: the number of the last line that has a value, before and after
+-- it
 pub record IsCounted (new : Keys) (text : List ℕ) (before after : ℕ) : Type 0 where
   pub keys : Keys
   pub passed : new ≡ key_after keys text
   pub number : after ≡ number_of keys before text
 
--- the same of a line with a line feed, if there is one
+-- the same of one line, if there is one; without one the number stays as it is
 abbrev pub IsNumbered : Keys → List (List ℕ) → ℕ → ℕ → Type 0
 IsNumbered new [] before after = after ≡ before
 IsNumbered new (text ∷ others) before after = IsCounted new text before after

@@ -50,7 +50,7 @@ pub fn full_front(bytes: &[u8]) -> Option<(DateTime, usize)>
         date_time_front behavior bytes.now ≡ Ok (date_and_time front.0, front.1)) }
     ensures within { IfSome result (λ front. front.1 ≤ length bytes.now) }
 {
-    // The calls of `utc_front` again: a function that both call makes columns slower.
+    // The calls of `utc_front` again: in a function for both the compiler makes other code of them.
     if !has_full_clock(bytes) || !has_separator(bytes) {
         return None;
     }
