@@ -549,8 +549,8 @@ int is_missing(const State *state, PyObject **kept, PyObject *item) {
     return 0;
 }
 
-/* Takes the integer of an item. One over 64 bits becomes the nearest of 64 that is not NOT_A_TIME, and is refused as that is. */
-int take_whole(const State *state, const char *name, Py_ssize_t index, PyObject *item, int64_t *out) {
+/* Takes the integer of an item. */
+int take_whole(const State *state, const char *name, Py_ssize_t index, PyObject *item, Whole *out) {
     PyObject *plain = item;
     int overflow;
     Py_INCREF(plain);
@@ -559,16 +559,16 @@ int take_whole(const State *state, const char *name, Py_ssize_t index, PyObject 
         if (!(plain = PyObject_CallFunction(state->held[WHOLE], "snO", name, index, item)))
             return -1;
     }
-    *out = PyLong_AsLongLongAndOverflow(plain, &overflow);
+    out->number = PyLong_AsLongLongAndOverflow(plain, &overflow);
+    out->fits = overflow == 0;
     Py_DECREF(plain);
-    if (overflow != 0)
-        *out = overflow > 0 ? INT64_MAX : INT64_MIN + 1;
     return PyErr_Occurred() ? -1 : 0;
 }
 
 /* The number of a timestamp, or what becomes of it if it is refused. */
-static inline int add_timestamp(Column *column, int64_t timestamp, int64_t *number) {
-    int code = column->reader.of_timestamp(&column->reader, timestamp, number);
+static inline int add_timestamp(Column *column, Whole timestamp, int64_t *number) {
+    int code = timestamp.fits ? column->reader.of_timestamp(&column->reader, timestamp.number, number)
+                              : SPEEDATE_NUMBER_TOO_LARGE;
     if (code == SPEEDATE_OK)
         return 0;
     *number = NOT_A_TIME;
@@ -577,7 +577,7 @@ static inline int add_timestamp(Column *column, int64_t timestamp, int64_t *numb
 
 /* The same of an object that is an integer, or stands for one. */
 static int read_integer(Column *column, PyObject *item, int64_t *number) {
-    int64_t timestamp;
+    Whole timestamp;
     if (take_whole(column->state, "text", next_index(column), item, &timestamp) < 0)
         return -1;
     return add_timestamp(column, timestamp, number);
@@ -629,20 +629,20 @@ static int read_item(Column *column, PyObject *item, bool is_line, int64_t *numb
     return raise_error(call_on_item(column, WRONG_ITEM, item)), -1;
 }
 
-/* An integer of a buffer, or the nearest of 64 bits. */
-int64_t whole_at(const Py_buffer *buffer, size_t place) {
+/* An integer of a buffer. */
+Whole whole_at(const Py_buffer *buffer, size_t place) {
     const char *at = (const char *)buffer->buf + place * (size_t)buffer->itemsize;
 #define WHOLE_OF(letter, type) \
     case letter: { \
         type it; \
         memcpy(&it, at, sizeof it); \
-        return it; \
+        return (Whole){it, true}; \
     }
 #define LARGE_WHOLE_OF(letter, type) \
     case letter: { \
         type it; \
         memcpy(&it, at, sizeof it); \
-        return it > INT64_MAX ? INT64_MAX : (int64_t)it; \
+        return it > INT64_MAX ? (Whole){0, false} : (Whole){(int64_t)it, true}; \
     }
     switch (*buffer->format) {
         WHOLE_OF('h', short)

@@ -195,11 +195,17 @@ int part_in_column(int call, SpeedateConfig config, PyObject *object, const Text
 #define BLOCK 32768     /* numbers at a time */
 #define TURN_ITEMS 1024 /* after which other threads may have their turn */
 
+/* An integer, if it fits 64 bits. The number is meaningless otherwise. */
+typedef struct {
+    int64_t number;
+    bool fits;
+} Whole;
+
 bool has_integers(const Py_buffer *buffer);
 int view_memory(PyObject *texts, bool (*has)(const Py_buffer *), PyObject **view);
-int64_t whole_at(const Py_buffer *buffer, size_t place);
+Whole whole_at(const Py_buffer *buffer, size_t place);
 int is_missing(const State *state, PyObject **kept, PyObject *item);
-int take_whole(const State *state, const char *name, Py_ssize_t index, PyObject *item, int64_t *out);
+int take_whole(const State *state, const char *name, Py_ssize_t index, PyObject *item, Whole *out);
 int give_turn(const State *state);
 
 /* ---- Calls ---- */

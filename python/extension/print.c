@@ -174,39 +174,35 @@ PRINT_LINES(print_date_times, speedate_datetime_print_column)
 PRINT_LINES(print_clocks, speedate_datetime_clock_print_column)
 PRINT_LINES(print_durations, speedate_duration_print_column)
 
-/* The number of 32 bits that is nearest to one of 64: what does not fit is no day in either. */
-static int32_t narrowed(int64_t number) {
-    if (number == NOT_A_TIME)
-        return INT32_MIN;
-    return number > INT32_MAX ? INT32_MAX : number <= INT32_MIN ? INT32_MIN + 1 : (int32_t)number;
-}
-
-/* Days have 64 bits in NumPy, and 32 in C. They move forward in their places. */
+/* Days have 64 bits in NumPy, and 32 in C, which all of these fit. They move forward in their places. */
 static int print_dates(int64_t *numbers, size_t count, char *lines, size_t size, SpeedateProgress *progress) {
     for (size_t i = 0; i < count; i++) {
-        int32_t day = narrowed(numbers[i]);
+        int32_t day = numbers[i] == NOT_A_TIME ? INT32_MIN : (int32_t)numbers[i];
         memcpy((char *)numbers + i * sizeof day, &day, sizeof day);
     }
     return speedate_date_print_column((const int32_t *)numbers, count, lines, size, progress);
 }
 
-/* The kinds of columns that can be printed, by the name of the call that reads one. */
+/* The kinds of columns that can be printed, by the name of the call that reads one, and the largest number that C can
+ * take. The smallest is its opposite, since one less stands for a refused line. */
 enum { KINDS = 5 };
 static const struct {
     const char *name;
     PrintLines *print;
+    int64_t largest;
 } kinds[KINDS] = {
-    {"date", print_dates},
-    {"time", print_times},
-    {"date_time", print_date_times},
-    {"date_time_clock", print_clocks},
-    {"duration", print_durations},
+    {"date", print_dates, INT32_MAX},
+    {"time", print_times, INT64_MAX},
+    {"date_time", print_date_times, INT64_MAX},
+    {"date_time_clock", print_clocks, INT64_MAX},
+    {"duration", print_durations, INT64_MAX},
 };
 
 /* A column that is printed: its lines so far, with room after them, and the numbers of the next ones. */
 typedef struct {
     const State *state;
     PrintLines *print;
+    int64_t largest;
     PyObject *missing; /* what pandas has for a missing item, once that was asked for */
     PyObject *lines;
     Py_ssize_t used;   /* bytes of the lines */
@@ -241,13 +237,6 @@ static int print_numbers(PrintedColumn *column) {
     return PyErr_CheckSignals();
 }
 
-static int put_number(PrintedColumn *column, int64_t number) {
-    column->numbers[column->count++] = number;
-    if (column->count % TURN_ITEMS == 0 && give_turn(column->state) < 0)
-        return -1;
-    return column->count < BLOCK ? 0 : print_numbers(column);
-}
-
 /* Prints the numbers before an item that failed, of which one may have no text: the first error is raised. */
 static int fail_after_numbers(PrintedColumn *column) {
     PyObject *type, *value, *traceback;
@@ -262,8 +251,21 @@ static int fail_after_numbers(PrintedColumn *column) {
     return -1;
 }
 
+static int put_number(PrintedColumn *column, Whole whole) {
+    bool is_taken = whole.number == NOT_A_TIME || (-column->largest <= whole.number && whole.number <= column->largest);
+    if (!whole.fits || !is_taken) {
+        Py_ssize_t index = column->before + (Py_ssize_t)column->count;
+        raise_error(new_fault_at(column->state, SPEEDATE_NUMBER_TOO_LARGE, index));
+        return fail_after_numbers(column);
+    }
+    column->numbers[column->count++] = whole.number;
+    if (column->count % TURN_ITEMS == 0 && give_turn(column->state) < 0)
+        return -1;
+    return column->count < BLOCK ? 0 : print_numbers(column);
+}
+
 static int put_item(PrintedColumn *column, PyObject *item) {
-    int64_t number = NOT_A_TIME;
+    Whole number = {NOT_A_TIME, true};
     int missing = PyLong_CheckExact(item) ? 0 : is_missing(column->state, &column->missing, item);
     Py_ssize_t index = column->before + (Py_ssize_t)column->count;
     if (missing < 0 || (!missing && take_whole(column->state, "number", index, item, &number) < 0))
@@ -327,6 +329,7 @@ PyObject *call_text_column(GIVEN) {
     PyObject *counted = !place ? NULL : PyObject_CallFunctionObjArgs(column.state->held[NUMBERS_OF], bound[0], bound[1], NULL);
     if (counted) {
         column.print = kinds[PyLong_AsLong(place)].print;
+        column.largest = kinds[PyLong_AsLong(place)].largest;
         lines = lines_of(&column, counted);
     }
     Py_XDECREF(counted);

@@ -146,7 +146,10 @@ class Fault(Refusal):
     def _found(self, call):
         from ._speedate import _found
 
-        return _found(self.code, None, 0) if call is None else _found(self.code, self._source, call)
+        if call is not None:
+            return _found(self.code, self._source, call)
+        # That of the library is about the text of a duration.
+        return (None, None, "a number that fits 64 bits, or 32 if it counts days") if self.name == "number_too_large" else _found(self.code, None, 0)
 
     def __repr__(self):
         return f"<{type(self).__name__} {self._named()}>"

@@ -57,6 +57,8 @@ class Fault(Refusal):
             self.index = index
 
     def expected(self):
+        if self.name == "number_too_large" and self.text is None:
+            return "a number that fits 64 bits, or 32 if it counts days"
         return _expected(self.code, self.kind)
 
 
@@ -445,10 +447,10 @@ def _is_integer(text):
     return hasattr(text, "__index__") and not isinstance(text, (str, bytes, bytearray, memoryview))
 
 
-def _clamped(name, index, value):
-    """An integer, or the nearest one of 64 bits that is not the number of a missing one."""
-    number = _whole(name, index, value)
-    return max(1 - 2**63, min(number, 2**63 - 1))
+def _fitting(number, least, most):
+    if not least <= number <= most:
+        raise Fault(97)  # number_too_large
+    return number
 
 
 def _column(read, place_of, texts, faults, newline, empty, lines, read_integer=None, has_timestamps=False):
@@ -466,12 +468,12 @@ def _column(read, place_of, texts, faults, newline, empty, lines, read_integer=N
             text = _digits(index, text, has_timestamps)
         elif not is_integer and not isinstance(text, (str, bytes, bytearray, memoryview)):
             raise _wrong_item(index, text, has_timestamps)
-        whole = _clamped("text", index, text) if is_integer else _bytes(text, f"text {index}")
+        whole = _whole("text", index, text) if is_integer else _bytes(text, f"text {index}")
         if whole == b"" and empty == "nat":
             column.append(-(2**63))
             continue
         try:
-            column.append((read_integer if is_integer else read)(whole))
+            column.append(read_integer(_fitting(whole, -(2**63), 2**63 - 1)) if is_integer else read(whole))
         except Fault as fault:
             fault = Fault(fault.code, index)
             if not is_integer:
@@ -676,7 +678,6 @@ def _line(number, kind):
     """The text of a number of a column, by the calls that make the value of a number and print it."""
     micros, out = _Config(0, kind == "date_time", 3), {"date": _Date, "time": _Time, "duration": _Duration}.get(kind, _DateTime)()
     if kind == "date":
-        number = max(-(10**12), min(number, 10**12))
         _check(_library.speedate_date_from_timestamp(number * 86_400, 1, _Config(0, 0, 1), out))
         return _printed(_library.speedate_date_to_text, out)
     if kind == "time":
@@ -692,11 +693,11 @@ def _line(number, kind):
 
 def text_column(numbers, kind):
     _choice("kind", kind, "date", "time", "date_time", "date_time_clock", "duration")
-    lines = []
+    lines, most = [], 2**31 - 1 if kind == "date" else 2**63 - 1
     for index, it in enumerate(_numbers_of(numbers, kind)):
-        number = -(2**63) if _is_missing(it) else _clamped("number", index, it) if it != -(2**63) else it
+        number = -(2**63) if _is_missing(it) else _whole("number", index, it)
         try:
-            lines.append("" if number == -(2**63) else _line(number, kind))
+            lines.append("" if number == -(2**63) else _line(_fitting(number, -most, most), kind))
         except Fault as fault:
             raise Fault(fault.code, index) from None
     return "".join(f"{it}\n" for it in lines).encode()

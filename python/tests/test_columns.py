@@ -552,6 +552,47 @@ PRINTED = {
     "duration": (speedate.duration_column, 1 - 2**63, 2**63 - 1, lambda it: datetime.timedelta(microseconds=it))}
 
 
+# Where a number gets wider than a type, and those beside it.
+EDGES = [sign * (2**bits + more) for bits in (7, 8, 15, 16, 31, 32, 53, 63, 64) for more in (-1, 0, 1) for sign in (-1, 1)]
+EDGES += [sign * (10**30 + more) for more in (-1, 0, 1) for sign in (-1, 1)]
+
+
+def refusal_of(kind, number):
+    """The name of the fault of a number that has no text in a column of a kind, or None."""
+    _, least, most, _ = PRINTED[kind]
+    if number == NAT or least <= number <= most:
+        return None
+    if abs(number) >= (2**31 if kind == "date" else 2**63):
+        return "number_too_large"
+    return "time_too_large" if kind == "time" else "date_too_large" if number > 0 else "date_too_small"
+
+
+def sources_of(number):
+    """Columns whose last item is the number, in each type that has it: most of these are from 1 to 64 bits wide."""
+    class Index:
+        def __index__(self):
+            return number
+
+    sources = [[0, number], (0, number), [0, Index()]]
+    sources += [array.array(code, [0, number]) for code in "hilqHILQ" if fits(number, array.array(code).itemsize * 8, code.isupper())]
+    for bits in (8, 16, 32, 64):
+        for unsigned in (False, True):
+            if numpy and fits(number, bits, unsigned):
+                whole = numpy.array([0, number], f"{'u' if unsigned else 'i'}{bits // 8}")
+                # Columns of bytes are texts.
+                sources += [whole] * (bits > 8) + [whole.astype(whole.dtype.newbyteorder(">")), whole.astype(object), [0, whole[1]]]
+                if pandas:
+                    name = f"{'UInt' if unsigned else 'Int'}{bits}"
+                    sources += [pandas.Series(whole)] * (bits > 8) + [pandas.Series(whole, dtype=name), pandas.Series([None, number], dtype=name)]
+    if pandas:
+        sources.append(pandas.Series([0, number], dtype=object))
+    return [it for it in sources if not (isinstance(it, numpy.ndarray if numpy else ()) and it.dtype.itemsize == 1)]
+
+
+def fits(number, bits, unsigned):
+    return 0 <= number < 2**bits if unsigned else -(2 ** (bits - 1)) <= number < 2 ** (bits - 1)
+
+
 class Printed(unittest.TestCase):
     """Columns that are printed, beside the call that reads them and the texts of single values."""
 
@@ -568,17 +609,50 @@ class Printed(unittest.TestCase):
                 if not (number != NAT and least < 0 and kind != "duration" and number < least + 366 * (1 if kind == "date" else 86_400_000_000)):
                     self.assertEqual(line, "" if number == NAT else speedate.text(value(number)))
             for number in (least - 1, most + 1, 2**63 - 1, 1 - 2**63, 2**64, -(2**64)):
-                if not least <= number <= most or kind != "duration":
+                if refusal_of(kind, number):
                     self.check_refused(kind, [0] * 5 + [number] + [0], number)
 
     def check_refused(self, kind, numbers, number):
-        if number == NAT or kind == "duration":
-            return
         with self.assertRaises(speedate.Fault) as caught:
             speedate.text_column(numbers, kind)
-        self.assertEqual((caught.exception.index, caught.exception.name), (5, "time_too_large" if kind == "time" else "date_too_large" if number > 0 else "date_too_small"))
+        self.assertEqual((caught.exception.index, caught.exception.name), (5, refusal_of(kind, number)))
         with self.assertRaisesRegex(speedate.Fault, "^[a-z_]*_too_(large|small) in text 40000: expected "):
             speedate.text_column(itertools.chain([0] * 40_000, [number]), kind)
+
+    def test_wide_numbers(self):
+        for kind, (*_, value) in PRINTED.items():
+            for number in EDGES:
+                refusal = refusal_of(kind, number)
+                for numbers in sources_of(number):
+                    if refusal is None:
+                        line = speedate.text_column(numbers, kind).split(b"\n")[1]
+                        self.assertEqual(line.decode(), "" if number == NAT else speedate.text(value(number)), (kind, numbers))
+                        continue
+                    with self.assertRaises(speedate.Fault) as caught:
+                        speedate.text_column(numbers, kind)
+                    self.assertEqual((caught.exception.name, caught.exception.index), (refusal, 1), (kind, numbers))
+
+    def test_wide_timestamps(self):
+        unit = speedate.Config("us", 0)
+        for read in (speedate.date_time_column, speedate.date_time_clock_column, speedate.date_time_offset_column, speedate.date_column):
+            read = functools.partial(read, timestamps=True, config=unit)
+            for number in EDGES:
+                if abs(number) < 2**62:
+                    refusal = None if read.func is not speedate.date_column else "date_not_exact"
+                else:
+                    refusal = "number_too_large" if not fits(number, 64, False) else "date_too_large" if number > 0 else "date_too_small"
+                wanted = NAT if refusal else 0 if read.func is speedate.date_time_offset_column else number
+                for numbers in sources_of(number):
+                    faults, table = [], {}
+                    for it in (faults, table):
+                        self.assertEqual(read(numbers, faults=it)[1], wanted, numbers)
+                    if refusal is None:
+                        self.assertEqual((faults, len(table["code"])), ([], 0))
+                        continue
+                    self.assertEqual([(it.name, it.index, it.text) for it in faults], [(refusal, 1, None)], numbers)
+                    self.assertEqual([it.tolist() for it in table.values()], [[1], [faults[0].code], [-1]])
+                    with self.assertRaisesRegex(speedate.Fault, f"^{refusal} in text 1: expected "):
+                        read(numbers)
 
     def test_sources(self):
         for kind, (read, *_) in PRINTED.items():

@@ -1,4 +1,5 @@
 mod ReadingLemmas
 mod WordLemmas
+mod ZoneLemmas
 mod FieldLemmas
 pub mod SeenLemmas

@@ -1,3 +1,4 @@
+pub mod Zone
 pub mod Field
 pub mod Reading
 pub mod Amount

@@ -30,7 +30,8 @@ call_kind Form.Date = CallKind.Date
 -- what was expected, as a phrase
 unfoldable pub expected_by : Why → CallKind → List ℕ
 expected_by (Why.Parse fault) kind = expected_text fault kind
-expected_by Why.Within kind = codes "a value within the first 4,096 bytes"
+expected_by Why.Within kind = codes "a value within the first 4,080 bytes"
+expected_by Why.End kind = codes "the end of the value"
 expected_by Why.NoOffset kind = codes "no offset"
 expected_by Why.NoYearsOrMonths kind = codes "a duration without years and months"
 

@@ -6,19 +6,21 @@ use Rattle.std.specs.Char.{is_ascii_digit}
 use Rattle.std.specs.List.{starts_with}
 use Rattle.speedate.specs.Base.{Behavior, ParseError}
 use Rattle.speedate.specs.Ascii.{hyphen}
-use Rattle.speedate.specs.Requirement.{result_map, with_size, ◌>>=◌}
+use Rattle.speedate.specs.Requirement.{first_fault_or, result_map, with_no_more_or, with_size}
+use Rattle.speedate.specs.Requirement.{◌>>=◌}
 use Rattle.speedate.specs.Refused.{placed, refused_place}
 use Rattle.speedate_base.specs.declared.refusal.Refused.{Refused}
 use Rattle.speedate.specs.Calendar.{Ymd}
 use Rattle.speedate.specs.Date.{date_answer, date_answer_or, date_front, date_front_or}
-use Rattle.speedate.specs.DateTime.{DateAndTime, date_time_answer}
-use Rattle.speedate.specs.DateTime.{date_time_answer_or, date_time_front}
-use Rattle.speedate.specs.DateTime.{date_time_front_or, date_time_with_offset, utc_microsecond}
+use Rattle.speedate.specs.DateTime.{DateAndTime, date_time_front}
+use Rattle.speedate.specs.DateTime.{date_time_front_or, date_time_with_offset, separator_table}
+use Rattle.speedate.specs.DateTime.{utc_microsecond}
 use Rattle.speedate.specs.Lines.{without_return}
 use Rattle.speedate.specs.Strict.{strict_date_time_answer, strict_date_time_answer_or}
-use Rattle.speedate.specs.Time.{minute_time}
+use Rattle.speedate.specs.Time.{Clock, clock_front, clock_with_offset, end_fault, minute_time}
 use Rattle.speedate_stream.specs.Machine.{longest_line}
 use Rattle.speedate_scan.specs.Field.{Field, nth_field}
+use Rattle.speedate_scan.specs.Zone.{is_boundary, late_zone, zone_front}
 pub use Rattle.speedate_scan.specs.declared.reading.Place.{Place}
 pub use Rattle.speedate_scan.specs.declared.form.Form.{Form}
 pub use Rattle.speedate_scan.specs.declared.reading.Reader.{Reader}
@@ -34,9 +36,37 @@ abbrev pub with_place : {A : Type 0} → Result A ParseError → Option ℕ → 
 with_place (Ok value) place = Ok value
 with_place (Err fault) place = Err (placed fault (unwrap_or place 0))
 
--- the date-time at the front of a text, and how many bytes it takes
+-- a date, a separator and a clock at the front of a text, as the library reads them
+abbrev pub date_and_clock : Behavior → List ℕ → Result (Ymd × Clock) ParseError
+date_and_clock behavior text = do
+  date ← date_front text
+  clock ← first_fault_or (separator_table text) (clock_front behavior (drop 11 text))
+  Ok (date.0, clock)
+
+-- the date-time of a date, a clock and the zone after it, and how many bytes it takes
+abbrev pub zoned : Ymd → Clock → Option ℤ × ℕ → DateAndTime × ℕ
+zoned date clock zone =
+    (record { date = date; time = clock_with_offset clock zone.0 }, (11 + clock.size) + zone.1)
+
+-- the date-time at the front of a text: a date, a separator and a clock, and then the zone
 unfoldable pub relaxed_front : Behavior → List ℕ → Result (DateAndTime × ℕ) Refused
-relaxed_front behavior text =
+relaxed_front behavior text = do
+  front ← with_place (date_and_clock behavior text)
+      (refused_place (date_time_front_or placed behavior text))
+  zone ← zone_front (11 + front.1.size) (drop (11 + front.1.size) text)
+  Ok (zoned front.0 front.1 zone)
+
+-- a date-time that the library read at the front of a text, with the zone that may come after a
+-- blank
+abbrev pub with_late_zone : List ℕ → DateAndTime × ℕ → DateAndTime × ℕ
+with_late_zone text (value, size) =
+    if is_some value.time.offset then (value, size)
+    else let zone = late_zone (drop size text) in
+    (record value { time = record value.time { offset = zone.0 } }, size + zone.1)
+
+-- the date-time that the library reads at the front of a text, and how many bytes it takes
+unfoldable pub library_front : Behavior → List ℕ → Result (DateAndTime × ℕ) Refused
+library_front behavior text =
     with_place (date_time_front behavior text)
     (refused_place (date_time_front_or placed behavior text))
 
@@ -49,7 +79,7 @@ strict_whole behavior text =
 -- the date-time at the front of a text, whose own text is one of RFC 3339 alone
 unfoldable pub strict_front : Behavior → List ℕ → Result (DateAndTime × ℕ) Refused
 strict_front behavior text = do
-  front ← relaxed_front behavior text
+  front ← library_front behavior text
   value ← strict_whole behavior (take front.1 text)
   Ok (value, front.1)
 
@@ -69,11 +99,11 @@ front_of Form.DateTime behavior text = relaxed_front behavior text
 front_of Form.Strict behavior text = strict_front behavior text
 front_of Form.Date behavior text = midnight_front text
 
--- the date-time that a text is
+-- the date-time that a text is: nothing follows the one at its front
 unfoldable pub relaxed_whole : Behavior → List ℕ → Result DateAndTime Refused
-relaxed_whole behavior text =
-    with_place (date_time_answer behavior text)
-    (refused_place (date_time_answer_or placed behavior text))
+relaxed_whole behavior text = do
+  value ← relaxed_front behavior text
+  with_no_more_or placed (λ read. end_fault read.time.offset) text value
 
 -- the midnight of the date that a text is
 unfoldable pub midnight_whole : List ℕ → Result DateAndTime Refused
@@ -97,21 +127,10 @@ seen head = take longest_line head
 abbrev pub left_bracket : ℕ
 left_bracket = 91
 
--- a text begins with a word
-abbrev pub begins_with : List ℕ → List ℕ → Bool
-begins_with word text = starts_with nat_eq text word
-
 -- a place that counts from a byte of a text on, as one of the text
 abbrev pub moved_place : ℕ → Option ℕ → Option ℕ
 moved_place start None = None
 moved_place start (Some place) = Some (start + place)
-
--- the byte after the first place at which a word stands in a text
-unfoldable pub end_of_word : List ℕ → List ℕ → Option ℕ
-end_of_word word [] = None
-end_of_word word (byte ∷ bytes) =
-    if begins_with word (byte ∷ bytes) then Some (length word)
-    else moved_place 1 (end_of_word word bytes)
 
 -- how many bytes of a text stand before a value at its front: a `[`, or nothing
 abbrev pub bracket_length : List ℕ → ℕ
@@ -127,11 +146,35 @@ claims text =
     digit_at text 0 && digit_at text 1 && digit_at text 2 && digit_at text 3
     && (slice_index text 4 == hyphen)
 
+-- a text begins with a word
+abbrev pub begins_with : List ℕ → List ℕ → Bool
+begins_with word text = starts_with nat_eq text word
+
+-- a text begins with a word, and what follows it claims to be a date or a date-time
+abbrev pub begins_claim : List ℕ → List ℕ → Bool
+begins_claim word text = begins_with word text && claims (drop (length word) text)
+
+-- the byte after the first place of a word in a text at which what follows claims to be a value
+unfoldable pub claim_after : List ℕ → List ℕ → Option ℕ
+claim_after word [] = None
+claim_after word (byte ∷ bytes) =
+    if begins_claim word (byte ∷ bytes) then Some (length word)
+    else moved_place 1 (claim_after word bytes)
+
 -- What value stands there.
 
--- a place is the cut of a line that is longer than what is looked at
+-- a line is longer than what is looked at
+abbrev pub is_longer : List ℕ → Bool
+is_longer head = nat_lt longest_line (length head)
+
+-- how many bytes of a longer line may stand before the end of its value: what is looked at has room
+-- behind it for all that decides about its end
+abbrev pub value_max : ℕ
+value_max = 4080
+
+-- a place is behind where the value of a longer line may end
 abbrev pub is_cut : List ℕ → ℕ → Bool
-is_cut head place = nat_lt longest_line (length head) && (place == longest_line)
+is_cut head place = is_longer head && nat_lt value_max place
 
 -- a value with the offset that one without gets, if it gets one
 unfoldable pub assumed : Option ℤ → DateAndTime → DateAndTime
@@ -139,13 +182,18 @@ assumed offset value =
     if is_some value.time.offset then value
     else result_unwrap_or (date_time_with_offset offset value) value
 
--- what was parsed at a byte of a line: a value that ends at the cut of a longer line, and a refusal
--- there, are bad
+-- a value that was parsed from one byte of a line up to another, where it has to end
+abbrev pub ended_at : Option ℤ → List ℕ → DateAndTime → ℕ → Result (DateAndTime × ℕ) Bad
+ended_at offset head value to =
+    if is_boundary (drop to head) then Ok (assumed offset value, to)
+    else Err (record { place = to; why = Why.End })
+
+-- what was parsed at a byte of a line; on a longer line it may not reach too far
 abbrev pub parsed_at : Option ℤ → List ℕ → ℕ → Result (DateAndTime × ℕ) Refused
     → Result (DateAndTime × ℕ) Bad
 parsed_at offset head start (Ok front) =
     if is_cut head (start + front.1) then Err (record { place = start; why = Why.Within })
-    else Ok (assumed offset front.0, start + front.1)
+    else ended_at offset head front.0 (start + front.1)
 parsed_at offset head start (Err refused) =
     if is_cut head (start + refused.place) then Err (record { place = start; why = Why.Within })
     else Err (record { place = start + refused.place; why = Why.Parse refused.fault })
@@ -174,18 +222,7 @@ abbrev pub found_from : ℕ → Result (DateAndTime × ℕ) Bad → Reading
 found_from start (Ok (value, to)) = Reading.Value (found_at value start to)
 found_from start (Err bad) = Reading.Bad bad
 
--- what is read of a line whose value begins at this byte, if anywhere
-abbrev pub read_from : Reader → List ℕ → Option ℕ → Reading
-read_from reader head None = Reading.Undated (length (seen head))
-read_from reader head (Some start) =
-    if claims (drop start (seen head)) then found_from start (value_at reader head start)
-    else Reading.Undated start
-
 -- What value is a field.
-
--- a line is longer than what is looked at
-abbrev pub is_longer : List ℕ → Bool
-is_longer head = nat_lt longest_line (length head)
 
 -- what has the fields of a line: a carriage return at its end belongs to none
 unfoldable pub fields_of : List ℕ → List ℕ
@@ -238,10 +275,35 @@ read_field reader head None = without_field head
 read_field reader head (Some field) =
     if is_cut head field.end then not_within field.from else read_whole reader head field
 
+-- the byte at which a value is claimed at the front of a line, or what is read of the line
+abbrev pub front_claim : List ℕ → Result ℕ Reading
+front_claim head =
+    let start = bracket_length (seen head) in
+    if claims (drop start (seen head)) then Ok start else Err (Reading.Undated start)
+
+-- what is read of a line in which no value is claimed after the word: a longer line may have it
+-- after the cut
+abbrev pub without_claim : List ℕ → Reading
+without_claim head =
+    if is_longer head then not_within longest_line else Reading.Undated (length head)
+
+-- the byte at which a value is claimed, if one is after a word, or what is read of the line
+abbrev pub claimed_or : Reading → Option ℕ → Result ℕ Reading
+claimed_or reading None = Err reading
+claimed_or reading (Some start) = Ok start
+
+abbrev pub after_claim : List ℕ → List ℕ → Result ℕ Reading
+after_claim word head = claimed_or (without_claim head) (claim_after word (seen head))
+
+-- what is read of a line by the byte at which a value is claimed
+abbrev pub read_claim : Reader → List ℕ → Result ℕ Reading → Reading
+read_claim reader head (Ok start) = found_from start (value_at reader head start)
+read_claim reader head (Err reading) = reading
+
 -- what is read of a line, by where its value begins
 abbrev pub read_at : Reader → List ℕ → Place → Reading
-read_at reader head Place.Front = read_from reader head (Some (bracket_length (seen head)))
-read_at reader head (Place.After word) = read_from reader head (end_of_word word.now (seen head))
+read_at reader head Place.Front = read_claim reader head (front_claim head)
+read_at reader head (Place.After word) = read_claim reader head (after_claim word.now head)
 read_at reader head (Place.Field which) =
     read_field reader head (nth_field which (fields_of head))
 
@@ -269,6 +331,12 @@ abbrev pub IsReadWithin : Reading → List ℕ → Type 0
 IsReadWithin (Reading.Value found) head = IsWithin found head
 IsReadWithin (Reading.Bad bad) head = Unit {0}
 IsReadWithin (Reading.Undated place) head = Unit {0}
+
+-- what is read is no value
+abbrev pub IsWithoutValue : Reading → Type 0
+IsWithoutValue (Reading.Value found) = ⊥
+IsWithoutValue (Reading.Bad bad) = Unit {0}
+IsWithoutValue (Reading.Undated place) = Unit {0}
 
 -- the value that was parsed of a line is the one that was found in it
 abbrev pub IsParsed : (Found → Result (DateAndTime × ℕ) Bad) → Reading → Option DateAndTime

@@ -1,7 +1,13 @@
 //! What values are, and how a text is parsed as one.
 
-ghost use Rattle.std.specs.Prelude.{◌≡◌, ◌≤◌, IfErr, IfOk, length};
-ghost use Rattle.speedate.specs.Base.{IsoOrder};
+ghost use Rattle.std.specs.Prelude.{◌≡◌, ◌+◌, ◌≤◌, IfErr, IfOk, IfSome, IsTrue, Ok, length, slice_index};
+ghost use Rattle.std.specs.Option.{ForSome, unwrap_or};
+ghost use Rattle.speedate_base.specs.Offset.{IsOffset};
+ghost use Rattle.speedate.specs.Refused.{placed, refused_place};
+ghost use Rattle.speedate_civil.specs.Time.{clock_parts, clock_with_offset, end_fault};
+ghost use Rattle.speedate_civil.specs.DateTime.{date_time_front_or, is_separator};
+ghost use Rattle.speedate_scan.specs.Reading.{date_and_clock, library_front, with_late_zone};
+ghost use Rattle.speedate.specs.Base.{Behavior, IsoOrder};
 ghost use Rattle.speedate.specs.Config.{time_choices};
 ghost use Rattle.speedate.specs.Requirement.{result_map, with_size};
 ghost use Rattle.speedate.specs.Date.{ymd};
@@ -10,10 +16,13 @@ ghost use Rattle.speedate_scan.specs.Reading.{front_of, midnight_front, midnight
 ghost use Rattle.speedate_scan.specs.Reading.{relaxed_front, relaxed_whole, strict_front};
 ghost use Rattle.speedate_scan.specs.Reading.{strict_whole, whole_of};
 
+use crate::zone::{late_zone, zone_front};
 use speedate::{
-    Date, DateTime, IsoOrder, MicrosecondsPrecisionOverflowBehavior, Refused, Time, TimeConfig,
+    Date, DateTime, IsoOrder, MicrosecondsPrecisionOverflowBehavior, ParseError, Refused, Time, TimeConfig,
 };
+use speedate_base::numbers::byte_at;
 use speedate_civil::datetime::full_front;
+use speedate_civil::time::PureTime;
 
 /// What a value is.
 #[derive(Clone, Copy, Debug, PartialEq, Eq)]
@@ -29,7 +38,6 @@ pub enum Form {
 impl Form {
     /// The value at the front of a text, and how many bytes it takes.
     #[inline(always)]
-    #[tactic(auto, unfolding(crate::specs::Reading::relaxed_front))]
     pub fn front(
         self,
         text: &[u8],
@@ -41,7 +49,7 @@ impl Form {
         ensures within { IfErr result (λ refused. refused.place ≤ length text.now) }
     {
         if matches!(self, Form::DateTime) {
-            if let Some((value, size)) = full_front(text) {
+            if let Some((value, size)) = usual_front(text) {
                 return Ok((value, size));
             }
         }
@@ -100,9 +108,74 @@ pub fn relaxed(behavior: MicrosecondsPrecisionOverflowBehavior) -> TimeConfig
     }
 }
 
-/// The date-time at the front of a text, and how many bytes it takes. A text that is refused is parsed once
-/// more for the place of its error, so that accepted texts do not pay for it.
+/// The date-time at the front of a text, and how many bytes it takes, if it has the form that most have.
 #[inline(always)]
+fn usual_front(text: &[u8]) -> Option<(DateTime, usize)>
+    ensures front { (behavior : Behavior) → IfSome result (λ front.
+        relaxed_front behavior text.now ≡ Ok (with_size date_and_time front)) }
+    ensures within { IfSome result (λ front. front.1 ≤ length text.now) }
+{
+    match full_front(text) {
+        Some((value, size)) => Some(with_late_zone(value, size, text)),
+        None => None,
+    }
+}
+
+/// A date-time that the library read at the front of a text, and how many bytes it takes, with the zone that may
+/// come after a blank.
+#[inline(always)]
+fn with_late_zone(value: DateTime, size: usize, text: &[u8]) -> (DateTime, usize)
+    requires size { size ≤ length text.now }
+    ensures front { with_size date_and_time result
+        ≡ with_late_zone text.now (date_and_time value, size) }
+    ensures within { result.1 ≤ length text.now }
+{
+    if value.time.tz_offset.is_some() {
+        return (value, size);
+    }
+    let (offset, more) = late_zone(&text[size..]);
+    let time = Time {
+        hour: value.time.hour,
+        minute: value.time.minute,
+        second: value.time.second,
+        microsecond: value.time.microsecond,
+        tz_offset: offset,
+    };
+    let date = value.date;
+    (DateTime { date, time }, size + more)
+}
+
+/// A date, a separator and a clock at the front of a text.
+fn date_and_clock(
+    text: &[u8],
+    behavior: MicrosecondsPrecisionOverflowBehavior,
+) -> Result<(Date, PureTime), ParseError>
+    ensures front { result_map (λ front. (ymd front.0, clock_parts front.1)) result
+        ≡ date_and_clock behavior text.now }
+    ensures within { IfOk result (λ front. 11 + front.1.size ≤ length text.now) }
+{
+    let date = match Date::parse_front(text) {
+        Ok((date, _)) => date,
+        Err(fault) => return Err(fault),
+    };
+    if !has_separator(text) {
+        return Err(ParseError::InvalidCharDateTimeSep);
+    }
+    match PureTime::parse(text, 11, behavior) {
+        Ok(clock) => Ok((date, clock)),
+        Err(fault) => Err(fault),
+    }
+}
+
+/// Whether a byte that may stand between a date and a time follows the ten bytes of a date.
+fn has_separator(text: &[u8]) -> bool
+    ensures separator { result ≡ is_separator (slice_index text.now 10) }
+    ensures there { IsTrue result → 11 ≤ length text.now }
+{
+    matches!(byte_at(text, 10), b'T' | b't' | b' ' | b'_')
+}
+
+/// The date-time at the front of a text, and how many bytes it takes.
 #[tactic(auto, unfolding(crate::specs::Reading::relaxed_front))]
 fn relaxed_front(
     text: &[u8],
@@ -112,29 +185,53 @@ fn relaxed_front(
     ensures size { IfOk result (λ front. front.1 ≤ length text.now) }
     ensures within { IfErr result (λ refused. refused.place ≤ length text.now) }
 {
-    match DateTime::parse_front(text, &relaxed(behavior)) {
-        Ok(front) => Ok(front),
-        Err(_) => placed_front(text, behavior),
+    let (date, clock) = match date_and_clock(text, behavior) {
+        Ok(front) => front,
+        Err(fault) => return Err(refused(text, behavior, fault)),
+    };
+    let end = 11 + clock.size;
+    match zone_front(&text[end..], end) {
+        Ok((offset, size)) => Ok((zoned(date, &clock, offset), end + size)),
+        Err(refused) => Err(refused),
     }
 }
 
-/// The same, by the parser that also finds the place of an error.
+/// The refusal of a text whose date or clock has this error. Only such a text is parsed once more, for the place.
 #[cold]
 #[inline(never)]
-#[tactic(auto, using(crate::proofs::ReadingLemmas::placed_answer), unfolding(crate::specs::Reading::relaxed_front))]
-fn placed_front(
+fn refused(
     text: &[u8],
     behavior: MicrosecondsPrecisionOverflowBehavior,
-) -> Result<(DateTime, usize), Refused>
-    ensures front { result_map (with_size date_and_time) result ≡ relaxed_front behavior text.now }
-    ensures size { IfOk result (λ front. front.1 ≤ length text.now) }
-    ensures within { IfErr result (λ refused. refused.place ≤ length text.now) }
+    fault: ParseError,
+) -> Refused
+    ensures refused { result ≡ placed fault
+        (unwrap_or (refused_place (date_time_front_or placed behavior text.now)) 0) }
+    ensures within { result.place ≤ length text.now }
 {
-    DateTime::parse_or_place_front(text, &relaxed(behavior))
+    let place = DateTime::error_place_front(text, &relaxed(behavior)).unwrap_or(0);
+    Refused { fault, place }
+}
+
+/// The date-time of a date, a clock and an offset.
+fn zoned(date: Date, clock: &PureTime, offset: Option<i32>) -> DateTime
+    requires range { ForSome offset IsOffset }
+    ensures value { date_and_time result ≡ record {
+        date = ymd date;
+        time = clock_with_offset (clock_parts clock.now) offset;
+    } }
+{
+    let time = Time {
+        hour: clock.hour,
+        minute: clock.minute,
+        second: clock.second,
+        microsecond: clock.microsecond,
+        tz_offset: offset,
+    };
+    DateTime { date, time }
 }
 
 /// The date-time that a text is.
-#[tactic(auto, using(crate::proofs::ReadingLemmas::placed_answer), unfolding(crate::specs::Reading::relaxed_whole))]
+#[tactic(auto, unfolding(crate::specs::Reading::relaxed_whole))]
 fn relaxed_whole(
     text: &[u8],
     behavior: MicrosecondsPrecisionOverflowBehavior,
@@ -142,7 +239,39 @@ fn relaxed_whole(
     ensures whole { result_map date_and_time result ≡ relaxed_whole behavior text.now }
     ensures within { IfErr result (λ refused. refused.place ≤ length text.now) }
 {
-    DateTime::parse_or_place_rfc3339(text, &relaxed(behavior))
+    let (value, size) = match relaxed_front(text, behavior) {
+        Ok(front) => front,
+        Err(refused) => return Err(refused),
+    };
+    if size != text.len() {
+        let fault = end_fault(value.time.tz_offset);
+        return Err(Refused { fault, place: size });
+    }
+    Ok(value)
+}
+
+/// The error of further bytes after a value with this offset, or after one without.
+fn end_fault(offset: Option<i32>) -> ParseError
+    ensures fault { result ≡ end_fault offset }
+{
+    if offset.is_some() {
+        ParseError::ExtraCharacters
+    } else {
+        ParseError::InvalidCharTzSign
+    }
+}
+
+/// The date-time that the library reads at the front of a text, and how many bytes it takes.
+#[tactic(auto, using(crate::proofs::ReadingLemmas::placed_answer), unfolding(crate::specs::Reading::library_front))]
+fn library_front(
+    text: &[u8],
+    behavior: MicrosecondsPrecisionOverflowBehavior,
+) -> Result<(DateTime, usize), Refused>
+    ensures front { result_map (with_size date_and_time) result ≡ library_front behavior text.now }
+    ensures size { IfOk result (λ front. front.1 ≤ length text.now) }
+    ensures within { IfErr result (λ refused. refused.place ≤ length text.now) }
+{
+    DateTime::parse_or_place_front(text, &relaxed(behavior))
 }
 
 /// The date-time of RFC 3339 that a text is.
@@ -167,7 +296,7 @@ fn strict_front(
     ensures size { IfOk result (λ front. front.1 ≤ length text.now) }
     ensures within { IfErr result (λ refused. refused.place ≤ length text.now) }
 {
-    let (_, size) = match relaxed_front(text, behavior) {
+    let (_, size) = match library_front(text, behavior) {
         Ok(front) => front,
         Err(refused) => return Err(refused),
     };

@@ -9,3 +9,4 @@ pub mod form;
 pub mod print;
 pub mod reading;
 pub mod scan;
+pub mod zone;

@@ -99,7 +99,8 @@ impl Why {
     {
         match self {
             Why::Parse(fault) => fault.expected(kind),
-            Why::Within => "a value within the first 4,096 bytes",
+            Why::Within => "a value within the first 4,080 bytes",
+            Why::End => "the end of the value",
             Why::NoOffset => "no offset",
             Why::NoYearsOrMonths => "a duration without years and months",
         }

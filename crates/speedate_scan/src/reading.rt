@@ -1,19 +1,21 @@
 //! What is read of a line.
 
-ghost use Rattle.std.specs.Prelude.{◌≡◌, ◌+◌, ◌-◌, ◌≤◌, IfOk, IfSome, length, nat_lt};
+ghost use Rattle.std.specs.Prelude.{◌≡◌, ◌+◌, ◌-◌, ◌≤◌, IfErr, IfOk, IfSome, IsTrue, length, nat_lt};
 ghost use Rattle.std.specs.Option.{option_map};
 ghost use Rattle.speedate.specs.Requirement.{result_map, with_size};
 ghost use Rattle.speedate.specs.DateTime.{date_and_time};
 ghost use Rattle.speedate_scan.specs.Field.{IsFieldWithin};
 ghost use Rattle.speedate_scan.specs.Reading.{IsParsed, IsReadWithin, found_from};
 ghost use Rattle.speedate_scan.specs.Reading.{alone, assumed, begins_with, bracket_length, claims};
-ghost use Rattle.speedate_scan.specs.Reading.{end_of_word, fields_of, found_at, instant_of, is_cut};
-ghost use Rattle.speedate_scan.specs.Reading.{is_longer, not_within, part, read, read_field};
-ghost use Rattle.speedate_scan.specs.Reading.{read_from, read_whole, seen, value_at};
+ghost use Rattle.speedate_scan.specs.Reading.{IsWithoutValue, after_claim, begins_claim, claim_after};
+ghost use Rattle.speedate_scan.specs.Reading.{fields_of, found_at, front_claim, read_claim};
+ghost use Rattle.speedate_scan.specs.Reading.{instant_of, is_cut, is_longer, not_within, part, read};
+ghost use Rattle.speedate_scan.specs.Reading.{read_field, read_whole, seen, value_at, without_claim};
 ghost use Rattle.speedate_scan.specs.Reading.{value_between, value_of, without_field};
 
 use crate::field::{Field, NthField, byte_at};
 use crate::form::Form;
+use crate::zone::is_boundary;
 use speedate::{DateTime, MicrosecondsPrecisionOverflowBehavior, ParseError};
 use speedate_base::numbers::{eight_bytes, fit_length};
 use speedate_stream::LINE_MAX;
@@ -50,6 +52,8 @@ pub enum Why {
     Parse(ParseError),
     /// A value that ends within the bytes of a line that are looked at.
     Within,
+    /// The end of the value.
+    End,
     /// A value without an offset.
     NoOffset,
     /// A duration that does not say years or months.
@@ -102,27 +106,13 @@ fn bracket_length(text: &[u8]) -> usize
 #[inline(always)]
 fn begins_with(word: &[u8], text: &[u8]) -> bool
     ensures begins { result ≡ begins_with word.now text.now }
+    ensures there { IsTrue result → length word.now ≤ length text.now }
 {
     // Most texts differ from the word in their first byte.
     match (word, text) {
         ([first, ..], [byte, ..]) if first != byte => false,
         _ => text.starts_with(word),
     }
-}
-
-/// The byte after the first place at which a word stands in a text.
-fn end_of_word(word: &[u8], text: &[u8]) -> Option<usize>
-    ensures end { result ≡ end_of_word word.now text.now }
-    ensures within { IfSome result (λ end. end ≤ length text.now) }
-{
-    let mut place = 0;
-    while place < text.len() {
-        if begins_with(word, &text[place..]) {
-            return Some(place + word.len());
-        }
-        place += 1;
-    }
-    None
 }
 
 /// Whether a text claims to be a date or a date-time: it begins with four digits and a hyphen.
@@ -132,6 +122,30 @@ fn claims(text: &[u8]) -> bool
     ensures claims { result ≡ claims text.now }
 {
     fit_length(eight_bytes(text, 0), u8x8::from_array(*b"0000-00-")) >= 5
+}
+
+/// Whether a word begins a text, and what follows it claims to be a date or a date-time.
+#[inline(always)]
+fn begins_claim(word: &[u8], text: &[u8]) -> bool
+    ensures begins { result ≡ begins_claim word.now text.now }
+    ensures there { IsTrue result → length word.now ≤ length text.now }
+{
+    begins_with(word, text) && claims(&text[word.len()..])
+}
+
+/// The byte after the first place of a word in a text at which what follows claims to be a value.
+fn claim_after(word: &[u8], text: &[u8]) -> Option<usize>
+    ensures end { result ≡ claim_after word.now text.now }
+    ensures within { IfSome result (λ end. end ≤ length text.now) }
+{
+    let mut place = 0;
+    while place < text.len() {
+        if begins_claim(word, &text[place..]) {
+            return Some(place + word.len());
+        }
+        place += 1;
+    }
+    None
 }
 
 /// What is looked at of a line: its first 4,096 bytes.
@@ -154,11 +168,15 @@ fn is_longer(head: &[u8]) -> bool
     head.len() > LINE_MAX
 }
 
-/// Whether a place is the cut of a line that is longer than what is looked at.
+/// How many bytes of a longer line may stand before the end of its value. What is looked at has room behind it for a
+/// zone and for what ends a value.
+const VALUE_MAX: usize = LINE_MAX - 16;
+
+/// Whether a place is behind where the value of a line that is longer than what is looked at may end.
 pub fn is_cut(head: &[u8], place: usize) -> bool
     ensures cut { result ≡ is_cut head.now place }
 {
-    head.len() > LINE_MAX && place == LINE_MAX
+    head.len() > LINE_MAX && place > VALUE_MAX
 }
 
 /// What has the fields of a line: a carriage return at its end belongs to none.
@@ -231,6 +249,49 @@ pub fn without_field(head: &[u8]) -> Reading
     Reading::Undated(fields_of(head).len())
 }
 
+/// What is read of a line in which no value is claimed after the word, by its head.
+fn without_claim(head: &[u8]) -> Reading
+    ensures read { result ≡ without_claim head.now }
+    ensures within { IsReadWithin result head.now }
+    ensures bare { IsWithoutValue result }
+{
+    if is_longer(head) {
+        not_within(LINE_MAX)
+    } else {
+        Reading::Undated(head.len())
+    }
+}
+
+/// The byte at which a value is claimed at the front of a line, by its head, or what is read of the line.
+#[inline(always)]
+fn front_claim(head: &[u8]) -> Result<usize, Reading>
+    ensures claim { result ≡ front_claim head.now }
+    ensures start { IfOk result (λ start. start ≤ length (seen head.now)) }
+    ensures reading { IfErr result (λ reading. IsReadWithin reading head.now) }
+    ensures bare { IfErr result IsWithoutValue }
+{
+    let start = bracket_length(seen(head));
+    if claims(&seen(head)[start..]) {
+        Ok(start)
+    } else {
+        Err(Reading::Undated(start))
+    }
+}
+
+/// The byte at which a value is claimed after a word of a line, by its head, or what is read of the line.
+#[inline(always)]
+fn after_claim(word: &[u8], head: &[u8]) -> Result<usize, Reading>
+    ensures claim { result ≡ after_claim word.now head.now }
+    ensures start { IfOk result (λ start. start ≤ length (seen head.now)) }
+    ensures reading { IfErr result (λ reading. IsReadWithin reading head.now) }
+    ensures bare { IfErr result IsWithoutValue }
+{
+    match claim_after(word, seen(head)) {
+        Some(start) => Ok(start),
+        None => Err(without_claim(head)),
+    }
+}
+
 /// What is read of a line in which a value was parsed from a byte on, or refused.
 #[inline(always)]
 fn read_as(parsed: Result<(DateTime, usize), Bad>, from: usize) -> (Reading, Option<DateTime>)
@@ -262,35 +323,37 @@ impl Reader<'_> {
         ensures value { IsParsed (value_of self.now head.now) result.0
             (option_map date_and_time result.1) }
     {
-        let start = match self.place {
-            Place::Front => Some(bracket_length(seen(head))),
-            Place::After(word) => end_of_word(word, seen(head)),
+        let claim = match self.place {
+            Place::Front => front_claim(head),
+            Place::After(word) => after_claim(word, head),
             // Taken apart for the same reason as in [`Form::front`].
             Place::Field(which) => {
                 let (reading, value) = self.parse_field(head, which.find(fields_of(head)));
                 return (reading, value);
             }
         };
-        self.parse_from(head, start)
+        self.parse_claim(head, claim)
     }
 
-    /// What is read of a line, by its head, whose value begins at this byte, if anywhere.
+    /// What is read of a line, by its head and the byte at which a value is claimed.
     #[inline(always)]
-    fn parse_from(&self, head: &[u8], start: Option<usize>) -> (Reading, Option<DateTime>)
-        requires start { IfSome start (λ start. start ≤ length (seen head.now)) }
-        ensures read { result.0 ≡ read_from self.now head.now start }
+    fn parse_claim(
+        &self,
+        head: &[u8],
+        claim: Result<usize, Reading>,
+    ) -> (Reading, Option<DateTime>)
+        requires start { IfOk claim (λ start. start ≤ length (seen head.now)) }
+        requires reading { IfErr claim (λ reading. IsReadWithin reading head.now) }
+        requires bare { IfErr claim IsWithoutValue }
+        ensures read { result.0 ≡ read_claim self.now head.now claim }
         ensures within { IsReadWithin result.0 head.now }
         ensures value { IsParsed (λ found. value_at self.now head.now found.from)
             result.0 (option_map date_and_time result.1) }
     {
-        let text = seen(head);
-        let Some(start) = start else {
-            return (Reading::Undated(text.len()), None);
-        };
-        if !claims(&text[start..]) {
-            return (Reading::Undated(start), None);
+        match claim {
+            Ok(start) => read_as(self.value_at(head, start), start),
+            Err(reading) => (reading, None),
         }
-        read_as(self.value_at(head, start), start)
     }
 
     /// What is read of a line, by its head and where its field is, if it is there.
@@ -390,7 +453,14 @@ impl Reader<'_> {
                         why: Why::Within,
                     });
                 }
-                Ok((assume(self.offset, value), start + size))
+                let to = start + size;
+                if !is_boundary(&head[to..]) {
+                    return Err(Bad {
+                        place: to,
+                        why: Why::End,
+                    });
+                }
+                Ok((assume(self.offset, value), to))
             }
             Err(refused) => {
                 if is_cut(head, start + refused.place) {

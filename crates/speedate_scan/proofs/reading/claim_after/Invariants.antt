@@ -1,6 +1,6 @@
 use Rattle.std.proofs.Common.{◌-◌, length}
 use Rattle.speedate_scan.proofs.WordLemmas.{IsSearchedUpTo}
-use Rattle.speedate_scan.proofs.reading.end_of_word.Given as goal
+use Rattle.speedate_scan.proofs.reading.claim_after.Given as goal
 
 abbrev pub invariant-loop-place : goal.invariant-loop-place
 invariant-loop-place l = IsSearchedUpTo l.word l.text l.place

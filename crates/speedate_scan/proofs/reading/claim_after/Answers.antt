@@ -1,13 +1,13 @@
 use Rattle.std.proofs.Common.{arith, rules}
 use Rattle.speedate_scan.proofs.WordLemmas.{search_begins, search_ends, search_fails}
 use Rattle.speedate_scan.proofs.WordLemmas.{search_goes_on}
-use Rattle.speedate_scan.proofs.reading.end_of_word.Goals as goal
+use Rattle.speedate_scan.proofs.reading.claim_after.Goals as goal
 
 pub loop-place-init : goal.loop-place-init
 loop-place-init c = search_begins c.args.word.now c.args.text.now
 
-pub returns-then-begins_with-clause-end : goal.returns-then-begins_with-clause-end
-returns-then-begins_with-clause-end c =
+pub returns-then-begins_claim-clause-end : goal.returns-then-begins_claim-clause-end
+returns-then-begins_claim-clause-end c =
     search_ends c.args.word.now c.args.text.now c.loop-place.place c.loop-place.invariant
     (omega arith) (search rules)
 

@@ -1,0 +1,186 @@
+-- A date-time that the library reads, as the one of a line: its zone may come after a blank.
+use Rattle.std.proofs.Common.{◌≡◌, ◌∙◌, ap, sym, refl, rules, arith, ℕ, ℤ, pos, ◌+◌, ◌*◌, ◌&&◌, ◌==◌, Bool, true, false, List, drop, slice_index, Option, Some, None, is_some, Result, Ok, Err, if◌then◌else◌}
+use Rattle.std.proofs.lemmas.Bool.Decides.{nat_tests}
+use Rattle.speedate.specs.Base.{Behavior, ParseError}
+use Rattle.speedate.specs.Calendar.{Ymd}
+use Rattle.speedate.specs.Date.{date_front}
+use Rattle.speedate.specs.DateTime.{DateAndTime, date_time_front, date_time_front_or, is_separator}
+use Rattle.speedate.specs.Refused.{placed, refused_place}
+use Rattle.std.proofs.lemmas.List.{drop-drop}
+use Rattle.speedate.specs.Requirement.{result_and_then}
+use Rattle.speedate.specs.Time.{Clock, TimeOfDay, clock_front, clock_with_offset, has_minus_sign, is_plus_or_minus, is_utc}
+use Rattle.speedate.specs.Time.{offset_front, signed_front}
+use Rattle.speedate.specs.Ascii.{hyphen}
+use Rattle.speedate_base.specs.declared.refusal.Refused.{Refused}
+use Rattle.speedate_scan.specs.Reading.{relaxed_front, with_late_zone, with_place, zoned}
+use Rattle.speedate_scan.specs.Zone.{late_zone, signed_zone, utc_zone, zone_front}
+
+-- an offset that the library reads after a sign is the zone there
+signed_read : (start sign : ℕ) (west : Bool) (numbers : List ℕ) (zone : Option ℤ × ℕ)
+    → signed_front west sign numbers ≡ Ok zone → signed_zone start west sign numbers ≡ Ok zone
+unfolding signed_zone
+signed_read start sign west numbers zone read = search rules
+
+-- and it is there
+signed_some : (sign : ℕ) (west : Bool) (numbers : List ℕ) (zone : Option ℤ × ℕ)
+    → signed_front west sign numbers ≡ Ok zone → is_some zone.0 ≡ true
+signed_some sign west numbers zone read = search rules
+
+-- the zone of a line by the offset that the library reads
+abbrev late : List ℕ → Option ℤ × ℕ → Option ℤ × ℕ
+late rest zone = if is_some zone.0 then zone else late_zone rest
+
+-- an offset is the zone, and where there is none the zone is the late one
+chosen : (zone other : Option ℤ × ℕ) (answer : Result (Option ℤ × ℕ) Refused)
+    → answer ≡ Ok zone → is_some zone.0 ≡ true
+    → answer ≡ Ok (if is_some zone.0 then zone else other)
+chosen zone other answer read some = read ∙ rw some refl
+
+abbrev read_as : {A : Type 0} → A → Result A ParseError
+read_as value = Ok value
+
+abbrev none : Option ℤ
+none = None
+
+front_of : (one other : DateAndTime × ℕ) → read_as one ≡ Ok other → one ≡ other
+front_of one other same = cc
+
+value_of : (one other : Option ℤ × ℕ) → read_as one ≡ Ok other → one ≡ other
+value_of one other same = cc
+
+by_sign : (plus utc minus : Bool) (after after_minus : Result (Option ℤ × ℕ) ParseError)
+    (there there_minus : Result (Option ℤ × ℕ) Refused) (other zone : Option ℤ × ℕ)
+    → (after ≡ Ok zone → there ≡ Ok (if is_some zone.0 then zone else other))
+    → (after_minus ≡ Ok zone → there_minus ≡ Ok (if is_some zone.0 then zone else other))
+    → (if plus then after else if utc then Ok (Some (pos 0), 1)
+    else if minus then after_minus else Ok (None, 0)) ≡ Ok zone
+    → (if plus then there else if utc then Ok (utc_zone 1)
+    else if minus then there_minus else Ok other)
+    ≡ Ok (if is_some zone.0 then zone else other)
+by_sign true utc minus after after_minus there there_minus other zone one two read = one read
+by_sign false true minus after after_minus there there_minus other zone one two read =
+    rw (← value_of (Some (pos 0), 1) zone read) refl
+by_sign false false true after after_minus there there_minus other zone one two read = two read
+by_sign false false false after after_minus there there_minus other zone one two read =
+    rw (← value_of (None, 0) zone read) refl
+
+signed_chosen : (start sign : ℕ) (west : Bool) (numbers : List ℕ) (zone other : Option ℤ × ℕ)
+    → signed_front west sign numbers ≡ Ok zone
+    → signed_zone start west sign numbers ≡ Ok (if is_some zone.0 then zone else other)
+signed_chosen start sign west numbers zone other read =
+    chosen zone other (signed_zone start west sign numbers)
+    (signed_read start sign west numbers zone read) (signed_some sign west numbers zone read)
+
+offset_read : (start : ℕ) (rest : List ℕ) (zone : Option ℤ × ℕ)
+    → offset_front rest ≡ Ok zone → zone_front start rest ≡ Ok (late rest zone)
+unfolding zone_front
+offset_read start rest zone read =
+    by_sign (is_plus_or_minus (slice_index rest 0)) (is_utc (slice_index rest 0))
+    (has_minus_sign rest) _ _ _ _ (late_zone rest) zone
+    (signed_chosen (start + 1) 1 (slice_index rest 0 == hyphen) (drop 1 rest) zone (late_zone rest))
+    (signed_chosen (start + 3) 3 true (drop 3 rest) zone (late_zone rest)) read
+
+no_some : (size : ℕ) → is_some none ≡ true → size ≡ 0
+no_some size some = cc
+
+-- an offset that is not there takes nothing
+none_by_sign : (plus utc minus : Bool) (after after_minus : Result (Option ℤ × ℕ) ParseError)
+    (size : ℕ) → (after ≡ Ok (None, size) → is_some none ≡ true)
+    → (after_minus ≡ Ok (None, size) → is_some none ≡ true)
+    → (if plus then after else if utc then Ok (Some (pos 0), 1)
+    else if minus then after_minus else Ok (None, 0)) ≡ Ok (None, size) → size ≡ 0
+none_by_sign true utc minus after after_minus size one two read = no_some size (one read)
+none_by_sign false true minus after after_minus size one two read =
+    let same = value_of (Some (pos 0), 1) (None, size) read in
+    no_some size (sym (ap (λ (zone : Option ℤ × ℕ). is_some zone.0) same))
+none_by_sign false false true after after_minus size one two read = no_some size (two read)
+none_by_sign false false false after after_minus size one two read =
+    ap (λ (zone : Option ℤ × ℕ). zone.1) (sym (value_of (None, 0) (None, size) read))
+
+offset_none : (rest : List ℕ) (size : ℕ) → offset_front rest ≡ Ok (None, size) → size ≡ 0
+offset_none rest size read =
+    none_by_sign (is_plus_or_minus (slice_index rest 0)) (is_utc (slice_index rest 0))
+    (has_minus_sign rest) _ _ size
+    (signed_some 1 (slice_index rest 0 == hyphen) (drop 1 rest) (None, size))
+    (signed_some 3 true (drop 3 rest) (None, size)) read
+
+-- The steps of the library and of a line after a date, and after a clock.
+
+abbrev dated : Ymd → TimeOfDay × ℕ → Result (DateAndTime × ℕ) ParseError
+dated date time = Ok (record { date = date; time = time.0 }, 11 + time.1)
+
+abbrev timed : Clock → Option ℤ × ℕ → Result (TimeOfDay × ℕ) ParseError
+timed clock zone = Ok (clock_with_offset clock zone.0, clock.size + zone.1)
+
+abbrev with_clock : Ymd → Clock → Result (Ymd × Clock) ParseError
+with_clock date clock = Ok (date, clock)
+
+abbrev zoned_at : List ℕ → Ymd × Clock → Result (DateAndTime × ℕ) Refused
+zoned_at text front =
+    result_and_then (λ (zone : Option ℤ × ℕ). Ok (zoned front.0 front.1 zone))
+    (zone_front (11 + front.1.size) (drop (11 + front.1.size) text))
+
+zoned_late : (text : List ℕ) (date : Ymd) (clock : Clock) (zone : Option ℤ × ℕ)
+    → offset_front (drop (11 + clock.size) text) ≡ Ok zone
+    → zoned date clock (late (drop (11 + clock.size) text) zone)
+    ≡ with_late_zone text
+    (record { date = date; time = clock_with_offset clock zone.0 }, 11 + (clock.size + zone.1))
+zoned_late text date clock (Some offset, size) read =
+    ap (λ (n : ℕ). (record { date = date; time = clock_with_offset clock (Some offset) }, n))
+    (omega arith)
+zoned_late text date clock (None, size) read =
+    let none : size ≡ 0 = offset_none (drop (11 + clock.size) text) size read in
+    let after : 11 + (clock.size + size) ≡ 11 + clock.size = omega (arith, none) in
+    rw after refl
+
+after_clock : (text : List ℕ) (date : Ymd) (clock : Clock) (front : DateAndTime × ℕ)
+    (offset : Result (Option ℤ × ℕ) ParseError)
+    → offset_front (drop (11 + clock.size) text) ≡ offset
+    → result_and_then (dated date) (result_and_then (timed clock) offset) ≡ Ok front
+    → zoned_at text (date, clock) ≡ Ok (with_late_zone text front)
+after_clock text date clock front (Ok zone) there read =
+    let zone_is = offset_read (11 + clock.size) (drop (11 + clock.size) text) zone there in
+    let whole = zoned_late text date clock zone there in
+    rw zone_is (ap Ok whole ∙ ap (λ (f : DateAndTime × ℕ). Ok (with_late_zone text f)) (front_of _ _ read))
+after_clock text date clock front (Err fault) there read = cc
+
+-- The chain of both, over plain answers.
+
+abbrev parted : {A : Type 0} → Bool → Result A ParseError → Result A ParseError
+parted separated next = if separated then next else Err ParseError.InvalidCharDateTimeSep
+
+abbrev library_chain : List ℕ → Result (Ymd × ℕ) ParseError → Bool → Result Clock ParseError
+    → Result (DateAndTime × ℕ) ParseError
+library_chain text at_date separated at_clock =
+    result_and_then (λ (date : Ymd × ℕ).
+    result_and_then (dated date.0)
+    (parted separated (result_and_then (λ (clock : Clock).
+    result_and_then (timed clock) (offset_front (drop clock.size (drop 11 text)))) at_clock))) at_date
+
+abbrev line_chain : List ℕ → Option ℕ → Result (Ymd × ℕ) ParseError → Bool
+    → Result Clock ParseError → Result (DateAndTime × ℕ) Refused
+line_chain text place at_date separated at_clock =
+    result_and_then (zoned_at text)
+    (with_place (result_and_then (λ (date : Ymd × ℕ).
+    result_and_then (λ (clock : Clock). with_clock date.0 clock) (parted separated at_clock)) at_date)
+    place)
+
+chained : (text : List ℕ) (place : Option ℕ) (at_date : Result (Ymd × ℕ) ParseError)
+    (separated : Bool) (at_clock : Result Clock ParseError) (front : DateAndTime × ℕ)
+    → library_chain text at_date separated at_clock ≡ Ok front
+    → line_chain text place at_date separated at_clock ≡ Ok (with_late_zone text front)
+chained text place (Ok date) true (Ok clock) front read =
+    after_clock text date.0 clock front _ refl (rw drop-drop at read)
+chained text place (Ok date) true (Err fault) front read = cc
+chained text place (Ok date) false at_clock front read = cc
+chained text place (Err fault) separated at_clock front read = cc
+
+-- a date-time that the library reads at the front of a text is the one of a line, but for a zone
+-- after a blank
+pub library_is_zoned : (behavior : Behavior) (text : List ℕ) (front : DateAndTime × ℕ)
+    → date_time_front behavior text ≡ Ok front
+    → relaxed_front behavior text ≡ Ok (with_late_zone text front)
+unfolding relaxed_front
+library_is_zoned behavior text front read =
+    chained text (refused_place (date_time_front_or placed behavior text)) (date_front text)
+    (is_separator (slice_index text 10)) (clock_front behavior (drop 11 text)) front read
