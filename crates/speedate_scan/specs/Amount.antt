@@ -1,16 +1,19 @@
 -- What duration a line has.
-use Rattle.std.specs.Prelude.{ℕ, ◌+◌, ◌==◌, ◌&&◌, ◌||◌, Bool, List, length, take, slice_index, Option, Some, None, Result, Ok, Err, if◌then◌else◌}
+use Rattle.std.specs.Prelude.{ℕ, ◌+◌, ◌==◌, ◌&&◌, ◌||◌, not, Bool, List, length, take, slice_index, ◌-◌, Option, Some, None, is_none, option_map, Result, Ok, Err, if◌then◌else◌}
 use Rattle.std.specs.List.{position}
-use Rattle.speedate.specs.Ascii.{capital_m, capital_p, capital_t, capital_y}
+use Rattle.std.specs.Char.{is_ascii_digit}
+use Rattle.speedate.specs.Ascii.{capital_m, capital_p, capital_t, capital_y, colon}
+use Rattle.speedate.specs.Config.{refuses_digits}
+use Rattle.speedate_base.specs.Digits.{is_decimal_mark}
 use Rattle.speedate.specs.Base.{Behavior, IsoOrder}
 use Rattle.speedate.specs.Duration.{duration_answer, duration_answer_or}
 use Rattle.speedate.specs.DurationNumbers.{DurationNumbers}
 use Rattle.speedate.specs.Refused.{placed, refused_place}
-use Rattle.speedate_base.specs.Numbers.{sign_size}
+use Rattle.speedate_base.specs.Numbers.{has_minus, sign_size}
 use Rattle.speedate_base.specs.declared.refusal.Refused.{Refused}
 use Rattle.speedate_scan.specs.Field.{Field, nth_field}
 use Rattle.speedate_scan.specs.Reading.{Bad, Place, Reader, Reading, Why, alone, fields_of, is_cut}
-use Rattle.speedate_scan.specs.Reading.{not_within, part, with_place, without_field}
+use Rattle.speedate_scan.specs.Reading.{not_within, part, undated_field, with_place, without_field}
 use Rattle.speedate_scan.specs.Scan.{Line, Scan, is_stopped, judged}
 
 -- Years and months, whose lengths differ.
@@ -36,6 +39,30 @@ years_or_months text =
     then position (λ byte. (byte == capital_y) || (byte == capital_m)) (before_time text)
     else None
 
+-- Clocks after negative days, as in `-1 day, 23:00:00`: here they are subtracted too, and where
+-- Python prints them they are added.
+
+-- `d` or `D`, with which a word for days begins
+abbrev pub is_day_letter : ℕ → Bool
+is_day_letter byte = (byte == 68) || (byte == 100)
+
+-- the place of the clock of a text that has days with a minus before it
+unfoldable pub clock_after_minus : List ℕ → Option ℕ
+clock_after_minus text =
+    if not (has_minus text) || is_iso text || is_none (position is_day_letter text) then None
+    else option_map (λ place. place - 2) (position (λ byte. byte == colon) text)
+
+-- Digits of a fraction past the sixth, which the library rounds in texts of ISO 8601.
+
+-- a place of a text, if a digit is there
+abbrev pub with_digit : List ℕ → Option ℕ → Option ℕ
+with_digit text None = None
+with_digit text (Some place) = if is_ascii_digit (slice_index text place) then Some place else None
+
+-- the place of the seventh digit of a fraction, if it has so many
+unfoldable pub seventh_digit : List ℕ → Option ℕ
+seventh_digit text = with_digit text (option_map (λ place. place + 7) (position is_decimal_mark text))
+
 -- What duration is a part of a line.
 
 -- the duration that a text is
@@ -44,22 +71,34 @@ duration_whole behavior text =
     with_place (duration_answer IsoOrder.Lax behavior text)
     (refused_place (duration_answer_or placed IsoOrder.Lax behavior text))
 
--- a duration of a text that begins at a byte of a line, by where the text has years or months
-abbrev pub exact : ℕ → Option ℕ → DurationNumbers → Result DurationNumbers Bad
-exact from None numbers = Ok numbers
-exact from (Some place) numbers =
-    Err (record { place = from + place; why = Why.NoYearsOrMonths })
+-- what makes a duration inexact that begins at a byte of a line, by its place, before what else may
+abbrev pub bad_at : ℕ → Why → Option ℕ → Option Bad → Option Bad
+bad_at from why None other = other
+bad_at from why (Some place) other = Some (record { place = from + place; why = why })
+
+-- what is not exact about a duration that begins at a byte of a line, by its text
+unfoldable pub inexact : Behavior → ℕ → List ℕ → Option Bad
+inexact behavior from text =
+    bad_at from Why.NoYearsOrMonths (years_or_months text)
+    (bad_at from Why.NoClock (clock_after_minus text)
+    (bad_at from Why.SixDigits (if refuses_digits behavior then seventh_digit text else None) None))
+
+-- a duration, if nothing is bad about it
+abbrev pub unless_bad : Option Bad → DurationNumbers → Result DurationNumbers Bad
+unless_bad None numbers = Ok numbers
+unless_bad (Some bad) numbers = Err bad
 
 -- what was parsed from a byte of a line on
-abbrev pub exact_from : ℕ → List ℕ → Result DurationNumbers Refused → Result DurationNumbers Bad
-exact_from from text (Ok numbers) = exact from (years_or_months text) numbers
-exact_from from text (Err refused) =
+abbrev pub exact_from : Behavior → ℕ → List ℕ → Result DurationNumbers Refused
+    → Result DurationNumbers Bad
+exact_from behavior from text (Ok numbers) = unless_bad (inexact behavior from text) numbers
+exact_from behavior from text (Err refused) =
     Err (record { place = from + refused.place; why = Why.Parse refused.fault })
 
--- the duration that a part of a line is: years and months are bad
+-- the duration that a part of a line is, if it is exact
 unfoldable pub exact_between : Behavior → List ℕ → ℕ → ℕ → Result DurationNumbers Bad
 exact_between behavior head from to =
-    exact_from from (part head from to) (duration_whole behavior (part head from to))
+    exact_from behavior from (part head from to) (duration_whole behavior (part head from to))
 
 -- What duration a line has.
 
@@ -71,7 +110,7 @@ or_bad (Err bad) = Err (Reading.Bad bad)
 -- the duration of a field that ends before the cut of a longer line; an empty field has none
 abbrev pub field_duration : Behavior → List ℕ → Field → Result DurationNumbers Reading
 field_duration behavior head field =
-    if field.from == field.to then Err (Reading.Undated field.from)
+    if field.from == field.to then Err (undated_field field)
     else or_bad (alone field (exact_between behavior head field.from field.to))
 
 -- the duration of a line by where its field is, if it is there

@@ -1,5 +1,5 @@
 -- Where the fields of a line are.
-use Rattle.std.specs.Prelude.{ℕ, ◌+◌, ◌-◌, ◌≤◌, ◌==◌, zero, suc, List, [], ◌∷◌, length, drop, slice_index, nat_lt, Option, Some, None, if◌then◌else◌}
+use Rattle.std.specs.Prelude.{ℕ, ◌+◌, ◌-◌, ◌≤◌, ◌==◌, zero, suc, Bool, List, [], ◌∷◌, length, drop, slice_index, nat_lt, Option, Some, None, if◌then◌else◌}
 use Rattle.std.specs.List.{position_or_len}
 pub use Rattle.speedate_scan.specs.declared.field.NthField.{NthField}
 pub use Rattle.speedate_scan.specs.declared.field.Field.{Field}
@@ -54,3 +54,7 @@ pub record IsFieldWithin (field : Field) (text : List ℕ) : Type 0 where
   pub ordered : field.from ≤ field.to
   pub ends : field.to ≤ field.end
   pub within : field.end ≤ length text
+
+-- bytes stand after the quote that closes a field
+abbrev pub goes_on : Field → Bool
+goes_on field = nat_lt (field.to + 1) field.end

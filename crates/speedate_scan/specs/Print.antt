@@ -34,6 +34,8 @@ expected_by Why.Within kind = codes "a value within the first 4,080 bytes"
 expected_by Why.End kind = codes "the end of the value"
 expected_by Why.NoOffset kind = codes "no offset"
 expected_by Why.NoYearsOrMonths kind = codes "a duration without years and months"
+expected_by Why.NoClock kind = codes "no clock after days with a minus"
+expected_by Why.SixDigits kind = codes "at most six digits of a fraction"
 
 -- where a line stands: the name of the file and the number of the line
 unfoldable pub line_place : List ℕ → ℕ → List ℕ

@@ -19,7 +19,7 @@ use Rattle.speedate.specs.Lines.{without_return}
 use Rattle.speedate.specs.Strict.{strict_date_time_answer, strict_date_time_answer_or}
 use Rattle.speedate.specs.Time.{Clock, clock_front, clock_with_offset, end_fault, minute_time}
 use Rattle.speedate_stream.specs.Machine.{longest_line}
-use Rattle.speedate_scan.specs.Field.{Field, nth_field}
+use Rattle.speedate_scan.specs.Field.{Field, goes_on, nth_field}
 use Rattle.speedate_scan.specs.Zone.{is_boundary, late_zone, zone_front}
 pub use Rattle.speedate_scan.specs.declared.reading.Place.{Place}
 pub use Rattle.speedate_scan.specs.declared.form.Form.{Form}
@@ -247,17 +247,24 @@ value_between reader head from to =
 -- the value of a field; what stands after the quote that closes it is bad
 abbrev pub alone : {A : Type 0} → Field → Result A Bad → Result A Bad
 alone field (Ok value) =
-    if nat_lt (field.to + 1) field.end
+    if goes_on field
     then Err (record { place = field.to + 1; why = Why.Parse ParseError.ExtraCharacters })
     else Ok value
 alone field (Err bad) = Err bad
+
+-- what is read of a field without a value: what stands after the quote that closes it is bad
+abbrev pub undated_field : Field → Reading
+undated_field field =
+    if goes_on field
+    then Reading.Bad (record { place = field.to + 1; why = Why.Parse ParseError.ExtraCharacters })
+    else Reading.Undated field.from
 
 -- what is read of a field that ends before the cut of a longer line
 abbrev pub read_whole : Reader → List ℕ → Field → Reading
 read_whole reader head field =
     if claims (part head field.from field.to)
     then found_from field.from (alone field (value_between reader head field.from field.to))
-    else Reading.Undated field.from
+    else undated_field field
 
 -- a value that does not lie within what is looked at
 abbrev pub not_within : ℕ → Reading

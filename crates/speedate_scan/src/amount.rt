@@ -1,12 +1,14 @@
 //! What duration a line has.
 
-ghost use Rattle.std.specs.Prelude.{◌≡◌, ◌+◌, ◌≤◌, ◌==◌, ◌||◌, IfErr, IfSome, length};
+ghost use Rattle.std.specs.Prelude.{◌≡◌, ◌+◌, ◌≤◌, ◌==◌, ◌||◌, ◌<◌, IfErr, IfSome, length};
 ghost use Rattle.std.specs.List.{position};
-ghost use Rattle.speedate.specs.Ascii.{capital_m, capital_t, capital_y};
+ghost use Rattle.speedate.specs.Ascii.{capital_m, capital_t, capital_y, colon};
 ghost use Rattle.speedate.specs.Duration.{duration_numbers};
 ghost use Rattle.speedate.specs.Requirement.{result_map};
 ghost use Rattle.speedate_scan.specs.Amount.{amount_of, before_time, duration_in, duration_place, duration_whole};
-ghost use Rattle.speedate_scan.specs.Amount.{exact, exact_between, field_duration, is_iso, judged_amount};
+ghost use Rattle.speedate_scan.specs.Amount.{clock_after_minus, exact_between, field_duration, inexact};
+ghost use Rattle.speedate_scan.specs.Amount.{is_day_letter, is_iso, judged_amount, seventh_digit};
+ghost use Rattle.speedate_base.specs.Digits.{is_decimal_mark};
 ghost use Rattle.speedate_scan.specs.Amount.{read_duration, whole_line, years_or_months};
 ghost use Rattle.speedate_scan.specs.Field.{IsFieldWithin};
 ghost use Rattle.speedate_scan.specs.Reading.{IsReadWithin, alone, fields_of};
@@ -14,11 +16,11 @@ ghost use Rattle.speedate_scan.specs.Reading.{IsReadWithin, alone, fields_of};
 use crate::field::{Field, byte_at};
 use crate::form::relaxed;
 use crate::reading::{
-    Bad, Place, Reader, Reading, Why, fields_of, is_cut, not_within, without_field,
+    Bad, Place, Reader, Reading, Why, fields_of, is_cut, not_within, undated_field, without_field,
 };
 use crate::scan::{Line, Scan};
 use speedate::{Duration, MicrosecondsPrecisionOverflowBehavior, ParseError, Refused};
-use speedate_base::numbers::sign;
+use speedate_base::numbers::{is_decimal_mark, sign};
 
 /// Whether a text is one of ISO 8601: it begins with `P`, after its sign.
 fn is_iso(text: &[u8]) -> bool
@@ -81,22 +83,94 @@ fn duration_whole(
     Duration::parse_or_place(text, &relaxed(behavior))
 }
 
-/// A duration of a text that begins at a byte of a line. It is bad if the text has years or months.
-fn exact(from: usize, place: Option<usize>, duration: Duration) -> Result<Duration, Bad>
-    requires room { IfSome place (λ place. from + place ≤ usize.MAX) }
-    ensures exact { result_map duration_numbers result
-        ≡ exact from place (duration_numbers duration) }
+/// Whether a byte is `d` or `D`, with which a word for days begins.
+fn is_day_letter(byte: u8) -> bool
+    ensures day { result ≡ is_day_letter byte }
 {
-    match place {
-        None => Ok(duration),
-        Some(place) => Err(Bad {
-            place: from + place,
-            why: Why::NoYearsOrMonths,
-        }),
+    byte == b'd' || byte == b'D'
+}
+
+/// The place of the first `d` or `D` of a text.
+fn day_place(text: &[u8]) -> Option<usize>
+    ensures place { result ≡ position is_day_letter text.now }
+{
+    text.iter().position(|&byte| is_day_letter(byte))
+}
+
+/// The place of the first `:` of a text.
+fn colon_place(text: &[u8]) -> Option<usize>
+    ensures place { result ≡ position (λ byte. byte == colon) text.now }
+    ensures within { IfSome result (λ place. place < length text.now) }
+{
+    text.iter().position(|&byte| byte == b':')
+}
+
+/// The place of the clock of a text that has days with a minus before it: 8 in `b"-1 day, 23:00:00"`.
+#[tactic(auto, unfolding(crate::specs::Amount::clock_after_minus))]
+fn clock_after_minus(text: &[u8]) -> Option<usize>
+    ensures place { result ≡ clock_after_minus text.now }
+    ensures within { IfSome result (λ place. place ≤ length text.now) }
+{
+    let (is_negative, _) = sign(text);
+    if !is_negative || is_iso(text) || day_place(text).is_none() {
+        return None;
+    }
+    match colon_place(text) {
+        Some(place) => Some(place.saturating_sub(2)),
+        None => None,
     }
 }
 
-/// The duration that a part of a line is, by its head. Years and months are bad.
+/// The place of the first decimal mark of a text.
+fn mark_place(text: &[u8]) -> Option<usize>
+    ensures place { result ≡ position is_decimal_mark text.now }
+    ensures within { IfSome result (λ place. place < length text.now) }
+{
+    text.iter().position(|&byte| is_decimal_mark(byte))
+}
+
+/// The place of the seventh digit of a fraction, if it has so many: 10 in `b"PT0.1234567S"`.
+#[tactic(auto, unfolding(crate::specs::Amount::seventh_digit))]
+fn seventh_digit(text: &[u8]) -> Option<usize>
+    ensures place { result ≡ seventh_digit text.now }
+    ensures within { IfSome result (λ place. place ≤ length text.now) }
+{
+    let Some(place) = mark_place(text) else {
+        return None;
+    };
+    if byte_at(text, place + 7).is_ascii_digit() {
+        Some(place + 7)
+    } else {
+        None
+    }
+}
+
+/// What is not exact about a duration, by its text, which begins at a byte of a line.
+#[tactic(auto, unfolding(crate::specs::Amount::inexact))]
+fn inexact(
+    text: &[u8],
+    from: usize,
+    behavior: MicrosecondsPrecisionOverflowBehavior,
+) -> Option<Bad>
+    requires room { from + length text.now ≤ usize.MAX }
+    ensures inexact { result ≡ inexact behavior from text.now }
+{
+    if let Some(place) = years_or_months(text) {
+        return Some(Bad { place: from + place, why: Why::NoYearsOrMonths });
+    }
+    if let Some(place) = clock_after_minus(text) {
+        return Some(Bad { place: from + place, why: Why::NoClock });
+    }
+    if behavior == MicrosecondsPrecisionOverflowBehavior::Truncate {
+        return None;
+    }
+    match seventh_digit(text) {
+        Some(place) => Some(Bad { place: from + place, why: Why::SixDigits }),
+        None => None,
+    }
+}
+
+/// The duration that a part of a line is, by its head, if it is exact.
 #[tactic(auto, unfolding(crate::specs::Amount::exact_between))]
 fn exact_between(
     head: &[u8],
@@ -110,7 +184,10 @@ fn exact_between(
 {
     let text = &head[from..to];
     match duration_whole(text, behavior) {
-        Ok(duration) => exact(from, years_or_months(text), duration),
+        Ok(duration) => match inexact(text, from, behavior) {
+            Some(bad) => Err(bad),
+            None => Ok(duration),
+        },
         Err(refused) => Err(Bad {
             place: from + refused.place,
             why: Why::Parse(refused.fault),
@@ -133,7 +210,7 @@ fn duration_alone(
 {
     match exact_between(head, field.from, field.to, behavior) {
         Ok(duration) => {
-            if field.end - field.to > 1 {
+            if field.goes_on() {
                 return Err(Bad {
                     place: field.to + 1,
                     why: Why::Parse(ParseError::ExtraCharacters),
@@ -159,7 +236,7 @@ fn field_duration(
     ensures within { IfErr result (λ reading. IsReadWithin reading head.now) }
 {
     if field.from == field.to {
-        return Err(Reading::Undated(field.from));
+        return Err(undated_field(field));
     }
     match duration_alone(head, field, behavior) {
         Ok(duration) => Ok(duration),

@@ -2,7 +2,7 @@
 
 ghost use Rattle.std.specs.Prelude.{◌≡◌, ◌+◌, ◌<◌, ◌≤◌, ◌==◌, IfSome, IsTrue, length, nat_lt, slice_index};
 ghost use Rattle.std.specs.List.{position};
-ghost use Rattle.speedate_scan.specs.Field.{IsFieldWithin, closing_quote, ended, field_at};
+ghost use Rattle.speedate_scan.specs.Field.{IsFieldWithin, closing_quote, ended, field_at, goes_on};
 ghost use Rattle.speedate_scan.specs.Field.{next_separator, nth_field};
 
 /// The byte before and after a field that is quoted.
@@ -47,6 +47,16 @@ impl NthField {
             others -= 1;
         }
         Some(field_at(text, start, self.separator))
+    }
+}
+
+impl Field {
+    /// Whether bytes stand after the quote that closes the field.
+    pub fn goes_on(&self) -> bool
+        requires ends { self.now.to ≤ self.now.end }
+        ensures more { result ≡ goes_on self.now }
+    {
+        self.end - self.to > 1
     }
 }
 

@@ -103,6 +103,8 @@ impl Why {
             Why::End => "the end of the value",
             Why::NoOffset => "no offset",
             Why::NoYearsOrMonths => "a duration without years and months",
+            Why::NoClock => "no clock after days with a minus",
+            Why::SixDigits => "at most six digits of a fraction",
         }
     }
 }

@@ -10,7 +10,8 @@ ghost use Rattle.speedate_scan.specs.Reading.{alone, assumed, begins_with, brack
 ghost use Rattle.speedate_scan.specs.Reading.{IsWithoutValue, after_claim, begins_claim, claim_after};
 ghost use Rattle.speedate_scan.specs.Reading.{fields_of, found_at, front_claim, read_claim};
 ghost use Rattle.speedate_scan.specs.Reading.{instant_of, is_cut, is_longer, not_within, part, read};
-ghost use Rattle.speedate_scan.specs.Reading.{read_field, read_whole, seen, value_at, without_claim};
+ghost use Rattle.speedate_scan.specs.Reading.{read_field, read_whole, seen, undated_field, value_at};
+ghost use Rattle.speedate_scan.specs.Reading.{without_claim};
 ghost use Rattle.speedate_scan.specs.Reading.{value_between, value_of, without_field};
 
 use crate::field::{Field, NthField, byte_at};
@@ -58,6 +59,10 @@ pub enum Why {
     NoOffset,
     /// A duration that does not say years or months.
     NoYearsOrMonths,
+    /// A duration without a clock, since its days have a minus.
+    NoClock,
+    /// At most six digits of a fraction.
+    SixDigits,
 }
 
 /// A bad value.
@@ -262,6 +267,21 @@ fn without_claim(head: &[u8]) -> Reading
     }
 }
 
+/// What is read of a field without a value: what stands after the quote that closes it is bad.
+pub fn undated_field(field: &Field) -> Reading
+    requires ends { field.now.to ≤ field.now.end }
+    ensures read { result ≡ undated_field field.now }
+    ensures bare { IsWithoutValue result }
+{
+    if field.goes_on() {
+        return Reading::Bad(Bad {
+            place: field.to + 1,
+            why: Why::Parse(ParseError::ExtraCharacters),
+        });
+    }
+    Reading::Undated(field.from)
+}
+
 /// The byte at which a value is claimed at the front of a line, by its head, or what is read of the line.
 #[inline(always)]
 fn front_claim(head: &[u8]) -> Result<usize, Reading>
@@ -388,7 +408,7 @@ impl Reader<'_> {
             result.0 (option_map date_and_time result.1) }
     {
         if !claims(&head[field.from..field.to]) {
-            return (Reading::Undated(field.from), None);
+            return (undated_field(field), None);
         }
         read_as(self.value_alone(head, field), field.from)
     }
@@ -405,7 +425,7 @@ impl Reader<'_> {
     {
         match self.value_between(head, field.from, field.to) {
             Ok(found) => {
-                if field.end - field.to > 1 {
+                if field.goes_on() {
                     return Err(Bad {
                         place: field.to + 1,
                         why: Why::Parse(ParseError::ExtraCharacters),
