@@ -285,15 +285,36 @@ template <class T, class C, class Call> OrPart<Front<T>> front_or_part(Call call
     return {result, part};
 }
 
-/* A number in a type of C, or the greatest one of that type, which no field may have, if it does not fit. */
-template <class C> C narrowed(std::int64_t number) noexcept {
-    return number >= 0 && number <= std::int64_t{std::numeric_limits<C>::max()} ? static_cast<C>(number)
-                                                                                 : std::numeric_limits<C>::max();
-}
-/* The same for an offset, which may be negative. */
-inline std::int32_t narrowed_offset(std::int64_t offset) noexcept {
-    return offset < INT32_MIN || offset > INT32_MAX ? INT32_MAX : static_cast<std::int32_t>(offset);
-}
+/* An integer of any type, none of which wraps: one that does not fit 64 bits with a sign is the nearest that does, and no
+ * field may have that. */
+class Whole {
+  public:
+    template <class Integer, std::enable_if_t<std::is_integral_v<Integer>, int> = 0>
+    constexpr Whole(Integer number) noexcept : number_(held(number)) {}
+
+    constexpr bool is_negative() const noexcept { return number_ < 0; }
+    template <class C> constexpr bool fits() const noexcept {
+        using Limits = std::numeric_limits<C>;
+        return std::int64_t{Limits::min()} <= number_ && number_ <= std::int64_t{Limits::max()};
+    }
+    /* The number in a type of C, or the greatest one of that type, which no field may have, if it does not fit. */
+    template <class C> constexpr C in() const noexcept {
+        return fits<C>() ? static_cast<C>(number_) : std::numeric_limits<C>::max();
+    }
+
+  private:
+    template <class Integer> static constexpr std::int64_t held(Integer number) noexcept {
+        if constexpr (sizeof(Integer) > 8 || (sizeof(Integer) == 8 && !std::is_signed_v<Integer>))
+            if (number > static_cast<Integer>(INT64_MAX))
+                return INT64_MAX;
+        if constexpr (sizeof(Integer) > 8 && std::is_signed_v<Integer>)
+            if (number < static_cast<Integer>(INT64_MIN))
+                return INT64_MIN;
+        return static_cast<std::int64_t>(number);
+    }
+
+    std::int64_t number_;
+};
 
 /* Only bool is a flag of a call: neither {} nor a number is one. */
 template <class Flag> using IfBool = std::enable_if_t<std::is_same_v<Flag, bool>, int>;
@@ -335,11 +356,10 @@ class Date : public detail::Ordered<Date> {
   public:
     /* The date of its numbers, or SPEEDATE_DATE_TOO_SMALL, SPEEDATE_DATE_TOO_LARGE, SPEEDATE_OUT_OF_RANGE_MONTH or
      * SPEEDATE_OUT_OF_RANGE_DAY. */
-    static Result<Date> of(std::int64_t year, std::int64_t month, std::int64_t day) {
-        if (year < 0)
+    static Result<Date> of(detail::Whole year, detail::Whole month, detail::Whole day) {
+        if (year.is_negative())
             return Error(SPEEDATE_DATE_TOO_SMALL);
-        return of(SpeedateDate{detail::narrowed<std::uint16_t>(year), detail::narrowed<std::uint8_t>(month),
-                               detail::narrowed<std::uint8_t>(day)});
+        return of(SpeedateDate{year.in<std::uint16_t>(), month.in<std::uint8_t>(), day.in<std::uint8_t>()});
     }
     static Result<Date> of(SpeedateDate date) {
         const int code = speedate_date_check(date);
@@ -447,12 +467,11 @@ class Time : public detail::Equal<Time> {
   public:
     /* The time of its numbers, or SPEEDATE_OUT_OF_RANGE_HOUR, _MINUTE or _SECOND, SPEEDATE_TIME_TOO_LARGE for the
      * microsecond, or SPEEDATE_OUT_OF_RANGE_TZ. */
-    static Result<Time> of(std::int64_t hour, std::int64_t minute, std::int64_t second = 0,
-                           std::int64_t microsecond = 0, std::optional<std::int64_t> offset = std::nullopt) {
-        return of(SpeedateTime{detail::narrowed<std::uint8_t>(hour), detail::narrowed<std::uint8_t>(minute),
-                               detail::narrowed<std::uint8_t>(second), offset.has_value(),
-                               detail::narrowed<std::uint32_t>(microsecond),
-                               detail::narrowed_offset(offset.value_or(0))});
+    static Result<Time> of(detail::Whole hour, detail::Whole minute, detail::Whole second = 0,
+                           detail::Whole microsecond = 0, std::optional<detail::Whole> offset = std::nullopt) {
+        return of(SpeedateTime{hour.in<std::uint8_t>(), minute.in<std::uint8_t>(), second.in<std::uint8_t>(),
+                               offset.has_value(), microsecond.in<std::uint32_t>(),
+                               offset.value_or(0).in<std::int32_t>()});
     }
     static Result<Time> of(SpeedateTime time) {
         const int code = speedate_time_check(time);
@@ -664,10 +683,10 @@ class Duration : public detail::Ordered<Duration> {
   public:
     /* The duration of its numbers, or SPEEDATE_DURATION_DAYS_TOO_LARGE or SPEEDATE_DURATION_VALUE_TOO_LARGE. */
     template <class Flag, detail::IfBool<Flag> = 0>
-    static Result<Duration> of(Flag negative, std::int64_t day, std::int64_t second = 0, std::int64_t microsecond = 0) {
-        using detail::narrowed;
-        return of(SpeedateDuration{negative, narrowed<std::uint32_t>(day), narrowed<std::uint32_t>(second),
-                                   narrowed<std::uint32_t>(microsecond)});
+    static Result<Duration> of(Flag negative, detail::Whole day, detail::Whole second = 0,
+                               detail::Whole microsecond = 0) {
+        return of(SpeedateDuration{negative, day.in<std::uint32_t>(), second.in<std::uint32_t>(),
+                                   microsecond.in<std::uint32_t>()});
     }
     static Result<Duration> of(SpeedateDuration duration) {
         const int code = speedate_duration_check(duration);
@@ -677,14 +696,13 @@ class Duration : public detail::Ordered<Duration> {
     }
     /* The duration of numbers that are brought into their ranges, as speedate_duration_normalize says. */
     template <class Flag, detail::IfBool<Flag> = 0>
-    static Result<Duration> normalized(Flag negative, std::int64_t day, std::int64_t second = 0,
-                                       std::int64_t microsecond = 0) {
-        for (const std::int64_t number : {day, second, microsecond})
-            if (number < 0 || number > std::int64_t{UINT32_MAX})
+    static Result<Duration> normalized(Flag negative, detail::Whole day, detail::Whole second = 0,
+                                       detail::Whole microsecond = 0) {
+        for (const detail::Whole number : {day, second, microsecond})
+            if (!number.fits<std::uint32_t>())
                 return Error(SPEEDATE_DURATION_VALUE_TOO_LARGE);
-        using detail::narrowed;
-        return normalized(SpeedateDuration{negative, narrowed<std::uint32_t>(day), narrowed<std::uint32_t>(second),
-                                           narrowed<std::uint32_t>(microsecond)});
+        return normalized(SpeedateDuration{negative, day.in<std::uint32_t>(), second.in<std::uint32_t>(),
+                                           microsecond.in<std::uint32_t>()});
     }
     static Result<Duration> normalized(SpeedateDuration numbers) {
         return from_c([&](auto *out) { return speedate_duration_normalize(numbers, out); });

@@ -20,6 +20,10 @@ static int failures = 0;
         }                                                                                                              \
     } while (0)
 
+static std::string date_of_year(int year) {
+    const std::string digits = std::to_string(year);
+    return std::string(4 - digits.size(), '0') + digits + "-01-01";
+}
 // What a result has: the text of its value, or the name of its error.
 template <class T> static std::string said(const Result<T> &result) {
     std::ostringstream to;
@@ -52,6 +56,35 @@ static Config with(Unit unit, Overflow overflow, Order order, std::optional<std:
     config.overflow = overflow;
     config.iso_order = order;
     return config;
+}
+
+// No integer wraps on its way into a value: numbers that are wider than a field, and than 64 bits, are refused as others are.
+template <class Integer> static void wide_numbers() {
+    for (int bits : {8, 16, 31, 32, 53, 63, 64, 100, 126}) {
+        if (bits >= std::numeric_limits<Integer>::digits)
+            continue;
+        for (int more : {-1, 0, 1}) {
+            const Integer number = (Integer{1} << bits) + static_cast<Integer>(more);
+            CHECK(said(Date::of(number, 1, 1)) == (number > 9999 ? "date_too_large" : date_of_year(static_cast<int>(number))));
+            CHECK(said(Date::of(2020, number, 1)) == "out_of_range_month" && said(Date::of(2020, 1, number)) == "out_of_range_day");
+            CHECK(said(Time::of(number, 0)) == "out_of_range_hour" && said(Time::of(0, number)) == "out_of_range_minute");
+            CHECK(said(Time::of(0, 0, number)) == "out_of_range_second");
+            CHECK(said(Time::of(0, 0, 0, 0, number)) == (number < 86400 ? said(Time::of(0, 0, 0, 0, static_cast<int>(number))) : "out_of_range_tz"));
+            if (bits > 30) {
+                CHECK(said(Time::of(0, 0, 0, number)) == "time_too_large");
+                CHECK(said(Duration::of(false, number)) == "duration_days_too_large");
+                CHECK(said(Duration::of(true, 0, number)) == "duration_value_too_large");
+                CHECK(said(Duration::normalized(false, 0, 0, number)) == (number > UINT32_MAX ? "duration_value_too_large" : said(Duration::normalized(false, 0, 0, static_cast<std::int64_t>(number)))));
+            }
+            if constexpr (std::numeric_limits<Integer>::is_signed) {
+                CHECK(said(Date::of(-number, 1, 1)) == "date_too_small" && said(Date::of(2020, -number, 1)) == "out_of_range_month");
+                CHECK(said(Time::of(-number, 0)) == "out_of_range_hour" && said(Duration::of(false, -number)) == "duration_days_too_large");
+                CHECK(bits < 31 || said(Time::of(0, 0, 0, 0, -number)) == "out_of_range_tz");
+            }
+        }
+    }
+    CHECK(said(Date::of(std::numeric_limits<Integer>::max(), 1, 1)) == "date_too_large");
+    CHECK(said(Time::of(0, 0, 0, 0, std::numeric_limits<Integer>::max() - Integer{3599})) == "out_of_range_tz");
 }
 
 static void results() {
@@ -458,6 +491,10 @@ static void keys() {
 }
 
 int main() {
+    wide_numbers<int>();
+    wide_numbers<unsigned>();
+    wide_numbers<std::int64_t>();
+    wide_numbers<std::uint64_t>();
     results();
     dates();
     times();

@@ -303,7 +303,28 @@ for (const it of [date, duration]) assert.throws(() => format(it, { digits: 3 })
 assert.throws(() => format({ ...dateTime, hour: 24 }, { digits: 3 }), refused("out_of_range_hour"));
 assert.equal(format(dateTime, { digits: 3 }), toDate(dateTime).toISOString());
 for (const it of [2n ** 63n, -(2n ** 63n) - 1n, 0.5, 2 ** 63]) assert.throws(() => speedate.durationFromMicroseconds(it), RangeError);
-for (const it of [0n, -1n, 2n ** 63n - 1n, 1n - 2n ** 63n]) assert.equal(speedate.totalMicroseconds(speedate.durationFromMicroseconds(it)), it);
+// No number wraps on its way into the library, as a BigInt or as a number: it is the one that was given, or it is refused.
+for (const edge of [2n ** 31n, 2n ** 32n, 2n ** 53n, 2n ** 63n, 2n ** 64n, 10n ** 30n]) {
+  for (const it of [edge - 1n, edge, edge + 1n].flatMap((n) => [n, -n])) {
+    const fits = BigInt.asIntN(64, it) === it;
+    if (fits && it !== -(2n ** 63n)) assert.equal(speedate.totalMicroseconds(speedate.durationFromMicroseconds(it)), it);
+    else if (!fits) assert.throws(() => speedate.durationFromMicroseconds(it), RangeError);
+    const moment = () => speedate.dateTimeFromTimestamp(it, "us", { timestampOffset: 0 });
+    if (it >= -62167219200000000n && it <= 253402300799999999n) {
+      assert.equal(speedate.epochMilliseconds(moment()), Number((it - (((it % 1000n) + 1000n) % 1000n)) / 1000n));
+    } else {
+      assert.throws(moment, (error) => (fits ? error.fault === (it > 0n ? "date_too_large" : "date_too_small") : error instanceof RangeError));
+    }
+    if (Number.isSafeInteger(Number(it))) assert.equal(speedate.totalMicroseconds(speedate.durationFromMicroseconds(Number(it))), it);
+    if (fits) {
+      const printed = () => speedate.textColumn(BigInt64Array.of(it), "duration");
+      assert.equal(printed(), it === -(2n ** 63n) ? "\n" : `${format(speedate.durationFromMicroseconds(it))}\n`);
+    }
+  }
+}
+for (const it of [2 ** 63, -(2 ** 64), 1e30]) {
+  assert.throws(() => speedate.textColumn(Float64Array.of(0, it), "duration"), (error) => error.fault === "number_too_large" && error.index === 1);
+}
 assert.throws(() => speedate.totalMicroseconds(parseDuration("P106751992D")), refused("number_too_large"));
 assert.throws(() => speedate.totalMicroseconds({ ...duration, days: -(2 ** 32) }), refused("duration_days_too_large"));
 const sumOf = (...texts) => format(speedate.sum(texts.map((it) => parseDuration(it))));

@@ -202,7 +202,7 @@ class Sources(unittest.TestCase):
         for make in (list, iter, lambda it: numpy.array(it, "u8"), lambda it: array.array("Q", it), lambda it: numpy.array(it, "O")):
             faults = []
             self.assertEqual(column(make([0, 2**63, 2**64 - 1, 1]), config=unix, timestamps=True, faults=faults), [0, NAT, NAT, 1_000_000])
-            self.assertEqual([(it.index, it.name, it.place) for it in faults], [(1, "date_too_large", None), (2, "date_too_large", None)])
+            self.assertEqual([(it.index, it.name, it.place) for it in faults], [(1, "number_too_large", None), (2, "number_too_large", None)])
         for wrong, kind in ((numpy.array([True]), "bool_?"), (numpy.zeros(2), "float64"), (days.astype("M8[D]"), "datetime64")):
             with self.assertRaisesRegex(TypeError, f"^text 0 has to be .*, not {kind}(: .* makes integers of floats, .*)?$"):
                 column(wrong, config=unix, timestamps=True)

@@ -157,11 +157,13 @@ date_column(array.array("q", [0, 1]), timestamps=True) -> Fault: date_not_exact 
 refusal(date_column, [1], timestamps=True), expected(date_column, [1], timestamps=True) -> ((None, None), 'a timestamp at midnight, or a duration of whole days')
 numbered(date_column, [0, 1, 86400, 2**60]), numbered(date_time_column, [0, 2**60]) -> ((4, [1, 3], [5, 39], [-1, -1]), (2, [0, 1], [19, 39], [-1, -1]))
 date_time_column([True], timestamps=True) -> TypeError: text 0 has to be int, not bool
-date_time_column([1, 2**63], timestamps=True, naive="utc") -> Fault: date_too_large in text 1
-date_time_column(array.array("Q", [1, 2**63]), timestamps=True, naive="utc") -> Fault: date_too_large in text 1
+date_time_column([1, 2**63], timestamps=True, naive="utc") -> Fault: number_too_large in text 1
+date_time_column(array.array("Q", [1, 2**63]), timestamps=True, naive="utc") -> Fault: number_too_large in text 1
 date_column([-(2**63) - 1, 10**5000, numbers(-10**30), numbers(86400), 5.5 - 5.5 + float("nan")], timestamps=True, faults="nat") -> array('q', [-9223372036854775808, -9223372036854775808, -9223372036854775808, 1, -9223372036854775808])
-date_column([-(2**63) - 1], timestamps=True), date_column([numbers(10**30)], Config("us"), timestamps=True) -> Fault: date_too_small in text 0
-date_time_clock_column([numbers(10**30)], Config("us"), timestamps=True) -> Fault: date_too_large in text 0
+date_column([-(2**63) - 1], timestamps=True), date_column([numbers(10**30)], Config("us"), timestamps=True) -> Fault: number_too_large in text 0
+date_time_clock_column([numbers(10**30)], Config("us"), timestamps=True) -> Fault: number_too_large in text 0
+text_column([10**30], "duration"), text_column([0, -(2**63) - 1], "time") -> Fault: number_too_large in text 0
+text_column([2**31], "date") -> Fault: number_too_large in text 0
 date_column([decimal.Decimal("nan"), None], faults="raise") -> array('q', [-9223372036854775808, -9223372036854775808])
 date_column([decimal.Decimal("1")]) -> TypeError: text 0 has to be str or bytes or bytearray or memoryview, not Decimal
 date_time_column([1.5], timestamps=True) -> TypeError: text 0 has to be str or bytes or bytearray or memoryview, not float: in pandas astype("Int64") makes integers of floats, which timestamps=True reads
