@@ -1,4 +1,4 @@
--- The command `summary`: how many lines and values there are, the first value, the last, and the
+-- The command `summary`: how many lines and values there are, the earliest and the latest, and the
 -- longest gap.
 use Rattle.std.specs.Prelude.{◌≡◌, ℕ, ℤ, pos, ◌+ℤ◌, ◌-ℤ◌, ◌*ℤ◌, Bool, true, false, List, [], ◌∷◌, ◌++◌, Option, Some, None, unwrap_or, Result, Ok, Err, int_lt, codes, decimal, if◌then◌else◌}
 use Rattle.std.specs.Int.{saturate_signed, w64}
@@ -14,7 +14,7 @@ use Rattle.speedate_commands.specs.Convert.{written_text}
 use Rattle.speedate_commands.specs.Order.{Latest, duration_between, latest_of, order_after}
 use Rattle.speedate_scan.specs.Print.{line_place}
 use Rattle.speedate_scan.specs.Scan.{is_counted, is_stopped, is_value, line_of}
-use Rattle.speedate_commands.specs.Base.{Form, Line}
+use Rattle.speedate_commands.specs.Base.{Form, Line, Scan}
 pub use Rattle.speedate_commands.specs.declared.summary.Gap.{Gap}
 pub use Rattle.speedate_commands.specs.declared.summary.Summary.{Summary}
 
@@ -33,19 +33,25 @@ is_undated Line.Header = false
 is_undated (Line.Bad bad) = false
 is_undated Line.Unfit = false
 
--- the first value, after a line
-abbrev pub first_or : Option Latest → Latest → Option Latest
-first_or None value = Some value
-first_or (Some first) value = Some first
+-- the earlier of two values, of which the first may be missing; of equal ones the first
+abbrev pub earlier_of : Option Latest → Latest → Latest
+earlier_of None value = value
+earlier_of (Some kept) value = if int_lt value.instant kept.instant then value else kept
 
-abbrev pub first_after : Summary → Line → Option Latest
-first_after summary (Line.Value found) =
-    first_or summary.first (latest_of summary.order.scan found)
-first_after summary Line.Late = summary.first
-first_after summary Line.Header = summary.first
-first_after summary (Line.Bad bad) = summary.first
-first_after summary Line.Unfit = summary.first
-first_after summary Line.Undated = summary.first
+-- the later of two values, of which the first may be missing; of equal ones the first
+abbrev pub later_of : Option Latest → Latest → Latest
+later_of None value = value
+later_of (Some kept) value = if int_lt kept.instant value.instant then value else kept
+
+-- one of two values, after a line: the value so far, and that of the line
+abbrev pub value_after : (Option Latest → Latest → Latest) → Scan → Option Latest → Line
+    → Option Latest
+value_after chosen scan kept (Line.Value found) = Some (chosen kept (latest_of scan found))
+value_after chosen scan kept Line.Late = kept
+value_after chosen scan kept Line.Header = kept
+value_after chosen scan kept (Line.Bad bad) = kept
+value_after chosen scan kept Line.Unfit = kept
+value_after chosen scan kept Line.Undated = kept
 
 -- the microseconds from one value to the next
 abbrev pub gap_size : Gap → ℤ
@@ -83,7 +89,8 @@ summary_after summary line = record {
   lines = one_more_if (is_counted line) summary.lines;
   values = one_more_if (is_value line) summary.values;
   undated = one_more_if (is_undated line) summary.undated;
-  first = first_after summary line;
+  earliest = value_after earlier_of summary.order.scan summary.earliest line;
+  latest = value_after later_of summary.order.scan summary.latest line;
   longest = longest_after summary line;
 }
 
@@ -170,5 +177,5 @@ longest_text (Some gap) = gap_text gap
 -- the summary
 unfoldable pub summary_text : Summary → List ℕ
 summary_text summary =
-    counts_text summary ++ named_text (codes "first ") summary.first
-    ++ named_text (codes "last ") summary.order.latest ++ longest_text summary.longest
+    counts_text summary ++ named_text (codes "earliest ") summary.earliest
+    ++ named_text (codes "latest ") summary.latest ++ longest_text summary.longest

@@ -1,4 +1,4 @@
-//! The command `summary`: how many lines and values there are, the first value, the last, and the longest
+//! The command `summary`: how many lines and values there are, the earliest and the latest, and the longest
 //! gap.
 
 ghost use Rattle.std.specs.Prelude.{◌≡◌, ◌+◌, ◌++◌, ◌≤◌, Err, OnOk, false, true, length};
@@ -6,11 +6,11 @@ ghost use Rattle.arrayvec.specs.ArrayVec.{array_vec_len};
 ghost use Rattle.speedate.specs.DateTime.{◌gives◌};
 ghost use Rattle.speedate_commands.specs.Runs.{EndsAdded};
 ghost use Rattle.speedate_commands.specs.Summary.{IsSummaryAfter, clock_at, clock_microsecond, count_text};
-ghost use Rattle.speedate_commands.specs.Summary.{counts_text, first_after, gap_end, gap_length, gap_size};
+ghost use Rattle.speedate_commands.specs.Summary.{counts_text, earlier_of, gap_end, gap_length, gap_size, later_of};
 ghost use Rattle.speedate_commands.specs.Summary.{gap_text};
 ghost use Rattle.speedate_commands.specs.Summary.{instant_text, is_undated, longest_after, longest_size};
 ghost use Rattle.speedate_commands.specs.Summary.{longest_text, longest_with, one_more_if, shown_at};
-ghost use Rattle.speedate_commands.specs.Summary.{summary_after, summary_machine, summary_text, named_text};
+ghost use Rattle.speedate_commands.specs.Summary.{summary_after, summary_machine, summary_text, named_text, value_after};
 ghost use Rattle.speedate_commands.specs.Order.{latest_of};
 ghost use Rattle.speedate_stream.specs.Run.{EndsBy, PrintsBeginning, PrintsProgress};
 
@@ -26,7 +26,7 @@ use speedate_stream::{LineMachine, Observer, PENDING_MAX, Pending, Watched, push
 use std::io::{Read, Write};
 
 /// No summary is longer.
-pub const SUMMARY_MAX: usize = 4417;
+pub const SUMMARY_MAX: usize = 4423;
 
 /// Two values, one after the other.
 #[derive(Clone, Copy)]
@@ -48,8 +48,10 @@ pub struct Summary<'a> {
     pub values: u64,
     /// How many of them have no value.
     pub undated: u64,
-    /// The first value, if there is one.
-    pub first: Option<Latest<'a>>,
+    /// The earliest value, if there is one.
+    pub earliest: Option<Latest<'a>>,
+    /// The latest.
+    pub latest: Option<Latest<'a>>,
     /// The longest gap between a value and a later one that comes next, if there is one.
     pub longest: Option<Gap<'a>>,
 }
@@ -82,13 +84,31 @@ impl Gap<'_> {
 }
 
 impl<'a> Summary<'a> {
-    /// The first value, after a line.
-    fn first_after(&self, line: &Line) -> Option<Latest<'a>>
-        ensures first { result ≡ first_after self.now line.now }
+    /// The earliest value, after a line.
+    fn earliest_after(&self, line: &Line) -> Option<Latest<'a>>
+        ensures earliest { result
+            ≡ value_after earlier_of self.now.order.scan self.now.earliest line.now }
     {
-        match (line, &self.first) {
-            (Line::Value(found), None) => Some(Latest::new(&self.order.scan, found)),
-            _ => self.first,
+        let Line::Value(found) = line else {
+            return self.earliest;
+        };
+        match &self.earliest {
+            Some(kept) if found.instant >= kept.instant => self.earliest,
+            _ => Some(Latest::new(&self.order.scan, found)),
+        }
+    }
+
+    /// The latest value, after a line.
+    fn latest_after(&self, line: &Line) -> Option<Latest<'a>>
+        ensures latest { result
+            ≡ value_after later_of self.now.order.scan self.now.latest line.now }
+    {
+        let Line::Value(found) = line else {
+            return self.latest;
+        };
+        match &self.latest {
+            Some(kept) if found.instant <= kept.instant => self.latest,
+            _ => Some(Latest::new(&self.order.scan, found)),
         }
     }
 
@@ -135,12 +155,14 @@ impl<'a> Summary<'a> {
     fn add(&mut self, line: Line)
         ensures added { self.new ≡ summary_after self.old line }
     {
-        let first = self.first_after(&line);
+        let earliest = self.earliest_after(&line);
+        let latest = self.latest_after(&line);
         let longest = self.longest_after(&line);
         self.lines = one_more_if(line.is_counted(), self.lines);
         self.values = one_more_if(line.is_value(), self.values);
         self.undated = one_more_if(is_undated(&line), self.undated);
-        self.first = first;
+        self.earliest = earliest;
+        self.latest = latest;
         self.longest = longest;
         self.order.pass(line);
     }
@@ -153,8 +175,8 @@ impl<'a> Summary<'a> {
         ensures length { array_vec_len pending.new ≤ array_vec_len pending.old + SUMMARY_MAX }
     {
         self.push_counts(pending);
-        push_named(b"first ", &self.first, pending);
-        push_named(b"last ", &self.order.latest, pending);
+        push_named(b"earliest ", &self.earliest, pending);
+        push_named(b"latest ", &self.latest, pending);
         push_longest(&self.longest, pending);
     }
 
@@ -186,14 +208,14 @@ fn push_count(name: &[u8], count: u64, pending: &mut Pending)
     push_bytes(b"\n", pending);
 }
 
-/// Appends a value with its name, which has at most 6 bytes, if there is one: `first
+/// Appends a value with its name, which has at most 9 bytes, if there is one: `latest
 /// 2026-11-22T06:10:00Z`, and a line feed.
 #[tactic(auto, unfolding(crate::specs::Summary::named_text), using(std::proofs::Common::append_assoc))]
 fn push_named(name: &[u8], value: &Option<Latest<'_>>, pending: &mut Pending)
-    requires short { length name.now ≤ 6 }
-    requires room { array_vec_len pending.old + 39 ≤ PENDING_MAX }
+    requires short { length name.now ≤ 9 }
+    requires room { array_vec_len pending.old + 42 ≤ PENDING_MAX }
     ensures pushed { pending.new.items ≡ pending.old.items ++ named_text name.now value.now }
-    ensures length { array_vec_len pending.new ≤ array_vec_len pending.old + 39 }
+    ensures length { array_vec_len pending.new ≤ array_vec_len pending.old + 42 }
 {
     if let Some(value) = value {
         push_bytes(name, pending);

@@ -102,7 +102,8 @@ pub fn first_summary<'a>(given: &ArgMatches<'a>) -> Result<Summary<'a>, Refusal>
         lines: 0,
         values: 0,
         undated: 0,
-        first: None,
+        earliest: None,
+        latest: None,
         longest: None,
     })
 }
