@@ -96,8 +96,8 @@ values 3\n\
 undated 1\n\
 bad 1\n\
 out of order 1\n\
-first 2026-11-22T06:10:00Z\n\
-last 2026-11-22T06:30:00.500000Z\n\
+earliest 2026-11-22T06:09:00Z\n\
+latest 2026-11-22T06:30:00.500000Z\n\
 longest gap PT21M0.5S before app.log:5\n\
 ",
     ),
@@ -132,8 +132,8 @@ values 2\n\
 undated 0\n\
 bad 0\n\
 out of order 0\n\
-first 0000-01-01T00:30:00+01:00\n\
-last 9999-12-31T23:30:00-01:00\n\
+earliest 0000-01-01T00:30:00+01:00\n\
+latest 9999-12-31T23:30:00-01:00\n\
 longest gap P10006Y235DT1H before app.log:2\n\
 ",
     ),
@@ -151,8 +151,8 @@ values 4\n\
 undated 0\n\
 bad 0\n\
 out of order 0\n\
-first 2026-11-22T06:10:00\n\
-last 2026-11-22T06:10:04\n\
+earliest 2026-11-22T06:10:00\n\
+latest 2026-11-22T06:10:04\n\
 longest gap PT2S before app.log:4\n\
 ",
     ),
@@ -168,8 +168,8 @@ values 2\n\
 undated 0\n\
 bad 0\n\
 out of order 0\n\
-first 2026-11-22T06:10:00Z\n\
-last 2026-11-22T06:10:00Z\n\
+earliest 2026-11-22T06:10:00Z\n\
+latest 2026-11-22T06:10:00Z\n\
 ",
     ),
 ];
@@ -340,8 +340,8 @@ values 2\n\
 undated 1\n\
 bad 1\n\
 out of order 0\n\
-first 2026-11-22T06:09:00Z\n\
-last 2026-11-22T06:30:00.500000Z\n\
+earliest 2026-11-22T06:09:00Z\n\
+latest 2026-11-22T06:30:00.500000Z\n\
 longest gap PT21M0.5S before app.log:5\n\
 ",
     ),
@@ -359,8 +359,8 @@ values 2\n\
 undated 1\n\
 bad 1\n\
 out of order 1\n\
-first 2026-11-22T06:10:00Z\n\
-last 2026-11-22T06:09:00Z\n\
+earliest 2026-11-22T06:09:00Z\n\
+latest 2026-11-22T06:10:00Z\n\
 ",
     ),
     (
@@ -372,8 +372,8 @@ values 3\n\
 undated 0\n\
 bad 2\n\
 out of order 1\n\
-first 2026-11-22T06:10:00Z\n\
-last 2026-11-22T06:30:00.500000Z\n\
+earliest 2026-11-22T06:09:00Z\n\
+latest 2026-11-22T06:30:00.500000Z\n\
 longest gap PT21M0.5S before app.log:5\n\
 ",
     ),
@@ -389,8 +389,8 @@ values 2\n\
 undated 0\n\
 bad 0\n\
 out of order 0\n\
-first 2026-11-21T23:00:00Z\n\
-last 2026-11-23T23:00:00Z\n\
+earliest 2026-11-21T23:00:00Z\n\
+latest 2026-11-23T23:00:00Z\n\
 longest gap P2D before app.log:2\n\
 ",
     ),
@@ -403,8 +403,8 @@ values 1\n\
 undated 0\n\
 bad 0\n\
 out of order 0\n\
-first 2026-11-22T06:10:00Z\n\
-last 2026-11-22T06:10:00Z\n\
+earliest 2026-11-22T06:10:00Z\n\
+latest 2026-11-22T06:10:00Z\n\
 ",
     ),
     (
