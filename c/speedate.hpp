@@ -439,7 +439,7 @@ class Date : public detail::Ordered<Date> {
     /* The date of a day of chrono, or SPEEDATE_NO_SUCH_DATE outside the years 0000 to 9999. */
     template <class Day, std::enable_if_t<std::is_same_v<Day, std::chrono::sys_days>, int> = 0>
     static Result<Date> of(Day day) {
-        const std::int32_t days = detail::narrowed_offset(day.time_since_epoch().count());
+        const std::int32_t days = detail::Whole(day.time_since_epoch().count()).in<std::int32_t>();
         return from_c([&](auto *out) { return speedate_date_add_days(SpeedateDate{1970, 1, 1}, days, out); });
     }
     std::chrono::sys_days sys_days() const noexcept {

@@ -20,10 +20,6 @@ static int failures = 0;
         }                                                                                                              \
     } while (0)
 
-static std::string date_of_year(int year) {
-    const std::string digits = std::to_string(year);
-    return std::string(4 - digits.size(), '0') + digits + "-01-01";
-}
 // What a result has: the text of its value, or the name of its error.
 template <class T> static std::string said(const Result<T> &result) {
     std::ostringstream to;
@@ -60,31 +56,30 @@ static Config with(Unit unit, Overflow overflow, Order order, std::optional<std:
 
 // No integer wraps on its way into a value: numbers that are wider than a field, and than 64 bits, are refused as others are.
 template <class Integer> static void wide_numbers() {
-    for (int bits : {8, 16, 31, 32, 53, 63, 64, 100, 126}) {
+    for (int bits : {31, 32, 53, 63}) {
         if (bits >= std::numeric_limits<Integer>::digits)
             continue;
         for (int more : {-1, 0, 1}) {
-            const Integer number = (Integer{1} << bits) + static_cast<Integer>(more);
-            CHECK(said(Date::of(number, 1, 1)) == (number > 9999 ? "date_too_large" : date_of_year(static_cast<int>(number))));
-            CHECK(said(Date::of(2020, number, 1)) == "out_of_range_month" && said(Date::of(2020, 1, number)) == "out_of_range_day");
-            CHECK(said(Time::of(number, 0)) == "out_of_range_hour" && said(Time::of(0, number)) == "out_of_range_minute");
-            CHECK(said(Time::of(0, 0, number)) == "out_of_range_second");
-            CHECK(said(Time::of(0, 0, 0, 0, number)) == (number < 86400 ? said(Time::of(0, 0, 0, 0, static_cast<int>(number))) : "out_of_range_tz"));
-            if (bits > 30) {
-                CHECK(said(Time::of(0, 0, 0, number)) == "time_too_large");
-                CHECK(said(Duration::of(false, number)) == "duration_days_too_large");
-                CHECK(said(Duration::of(true, 0, number)) == "duration_value_too_large");
-                CHECK(said(Duration::normalized(false, 0, 0, number)) == (number > UINT32_MAX ? "duration_value_too_large" : said(Duration::normalized(false, 0, 0, static_cast<std::int64_t>(number)))));
-            }
-            if constexpr (std::numeric_limits<Integer>::is_signed) {
+            const Integer number = static_cast<Integer>((Integer{1} << bits) + static_cast<Integer>(more));
+            CHECK(said(Date::of(number, 1, 1)) == "date_too_large" && said(Date::of(2020, number, 1)) == "out_of_range_month");
+            CHECK(said(Date::of(2020, 1, number)) == "out_of_range_day" && said(Time::of(number, 0)) == "out_of_range_hour");
+            CHECK(said(Time::of(0, number)) == "out_of_range_minute" && said(Time::of(0, 0, number)) == "out_of_range_second");
+            CHECK(said(Time::of(0, 0, 0, number)) == "time_too_large" && said(Time::of(0, 0, 0, 0, number)) == "out_of_range_tz");
+            CHECK(said(Duration::of(false, number)) == "duration_days_too_large");
+            CHECK(said(Duration::of(true, 0, number)) == "duration_value_too_large");
+            CHECK(said(Duration::normalized(false, number)) == (bits > 31 + (more < 0) ? "duration_value_too_large" : "duration_days_too_large"));
+            if constexpr (std::is_signed_v<Integer>) {
                 CHECK(said(Date::of(-number, 1, 1)) == "date_too_small" && said(Date::of(2020, -number, 1)) == "out_of_range_month");
-                CHECK(said(Time::of(-number, 0)) == "out_of_range_hour" && said(Duration::of(false, -number)) == "duration_days_too_large");
-                CHECK(bits < 31 || said(Time::of(0, 0, 0, 0, -number)) == "out_of_range_tz");
+                CHECK(said(Time::of(-number, 0)) == "out_of_range_hour" && said(Time::of(0, 0, 0, 0, -number)) == "out_of_range_tz");
+                CHECK(said(Duration::of(false, -number)) == "duration_days_too_large");
             }
         }
     }
-    CHECK(said(Date::of(std::numeric_limits<Integer>::max(), 1, 1)) == "date_too_large");
-    CHECK(said(Time::of(0, 0, 0, 0, std::numeric_limits<Integer>::max() - Integer{3599})) == "out_of_range_tz");
+    constexpr Integer most = std::numeric_limits<Integer>::max(), least = std::numeric_limits<Integer>::min();
+    CHECK(said(Date::of(most, 1, 1)) == "date_too_large" && said(Duration::of(false, most)) == "duration_days_too_large");
+    // As 64 bits with a sign, the second one would be an hour west of UTC.
+    CHECK(said(Time::of(0, 0, 0, 0, most)) == "out_of_range_tz" && said(Time::of(0, 0, 0, 0, most - Integer{3599})) == "out_of_range_tz");
+    CHECK(said(Date::of(least, 1, 1)) == (std::is_signed_v<Integer> ? "date_too_small" : "0000-01-01"));
 }
 
 static void results() {
