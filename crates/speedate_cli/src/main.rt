@@ -1,7 +1,9 @@
 //! Selects, orders, converts, checks and sums up lines by their date-times, and adds up their durations.
 #![tactic(auto)]
 
+mod input;
 mod merge_session;
+mod reason;
 mod seeking;
 mod session;
 mod sort_session;
