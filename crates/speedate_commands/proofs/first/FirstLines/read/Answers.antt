@@ -1,4 +1,4 @@
-use Rattle.std.proofs.Common.{◌≡◌, ◌∙◌, ◌<◌, ◌≤◌, arith, length, refl, sym, true, false}
+use Rattle.std.proofs.Common.{◌≡◌, ◌∙◌, ◌<◌, ◌≤◌, arith, length, refl, sym, false}
 use Rattle.speedate_commands.specs.First.{is_found}
 use Rattle.speedate_commands.proofs.FirstLemmas.{first_ends, first_stays, first_step}
 use Rattle.speedate_commands.proofs.FirstLemmas.{head_ends, head_stays, head_step}
