@@ -11,7 +11,7 @@ _speedate() {
     --digits) words='refuse truncate' ;;
     --offset) words=utc ;;
     --undated) words='join drop bad' ;;
-    --bad) words='keep drop stop' ;;
+    --bad) words='keep stop' ;;
     --to) words='text utc' ;;
     --fraction) words='0 3 6' ;;
     *)

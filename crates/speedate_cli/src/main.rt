@@ -1,7 +1,9 @@
 //! Selects, orders, converts, checks and sums up lines by their date-times, and adds up their durations.
 #![tactic(auto)]
 
+mod input;
 mod merge_session;
+mod reason;
 mod seeking;
 mod session;
 mod sort_session;
@@ -15,22 +17,31 @@ use speedate_options::commands::{
 };
 use speedate_options::options::Refusal;
 use speedate_options::program::program;
+use std::alloc::AllocError;
+use std::env::Env;
+use std::io::{ErrorKind, Write};
 use std::process::ExitCode;
 
 /// The status of a command line that is refused.
 const USAGE: u8 = 2;
 
+/// No argument is longer: Linux allows 131,072 bytes with the zero that ends one.
+const ARGUMENT_MAX: usize = 131_072;
+
 fn main(rt: HostRuntime) -> anyhow::Result<ExitCode> {
     let alloc = rt.alloc();
-    let words: Vec<String> = std::env::args(&rt)?.collect(alloc)?;
+    let words: Vec<String> = match std::env::args(&rt) {
+        Ok(words) => words.collect(alloc)?,
+        Err(error) if error.kind() == ErrorKind::InvalidData => {
+            tell_argument(&rt)?;
+            return Ok(ExitCode::from(USAGE));
+        }
+        Err(error) => return Err(error.into()),
+    };
     let program = program(alloc)?;
     let matches = match program.try_get_matches_from(words.as_slice()) {
         Ok(matches) => matches,
-        Err(error) => {
-            let status = if error.use_stderr() { USAGE } else { 0 };
-            error.print(&rt)?;
-            return Ok(ExitCode::from(status));
-        }
+        Err(error) => return Ok(ExitCode::from(tell(&rt, &error))),
     };
     let Some((name, given)) = matches.subcommand() else {
         return Ok(ExitCode::from(USAGE));
@@ -38,10 +49,47 @@ fn main(rt: HostRuntime) -> anyhow::Result<ExitCode> {
     match run(&rt, name, given) {
         Ok(status) => Ok(ExitCode::from(status)),
         Err(refusal) => {
-            eprintln!(rt; "error: {refusal}")?;
+            let _ = eprintln!(rt; "error: {name}: {refusal}");
             Ok(ExitCode::from(USAGE))
         }
     }
+}
+
+/// Tells what the command line asks for in place of a command, or why it is refused, and returns the exit
+/// status.
+fn tell(rt: &HostRuntime, error: &clap::Error) -> u8 {
+    let told = error.print(rt);
+    if error.use_stderr() {
+        return USAGE;
+    }
+    match told {
+        Ok(()) => 0,
+        Err(failure) => {
+            if failure.kind() != ErrorKind::BrokenPipe {
+                let _ = eprintln!(rt; "speedate: output failed");
+            }
+            session::WRITE
+        }
+    }
+}
+
+/// Tells the first argument that is not UTF-8.
+fn tell_argument(rt: &HostRuntime) -> Result<(), AllocError> {
+    let mut argument = vec![in rt.alloc(); 0u8; ARGUMENT_MAX]?;
+    for index in 0..usize::MAX {
+        let Ok(size) = rt.arg(index, &mut argument) else {
+            break;
+        };
+        let text = &argument[..size];
+        if std::str::from_utf8(text).is_err() {
+            let mut stderr = rt.stderr();
+            let _ = stderr.write_all(b"error: an argument is not UTF-8: ");
+            let _ = stderr.write_all(text);
+            let _ = stderr.write_all(b"\n");
+            break;
+        }
+    }
+    Ok(())
 }
 
 /// Runs a command by its name and what it was given, and returns the exit status.

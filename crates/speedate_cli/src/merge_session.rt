@@ -3,73 +3,49 @@
 ghost use Rattle.std.specs.Prelude.{◌+◌, ◌≤◌};
 ghost use Rattle.arrayvec.specs.ArrayVec.{array_vec_len};
 
-use crate::session::{BAD, Output, READ, Reports, WRITE, is_output, tell_count};
+use crate::input::{Input, Looking, open_input, tell_unread, tell_without_value};
+use crate::session::{BAD, Output, READ, Reports, WRITE, tell_count, tell_lines_before};
+use speedate_commands::first::First;
 use speedate_commands::order::{Latest, push_late};
-use speedate_scan::print::{push_line_place, push_name};
+use speedate_scan::print::push_line_place;
 use speedate_scan::scan::{Offsets, REPORTS_MAX, Scan};
 use speedate_sort::merge::{Before, Halt, Halted, Source, merge};
 use speedate_sort::sort::{Keys, Unread};
 use speedate_stream::{PENDING_MAX, Pending, STEP_MAX, Watched, push_bytes};
 use std::alloc::AllocError;
-use std::fs::{self, File};
-use std::io::{self, BufReader, Read, Stdin, Write};
-
-/// A file, or standard input.
-#[derive(Drop)]
-pub enum Input {
-    /// Standard input.
-    Standard(Stdin),
-    /// A file.
-    File(File),
-}
-
-impl Read for Input {
-    fn read(&mut self, buffer: &mut [u8]) -> io::Result<usize> {
-        match self {
-            Input::Standard(input) => input.read(buffer),
-            Input::File(input) => input.read(buffer),
-        }
-    }
-}
+use std::io::{BufReader, Write};
 
 /// A source of a file, or of standard input.
-type FileSource<'a> = Source<'a, BufReader<Input>>;
+type FileSource<'a> = Source<'a, BufReader<Looking<'a, Input>>>;
 
-/// Runs `merge` over files, and returns the exit status. Without files it reads standard input.
+/// Runs `merge` over files, and returns the exit status. Without files it reads standard input. All are
+/// opened before a line is printed, and none is printed if one cannot be opened or its first line not read.
 pub fn run_merge<'a>(rt: &HostRuntime, keys: &Keys<'a>, files: &[&'a str]) -> u8 {
+    let files = if files.is_empty() { &["-"] } else { files };
     let mut sources = Vec::new(rt.alloc());
-    let mut offsets = keys.scan.offsets;
     let mut status = 0;
-    for name in if files.is_empty() { &["-"] } else { files } {
-        let Ok(opened) = open_source(rt, *keys, name) else {
-            return end_without_memory(rt, &sources);
-        };
-        let Some(mut source) = opened else {
-            status = READ;
-            continue;
-        };
-        let begun = source.next(&mut offsets);
-        if begun.is_err() {
-            // After a failed read it may hold the beginning of a line.
-            source.line.clear();
-        }
-        if sources.push(source).is_err() {
-            return end_without_memory(rt, &sources);
-        }
-        match begun {
-            Ok(()) => {}
-            Err(Halt::Unread(Unread::Read)) => {
-                let _ = eprintln!(rt; "speedate: {name}: cannot be read");
-                status = READ;
+    for name in files {
+        match open_source(rt, *keys, name) {
+            Ok(Some(source)) => {
+                if sources.push(source).is_err() {
+                    return tell_memory(rt);
+                }
             }
-            Err(halt) => {
-                let index = sources.len() - 1;
-                tell_bad(rt, &sources);
-                return status.max(tell_end(rt, &sources, Some(Halted { index, halt })));
-            }
+            Ok(None) => status = READ,
+            Err(_) => return tell_memory(rt),
         }
     }
-    status.max(merge_sources(rt, &mut sources, offsets))
+    if status == READ {
+        return READ;
+    }
+    let mut offsets = keys.scan.offsets;
+    for index in 0..sources.len() {
+        if let Err(halt) = sources[index].next(&mut offsets) {
+            tell_bad(rt, &sources);
+            return tell_end(rt, files, &sources, Some(Halted { index, halt }));
+        }
+    }
+    merge_sources(rt, files, &mut sources, offsets)
 }
 
 /// Opens a file of which no line has been read, or tells why it cannot be read.
@@ -81,21 +57,10 @@ fn open_source<'a>(
     name: &'a str,
 ) -> Result<Option<FileSource<'a>>, AllocError> {
     keys.scan.begin(name.as_bytes());
-    if is_output(rt, if name == "-" { "/dev/stdin" } else { name }) {
-        let _ = eprintln!(rt; "speedate: {name}: is the output too");
+    let Some(input) = open_input(rt, name) else {
         return Ok(None);
-    }
-    let input = if name == "-" {
-        Input::Standard(rt.stdin())
-    } else {
-        match fs::open(rt, name) {
-            Ok(file) => Input::File(file),
-            Err(_) => {
-                let _ = eprintln!(rt; "speedate: {name}: cannot be opened");
-                return Ok(None);
-            }
-        }
     };
+    let input = Looking::new(input, First::new(keys.scan, false));
     match BufReader::new(rt.alloc(), input) {
         Ok(input) => Ok(Some(Source::new(keys, input, rt.alloc()))),
         Err(_) => Err(AllocError),
@@ -103,7 +68,12 @@ fn open_source<'a>(
 }
 
 /// Prints the lines of the sources in order, and returns the exit status as far as it is about that.
-fn merge_sources(rt: &HostRuntime, sources: &mut [FileSource<'_>], offsets: Offsets) -> u8 {
+fn merge_sources(
+    rt: &HostRuntime,
+    files: &[&str],
+    sources: &mut [FileSource<'_>],
+    offsets: Offsets,
+) -> u8 {
     let mut output = Watched::new(Output {
         inner: rt.stdout(),
         is_closed: false,
@@ -111,12 +81,12 @@ fn merge_sources(rt: &HostRuntime, sources: &mut [FileSource<'_>], offsets: Offs
     let merged = merge(sources, offsets, &mut output);
     tell_bad(rt, sources);
     match merged {
-        Ok(halted) => tell_end(rt, sources, halted),
+        Ok(halted) => tell_end(rt, files, sources, halted),
         Err(_) => {
             if !output.into_inner().is_closed {
                 let _ = eprintln!(rt; "speedate: output failed");
             }
-            tell_end(rt, sources, None).max(WRITE)
+            tell_end(rt, files, sources, None).max(WRITE)
         }
     }
 }
@@ -137,42 +107,56 @@ fn tell_bad(rt: &HostRuntime, sources: &[FileSource<'_>]) {
     }
 }
 
-/// Tells how a merge ended, and returns the exit status as far as it is about that.
-fn tell_end(rt: &HostRuntime, sources: &[FileSource<'_>], halted: Option<Halted>) -> u8 {
+/// Tells how a merge of files ended, and returns the exit status as far as it is about that.
+fn tell_end(
+    rt: &HostRuntime,
+    files: &[&str],
+    sources: &[FileSource<'_>],
+    halted: Option<Halted>,
+) -> u8 {
+    let mut status = 0;
     let mut bad = 0u64;
-    for source in sources {
+    let mut before = 0u64;
+    for (name, source) in files.iter().zip(sources) {
+        let lines = &source.input.get_ref().lines;
         bad = bad.saturating_add(source.keys.scan.bad);
+        // What was read ahead of the line in memory does not count.
+        if source.number > 0 {
+            before = before.saturating_add(lines.first.lines_before());
+        }
+        if source.line.is_empty() && lines.is_without_value() {
+            tell_without_value(rt, name);
+            status = BAD;
+        }
     }
-    let mut status = if bad > 0 { BAD } else { 0 };
+    if bad > 0 {
+        status = BAD;
+    }
     if let Some(Halted { index, halt }) = halted {
-        if let Some(source) = sources.get(index) {
-            status = status.max(tell_halt(rt, source, halt));
+        if let (Some(name), Some(source)) = (files.get(index), sources.get(index)) {
+            status = status.max(tell_halt(rt, name, source, halt));
         }
     }
     tell_count(rt, bad, "bad line", "bad lines");
+    tell_lines_before(rt, before);
     status
 }
 
 /// Tells why a source ended a merge, and returns the exit status for that.
-fn tell_halt(rt: &HostRuntime, source: &FileSource<'_>, halt: Halt) -> u8 {
+fn tell_halt(rt: &HostRuntime, name: &str, source: &FileSource<'_>, halt: Halt) -> u8 {
     let mut text = Pending::new();
     match halt {
         Halt::Unread(Unread::Memory) => return tell_memory(rt),
         Halt::Unread(Unread::Read) => {
-            push_bytes(b"speedate: ", &mut text);
-            push_name(source.keys.scan.name, &mut text);
-            push_bytes(b": cannot be read\n", &mut text);
+            tell_unread(rt, name, source.input.get_ref().reason);
+            return READ;
         }
         Halt::Bad => {}
         Halt::Late(before) => push_before(&source.keys, before, &mut text),
         Halt::Unlike => push_unlike(&source.keys.scan, &mut text),
     }
     let _ = rt.stderr().write_all(text.as_slice());
-    if halt == Halt::Unread(Unread::Read) {
-        READ
-    } else {
-        BAD
-    }
+    BAD
 }
 
 /// Appends where the last value stands, by how much it is before another, and where that stands.
@@ -203,12 +187,6 @@ fn push_unlike(scan: &Scan<'_>, pending: &mut Pending)
     };
     push_bytes(advice.as_bytes(), pending);
     push_bytes(b"\n", pending);
-}
-
-/// Tells what is bad in the sources that were opened, and that there is no memory for a further one.
-fn end_without_memory(rt: &HostRuntime, sources: &[FileSource<'_>]) -> u8 {
-    tell_bad(rt, sources);
-    tell_memory(rt).max(tell_end(rt, sources, None))
 }
 
 /// Tells that memory ran out, and returns the exit status.

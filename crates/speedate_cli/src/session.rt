@@ -3,14 +3,17 @@
 ghost use Rattle.std.specs.Prelude.{◌+◌, ◌≤◌};
 ghost use Rattle.arrayvec.specs.ArrayVec.{array_vec_len};
 
+use crate::input::{Input, Looking, open_input, tell_unread, tell_without_value};
+use crate::reason::Reason;
 use crate::seeking::Seeking;
 use speedate::CallKind;
 use speedate_commands::between::{Between, print_entries};
 use speedate_commands::check::{Check, print_reports};
 use speedate_commands::convert::{Convert, print_converted};
+use speedate_commands::first::First;
 use speedate_commands::in_order::between_in_order;
 use speedate_commands::order::{Order, print_late};
-use speedate_commands::search::ReadAt;
+use speedate_commands::search::{ReadAt, Window};
 use speedate_commands::sum::{Sum, add_durations};
 use speedate_commands::summary::{SUMMARY_MAX, Summary, add_lines};
 use speedate_scan::form::Form;
@@ -18,11 +21,9 @@ use speedate_scan::print::{push_line_place, push_report};
 use speedate_scan::scan::{Offsets, Report, Scan, Stop};
 use speedate_stream::run::RunError;
 use speedate_stream::{LineMachine, Observer, PENDING_MAX, Pending, Watched, push_bytes};
-use std::fs;
 use std::io::{self, ErrorKind, Read, Seek, SeekFrom, Write};
-use std::os::unix::fs::MetadataExt;
 
-/// The status of a run in which a value was bad, or values were out of order.
+/// The status of a run in which a value was bad, values were out of order, or a file had no value.
 pub const BAD: u8 = 1;
 
 /// The status of a run whose first value did not fit the bounds.
@@ -46,8 +47,8 @@ pub trait Closing {
         form.call_kind()
     }
 
-    /// How many lines before the first value were not printed.
-    fn left_out(&self) -> u64 {
+    /// How many lines are told to be before the first entry.
+    fn lines_before(&self, _first: &First<'_>) -> u64 {
         0
     }
 
@@ -61,14 +62,15 @@ pub trait Closing {
         false
     }
 
-    /// Prints what the command prints of a file of so many bytes, which is searched.
+    /// Prints what the command prints of a file of so many bytes, which is searched, and returns whether
+    /// a value was found.
     fn search<S: ReadAt, W: Write>(
         &mut self,
         _source: &S,
         _size: u64,
         _output: &mut Watched<W>,
-    ) -> Result<(), RunError> {
-        Ok(())
+    ) -> Result<bool, RunError> {
+        Ok(false)
     }
 
     /// Whether what was to be printed after the last file has too many days.
@@ -100,7 +102,7 @@ pub trait Session<'a>: LineMachine + Closing + Sized {
 }
 
 impl Closing for Between<'_> {
-    fn left_out(&self) -> u64 {
+    fn lines_before(&self, _first: &First<'_>) -> u64 {
         self.before
     }
 
@@ -113,8 +115,19 @@ impl Closing for Between<'_> {
         source: &S,
         size: u64,
         output: &mut Watched<W>,
-    ) -> Result<(), RunError> {
-        between_in_order(self, source, size, output)
+    ) -> Result<bool, RunError> {
+        let known = *self;
+        self.has_value = false;
+        let ended = between_in_order(self, source, size, output);
+        let is_found = self.has_value;
+        if known.has_value {
+            self.has_value = true;
+            self.before = known.before;
+        }
+        match ended {
+            Ok(()) => Ok(is_found),
+            Err(error) => Err(error),
+        }
     }
 }
 
@@ -141,6 +154,10 @@ impl Closing for Check<'_> {
     fn reports_bad(&self) -> bool {
         false
     }
+
+    fn lines_before(&self, first: &First<'_>) -> u64 {
+        first.lines_before()
+    }
 }
 
 impl<'a> Session<'a> for Check<'a> {
@@ -162,7 +179,11 @@ impl<'a> Session<'a> for Check<'a> {
     }
 }
 
-impl Closing for Convert<'_> {}
+impl Closing for Convert<'_> {
+    fn lines_before(&self, first: &First<'_>) -> u64 {
+        first.lines_before()
+    }
+}
 
 impl<'a> Session<'a> for Convert<'a> {
     fn print<R: Read, W: Write, O: Observer<Self>>(
@@ -299,15 +320,16 @@ pub fn run_files<'a, M: Session<'a>>(rt: &HostRuntime, machine: &mut M, files: &
         inner: rt.stdout(),
         is_closed: false,
     });
+    let scan = machine.scan();
+    let kind = machine.call_kind(scan.reader.form);
+    let has_durations = matches!(kind, CallKind::Duration);
+    let mut first = First::new(scan, has_durations);
     let mut status = 0;
-    if files.is_empty() {
-        status = run_file(rt, machine, "-", &mut output);
-    }
-    for name in files {
+    for name in if files.is_empty() { &["-"] } else { files } {
         if status == WRITE || machine.scan().is_stopped() {
             break;
         }
-        status = status.max(run_file(rt, machine, name, &mut output));
+        status = status.max(run_file(rt, machine, &mut first, name, &mut output));
     }
     let mut output = output.into_inner();
     if status != WRITE && write_end(machine, &mut output).is_err() {
@@ -316,7 +338,7 @@ pub fn run_files<'a, M: Session<'a>>(rt: &HostRuntime, machine: &mut M, files: &
     if status == WRITE && !output.is_closed {
         let _ = eprintln!(rt; "speedate: output failed");
     }
-    status.max(tell_end(rt, machine))
+    status.max(tell_end(rt, machine, &first))
 }
 
 /// Writes what is printed after the last file.
@@ -331,67 +353,110 @@ pub fn write_end<'a, M: Session<'a>, W: Write>(machine: &M, output: &mut W) -> i
 fn run_file<'a, M: Session<'a>, W: Write>(
     rt: &HostRuntime,
     machine: &mut M,
+    first: &mut First<'a>,
     name: &'a str,
     output: &mut Watched<W>,
 ) -> u8 {
     machine.begin(name.as_bytes());
-    if is_output(rt, if name == "-" { "/dev/stdin" } else { name }) {
-        let _ = eprintln!(rt; "speedate: {name}: is the output too");
+    let Some(input) = open_input(rt, name) else {
         return READ;
-    }
-    let told = machine.scan().bad;
+    };
+    first.begin(machine.scan());
     let mut reports = Reports {
         rt,
         name: name.as_bytes(),
-        told,
+        told: machine.scan().bad,
     };
-    let ended = if name == "-" {
-        machine.print(&mut Watched::new(rt.stdin()), output, &mut reports)
-    } else {
-        match fs::open(rt, name) {
-            Ok(file) => print_file(machine, file, output, &mut reports),
-            Err(_) => {
-                let _ = eprintln!(rt; "speedate: {name}: cannot be opened");
-                return READ;
-            }
-        }
-    };
+    let ended = print_input(machine, *first, input, output, &mut reports);
     reports.before_read(machine);
-    match ended {
-        Ok(()) => 0,
+    *first = ended.first;
+    match ended.result {
+        Ok(()) => {
+            if ended.is_without_value {
+                tell_without_value(rt, name);
+                return BAD;
+            }
+            0
+        }
         Err(RunError::Read) => {
-            let _ = eprintln!(rt; "speedate: {name}: cannot be read");
+            tell_unread(rt, name, ended.reason);
             READ
         }
         Err(RunError::Write) => WRITE,
     }
 }
 
-/// Prints what a command prints of a file. One that cannot be moved in is read as a whole.
-fn print_file<'a, M: Session<'a>, F: Read + Seek + Drop, W: Write, O: Observer<M>>(
-    machine: &mut M,
-    file: F,
-    output: &mut Watched<W>,
-    observer: &mut O,
-) -> Result<(), RunError> {
-    let mut file = file;
-    if machine.is_in_order() {
-        if let Ok(size) = file.seek(SeekFrom::End(0)) {
-            return machine.search(&Seeking::new(file), size, output);
-        }
-    }
-    machine.print(&mut Watched::new(file), output, observer)
+/// How a run of a command over a file ended.
+#[derive(Clone, Copy)]
+struct Ended<'a> {
+    /// Which end failed, if one did.
+    result: Result<(), RunError>,
+    /// What is known of the lines up to the first value.
+    first: First<'a>,
+    /// Whether no line of the file has a value.
+    is_without_value: bool,
+    /// Why a read failed, if one did.
+    reason: Option<Reason>,
 }
 
-/// Whether a file is the one that standard output goes to: reading it would never end.
-pub fn is_output(rt: &HostRuntime, path: &str) -> bool {
-    let Ok(output) = fs::metadata(rt, "/dev/stdout") else {
-        return false;
-    };
-    match fs::metadata(rt, path) {
-        Ok(file) => output.is_file() && file.dev() == output.dev() && file.ino() == output.ino(),
-        Err(_) => false,
+impl<'a> Ended<'a> {
+    /// How a run ended that left a reader.
+    fn new<R>(ended: Result<(), RunError>, looking: &Looking<'a, R>) -> Self {
+        Ended {
+            result: ended,
+            first: looking.lines.first,
+            is_without_value: looking.lines.is_without_value(),
+            reason: looking.reason,
+        }
     }
+}
+
+/// Prints what a command prints of an input. One that cannot be moved in is read as a whole.
+fn print_input<'a, M: Session<'a>, W: Write, O: Observer<M>>(
+    machine: &mut M,
+    first: First<'a>,
+    input: Input,
+    output: &mut Watched<W>,
+    observer: &mut O,
+) -> Ended<'a> {
+    let mut input = input;
+    if machine.is_in_order() {
+        if let Ok(size) = input.seek(SeekFrom::End(0)) {
+            return search_input(machine, first, &Seeking::new(input), size, output);
+        }
+    }
+    let mut input = Watched::new(Looking::new(input, first));
+    let result = machine.print(&mut input, output, observer);
+    Ended::new(result, &input.into_inner())
+}
+
+/// Prints what a command prints of a file that is searched. If no value was found, its lines are looked
+/// at from the first one on.
+fn search_input<'a, M: Session<'a>, W: Write>(
+    machine: &mut M,
+    first: First<'a>,
+    source: &Seeking<Input>,
+    size: u64,
+    output: &mut Watched<W>,
+) -> Ended<'a> {
+    let searched = machine.search(source, size, output);
+    let mut looking = Looking::new(
+        Window {
+            source,
+            at: 0,
+            end: u64::MAX,
+        },
+        first,
+    );
+    if searched == Ok(false) {
+        looking.look();
+    }
+    let mut ended = Ended::new(Ok(()), &looking);
+    if let Err(error) = searched {
+        ended.result = Err(error);
+        ended.reason = source.reason();
+    }
+    ended
 }
 
 /// Tells the bad values of a file on standard error: those that are among the first, once each.
@@ -435,7 +500,7 @@ impl Reports<'_, '_> {
 
 /// Tells on standard error what is to be told at the end, and returns the exit status as far as it is
 /// about the lines.
-fn tell_end<'a, M: Session<'a>>(rt: &HostRuntime, machine: &M) -> u8 {
+fn tell_end<'a, M: Session<'a>>(rt: &HostRuntime, machine: &M, first: &First<'_>) -> u8 {
     let scan = machine.scan();
     if let (Stop::AtUnfit, Offsets::AsBounds(has_offset)) = (scan.stop, scan.offsets) {
         tell_unfit(rt, &scan, has_offset);
@@ -444,12 +509,7 @@ fn tell_end<'a, M: Session<'a>>(rt: &HostRuntime, machine: &M) -> u8 {
     if machine.reports_bad() {
         tell_count(rt, scan.bad, "bad line", "bad lines");
     }
-    tell_count(
-        rt,
-        machine.left_out(),
-        "line before the first entry",
-        "lines before the first entry",
-    );
+    tell_lines_before(rt, machine.lines_before(first));
     let is_too_large = machine.is_too_large();
     if is_too_large {
         let _ = eprintln!(rt; "speedate: the total has more than 999,999,999 days");
@@ -463,7 +523,9 @@ fn tell_end<'a, M: Session<'a>>(rt: &HostRuntime, machine: &M) -> u8 {
 
 /// Tells that the first value does not fit the bounds, which have an offset or have none.
 fn tell_unfit(rt: &HostRuntime, scan: &Scan<'_>, has_offset: bool) {
-    let advice = if has_offset {
+    let advice = if scan.reader.form == Form::Date {
+        "the value is a date: give bounds without an offset"
+    } else if has_offset {
         "the value has no offset: give --offset, or bounds without one"
     } else {
         "the value has an offset: give bounds with one"
@@ -475,6 +537,16 @@ fn tell_unfit(rt: &HostRuntime, scan: &Scan<'_>, has_offset: bool) {
     push_bytes(advice.as_bytes(), &mut text);
     push_bytes(b"\n", &mut text);
     let _ = rt.stderr().write_all(text.as_slice());
+}
+
+/// Tells how many lines were before the first entry, if there were any.
+pub fn tell_lines_before(rt: &HostRuntime, count: u64) {
+    tell_count(
+        rt,
+        count,
+        "line before the first entry",
+        "lines before the first entry",
+    );
 }
 
 /// Tells how many lines of a kind there were, if there were any.

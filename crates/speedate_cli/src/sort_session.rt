@@ -1,20 +1,22 @@
 //! The inputs of `sort`, and what is told of them on standard error.
 
-use crate::session::{BAD, Output, READ, Reports, WRITE, is_output, tell_count};
+use crate::input::{Looking, open_input, tell_unread, tell_without_value};
+use crate::session::{BAD, Output, READ, Reports, WRITE, tell_count, tell_lines_before};
+use speedate_commands::first::First;
 use speedate_sort::sort::{Keys, Lines, Unread, Unsorted};
 use speedate_stream::Watched;
-use std::fs;
 
 /// Runs `sort` over files, and returns the exit status. Without files it sorts standard input.
 pub fn run_sort<'a>(rt: &HostRuntime, keys: &mut Keys<'a>, files: &[&'a str]) -> u8 {
     let mut lines = Lines::new(rt.alloc());
+    let mut first = First::new(keys.scan, false);
     let mut status = 0;
     for name in if files.is_empty() { &["-"] } else { files } {
         if keys.scan.is_stopped() {
             break;
         }
-        match add_file(rt, keys, name, &mut lines) {
-            Ok(()) => {}
+        match add_file(rt, keys, &mut first, name, &mut lines) {
+            Ok(is_without_value) => status = status.max(if is_without_value { BAD } else { 0 }),
             Err(Unread::Read) => status = READ,
             Err(Unread::Memory) => return tell_memory(rt),
         }
@@ -23,42 +25,46 @@ pub fn run_sort<'a>(rt: &HostRuntime, keys: &mut Keys<'a>, files: &[&'a str]) ->
         status = status.max(print_lines(rt, &mut lines));
     }
     tell_count(rt, keys.scan.bad, "bad line", "bad lines");
+    tell_lines_before(rt, first.lines_before());
     status.max(if keys.scan.bad > 0 { BAD } else { 0 })
 }
 
-/// Adds the lines of a file, and tells what is bad.
+/// Adds the lines of a file, tells what is bad, and returns whether no line has a value.
 fn add_file<'a>(
     rt: &HostRuntime,
     keys: &mut Keys<'a>,
+    first: &mut First<'a>,
     name: &'a str,
     lines: &mut Lines,
-) -> Result<(), Unread> {
+) -> Result<bool, Unread> {
     keys.scan.begin(name.as_bytes());
-    if is_output(rt, if name == "-" { "/dev/stdin" } else { name }) {
-        let _ = eprintln!(rt; "speedate: {name}: is the output too");
+    let Some(input) = open_input(rt, name) else {
         return Err(Unread::Read);
-    }
+    };
+    first.begin(keys.scan);
     let reports = Reports {
         rt,
         name: name.as_bytes(),
         told: keys.scan.bad,
     };
-    let added = if name == "-" {
-        lines.add(keys, &mut rt.stdin())
-    } else {
-        match fs::open(rt, name) {
-            Ok(mut file) => lines.add(keys, &mut file),
-            Err(_) => {
-                let _ = eprintln!(rt; "speedate: {name}: cannot be opened");
-                return Err(Unread::Read);
-            }
-        }
-    };
+    let mut looking = Looking::new(input, *first);
+    let added = lines.add(keys, &mut looking);
+    *first = looking.lines.first;
     reports.tell(&keys.scan, keys.scan.reader.form.call_kind());
-    if added == Err(Unread::Read) {
-        let _ = eprintln!(rt; "speedate: {name}: cannot be read");
+    match added {
+        Ok(()) => {
+            let is_without_value = looking.lines.is_without_value();
+            if is_without_value {
+                tell_without_value(rt, name);
+            }
+            Ok(is_without_value)
+        }
+        Err(Unread::Read) => {
+            tell_unread(rt, name, looking.reason);
+            Err(Unread::Read)
+        }
+        Err(Unread::Memory) => Err(Unread::Memory),
     }
-    added
 }
 
 /// Prints the lines in order, and returns the exit status as far as it is about that.

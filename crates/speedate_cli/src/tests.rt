@@ -6,10 +6,13 @@ mod rows;
 mod searched;
 mod sorted;
 
+use crate::input::Looking;
 use crate::session::{Session, write_end};
 use clap::ArgMatches;
 use ends::{Sink, Source};
 use rows::{CLOCKS, COMMANDS, DURATIONS, LOG, OPTIONS};
+use speedate::CallKind;
+use speedate_commands::first::First;
 use speedate_options::commands::{
     first_between, first_check, first_convert, first_order, first_sum, first_summary,
 };
@@ -19,9 +22,9 @@ use speedate_stream::{NoObserver, Watched};
 use std::alloc::AllocError;
 use std::process::Abort;
 
-/// Command lines, and how many values are then bad, lines left out before the first entry, and values out
+/// Command lines, and how many values are then bad, lines told to be before the first entry, and values out
 /// of order.
-const COUNTS: [(&str, &str, (u64, u64, u64)); 9] = [
+const COUNTS: [(&str, &str, (u64, u64, u64)); 14] = [
     ("between .. ..", LOG, (1, 0, 0)),
     (
         "between --bad stop 2026-11-22T06:09:30Z ..",
@@ -30,11 +33,39 @@ const COUNTS: [(&str, &str, (u64, u64, u64)); 9] = [
     ),
     ("between --undated bad 2027-01-01T00:00Z ..", LOG, (2, 0, 0)),
     ("check", LOG, (1, 0, 0)),
-    ("convert --to utc", CLOCKS, (2, 0, 0)),
+    ("check", BEGINNING, (1, 3, 0)),
+    ("check", "x\n2026-02-30T06:10Z\n", (1, 0, 0)),
+    ("check --header", BEGINNING, (1, 2, 0)),
+    ("convert --to utc", BEGINNING, (1, 3, 0)),
+    ("order", BEGINNING, (1, 0, 0)),
+    // The second value cannot be written, but is one.
+    ("convert --to utc", CLOCKS, (2, 1, 0)),
     ("order", LOG, (1, 0, 1)),
     ("sum", DURATIONS, (2, 0, 0)),
     ("sum --field 2", "a,PT1H\nb,\nc\n", (2, 0, 0)),
     ("summary", LOG, (1, 0, 1)),
+];
+
+/// Lines before the first entry, of which one has a bad value.
+const BEGINNING: &str = "x\n2026-02-30T06:10Z\ny\n2026-11-22T06:10Z\nz\n";
+
+/// Command lines, and whether no line then has a value.
+const VALUELESS: [(&str, &str, bool); 15] = [
+    ("check", "", false),
+    ("check", "x", true),
+    ("check", "x\ny\n\n", true),
+    ("check", BEGINNING, false),
+    ("check", "x\n2026-02-30T06:10Z", false),
+    ("check --header", "x\n", false),
+    ("check --header", "x\n\n", true),
+    ("check --after ts=", LOG, true),
+    ("check --undated bad", "x\n", true),
+    ("between --bad stop .. ..", "x\n2026-13-22\nx\n", false),
+    ("convert --field 3", "1,2026-11-22T06:10Z\n2,\n", true),
+    ("sum", "\n\r\n", true),
+    ("sum", "\nP1M\n", false),
+    ("sum --field 2", "1,\n2,\n", true),
+    ("sum --field 2", "1,\n2,PT1H\n", false),
 ];
 
 /// One command line for each command.
@@ -57,29 +88,38 @@ struct Ended {
     /// How many calls of the reader there were.
     reads: u64,
     taken: Vec<u8>,
-    /// How many values were bad, lines left out, and values out of order.
+    /// How many values were bad, lines before the first entry, and values out of order.
     counts: (u64, u64, u64),
+    /// Whether no line has a value.
+    is_without_value: bool,
 }
 
 /// A run of a command over a reader and a writer.
 fn run_command<'a, M: Session<'a>>(machine: &mut M, source: Source<'_>, sink: Sink) -> Ended {
     machine.begin(b"app.log");
-    let mut input = Watched::new(source);
+    let scan = machine.scan();
+    let kind = machine.call_kind(scan.reader.form);
+    let has_durations = matches!(kind, CallKind::Duration);
+    let looking = Looking::new(source, First::new(scan, has_durations));
+    let mut input = Watched::new(looking);
     let mut output = Watched::new(sink);
     let mut result = machine.print(&mut input, &mut output, &mut NoObserver);
     let mut sink = output.into_inner();
+    let looking = input.into_inner();
+    let first = looking.lines.first;
     if result != Err(RunError::Write) && write_end(machine, &mut sink).is_err() {
         result = Err(RunError::Write);
     }
     Ended {
         result,
-        reads: input.into_inner().calls,
+        reads: looking.inner.calls,
         taken: sink.taken,
         counts: (
             machine.scan().bad,
-            machine.left_out(),
+            machine.lines_before(&first),
             machine.out_of_order(),
         ),
+        is_without_value: looking.lines.is_without_value(),
     }
 }
 
@@ -182,6 +222,19 @@ fn values_and_lines_are_counted(rt: HostRuntime) -> Result<(), AllocError> {
             want,
             "{words}"
         );
+    }
+    Ok(())
+}
+
+#[test]
+fn files_without_values_are_known(rt: HostRuntime) -> Result<(), AllocError> {
+    for (words, input, want) in VALUELESS {
+        for step in [1, 2, usize::MAX] {
+            let source = Source::new(input.as_bytes(), step);
+            let sink = Sink::new(rt.alloc(), usize::MAX);
+            let ended = run_words(&rt, words, source, sink)?;
+            assert_eq!(rt; ended.is_without_value, want, "{words} {input}");
+        }
     }
     Ok(())
 }

@@ -6,3 +6,4 @@ mod SumLemmas
 mod InOrderLemmas
 mod SearchLemmas
 mod FoundLemmas
+mod FirstLemmas

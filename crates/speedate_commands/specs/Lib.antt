@@ -7,3 +7,4 @@ pub mod Convert
 pub mod Runs
 pub mod Sum
 pub mod InOrder
+pub mod First

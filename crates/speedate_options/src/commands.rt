@@ -1,5 +1,7 @@
 //! Each command before its first line, by what was given.
 
+use crate::idle::Kind;
+use crate::options::Refusal::Usage;
 use crate::options::{self, Options, Refusal};
 use clap::ArgMatches;
 use speedate::MicrosecondsPrecisionOverflowBehavior::{Error, Truncate};
@@ -15,7 +17,7 @@ use speedate_sort::sort::Keys;
 
 /// The command `between` before the first line.
 pub fn first_between<'a>(given: &ArgMatches<'a>) -> Result<Between<'a>, Refusal> {
-    let options = options::common(given, Truncate)?;
+    let options = options::common(given, Kind::Prints, Truncate)?;
     let (bounds, offsets) = options::bounds(given, options.reader.offset)?;
     Ok(Between {
         scan: first_scan(&options, offsets),
@@ -30,7 +32,7 @@ pub fn first_between<'a>(given: &ArgMatches<'a>) -> Result<Between<'a>, Refusal>
 
 /// The command `check` before the first line.
 pub fn first_check<'a>(given: &ArgMatches<'a>) -> Result<Check<'a>, Refusal> {
-    let options = options::common(given, Error)?;
+    let options = options::common(given, Kind::Reports, Error)?;
     Ok(Check {
         scan: first_scan(&options, Offsets::Any),
     })
@@ -39,7 +41,11 @@ pub fn first_check<'a>(given: &ArgMatches<'a>) -> Result<Check<'a>, Refusal> {
 /// The command `convert` before the first line.
 pub fn first_convert<'a>(given: &ArgMatches<'a>) -> Result<Convert<'a>, Refusal> {
     let digits = options::fraction_digits(given)?;
-    let options = options::common(given, if digits.is_some() { Truncate } else { Error })?;
+    let options = options::common(
+        given,
+        Kind::Prints,
+        if digits.is_some() { Truncate } else { Error },
+    )?;
     Ok(Convert {
         scan: first_scan(&options, Offsets::Any),
         prefix: options.prefix,
@@ -52,12 +58,12 @@ pub fn first_convert<'a>(given: &ArgMatches<'a>) -> Result<Convert<'a>, Refusal>
 pub fn first_merge<'a>(given: &ArgMatches<'a>) -> Result<Keys<'a>, Refusal> {
     let files = given.get_strs("FILE").unwrap_or(&[]);
     if given.get_flag("header") && files.len() > 1 {
-        return Err("merge takes --header with one FILE");
+        return Err(Usage("--header goes with one FILE"));
     }
     let mut is_given = false;
     for &name in files {
         if name == "-" && is_given {
-            return Err("merge takes standard input once");
+            return Err(Usage("standard input can be merged once"));
         }
         is_given = is_given || name == "-";
     }
@@ -66,7 +72,7 @@ pub fn first_merge<'a>(given: &ArgMatches<'a>) -> Result<Keys<'a>, Refusal> {
 
 /// The command `order` before the first line.
 pub fn first_order<'a>(given: &ArgMatches<'a>) -> Result<Order<'a>, Refusal> {
-    let options = options::common(given, Truncate)?;
+    let options = options::common(given, Kind::Reports, Truncate)?;
     Ok(Order {
         scan: first_scan(&options, Offsets::AsFirst),
         latest: None,
@@ -76,7 +82,7 @@ pub fn first_order<'a>(given: &ArgMatches<'a>) -> Result<Order<'a>, Refusal> {
 
 /// The command `sum` before the first line.
 pub fn first_sum<'a>(given: &ArgMatches<'a>) -> Result<Sum<'a>, Refusal> {
-    let options = options::common(given, Error)?;
+    let options = options::common(given, Kind::Reports, Error)?;
     Ok(Sum {
         scan: first_scan(&options, Offsets::Any),
         total: Some(0),
@@ -85,9 +91,9 @@ pub fn first_sum<'a>(given: &ArgMatches<'a>) -> Result<Sum<'a>, Refusal> {
 
 /// What the command `sort` knows before the first line.
 pub fn first_keys<'a>(given: &ArgMatches<'a>) -> Result<Keys<'a>, Refusal> {
-    let options = options::common(given, Truncate)?;
+    let options = options::common(given, Kind::Prints, Truncate)?;
     if options.has_header && given.get_strs("FILE").unwrap_or(&[]).len() > 1 {
-        return Err("sort takes --header with one FILE");
+        return Err(Usage("--header goes with one FILE"));
     }
     Ok(Keys {
         scan: first_scan(&options, Offsets::AsFirst),

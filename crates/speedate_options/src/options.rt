@@ -1,10 +1,22 @@
 //! What the options of a command line ask for.
 
-ghost use Rattle.std.specs.Prelude.{◌≡◌, ◌≤◌};
+ghost use Rattle.std.specs.Prelude.{◌≡◌, ◌≤◌, ◌+◌, ◌++◌, length};
+ghost use Rattle.speedate.specs.DateTime.{date_and_time};
+ghost use Rattle.speedate.specs.Requirement.{result_map};
+ghost use Rattle.speedate_options.specs.Bound.{bound_value};
+ghost use Rattle.speedate_options.specs.Offset.{begins_offset, is_of_hours, is_utc, midnight_offset};
+ghost use Rattle.speedate_options.specs.Offset.{midnight_text, offset_in, offset_of};
+ghost use Rattle.speedate.specs.Base.{Behavior};
+ghost use Rattle.speedate.specs.Time.{time_answer};
+ghost use Rattle.arrayvec.specs.ArrayVec.{array_vec_len};
 
+use self::Refusal::Usage;
+use crate::idle::{Asked, Idle, Kind};
 use arrayvec::ArrayVec;
 use clap::ArgMatches;
-use speedate::{Date, DateTime, FractionDigits, MicrosecondsPrecisionOverflowBehavior, Time};
+use speedate::{
+    CallKind, DateTime, FractionDigits, MicrosecondsPrecisionOverflowBehavior, Refused, Time,
+};
 use speedate_commands::between::Bounds;
 use speedate_commands::convert::Target;
 use speedate_scan::field::{NthField, QUOTE};
@@ -12,6 +24,7 @@ use speedate_scan::form::Form;
 use speedate_scan::print::Prefix;
 use speedate_scan::reading::{Place, Reader};
 use speedate_scan::scan::{BadLines, Offsets, UndatedLines};
+use std::fmt;
 
 /// What the command line asks for that every command has.
 #[derive(Clone, Copy)]
@@ -28,14 +41,49 @@ pub struct Options<'a> {
     pub prefix: Prefix,
 }
 
-/// Why the command line is refused, for people.
-pub type Refusal = &'static str;
+/// Why the command line is refused.
+#[derive(Clone, Copy, Debug)]
+pub enum Refusal {
+    /// For people.
+    Usage(&'static str),
+    /// An option can have no effect.
+    Idle(Idle),
+    /// A bound of this name is bad.
+    Bound(&'static str, BadBound),
+}
+
+/// What is bad about a bound.
+#[derive(Clone, Copy, Debug)]
+pub struct BadBound {
+    /// What kind of call refused it.
+    pub kind: CallKind,
+    /// What was expected, and at which byte.
+    pub refused: Refused,
+}
+
+impl fmt::Display for Refusal {
+    fn fmt<W: fmt::Write>(&self, f: &mut fmt::Formatter<W>) -> fmt::Result {
+        match self {
+            Refusal::Usage(text) => f.write_str(text),
+            Refusal::Idle(idle) => f.write_str(idle.text()),
+            Refusal::Bound(name, bad) => {
+                let column = bad.refused.place.saturating_add(1);
+                let expected = bad.refused.fault.expected(bad.kind);
+                write!(f, "{name}:{column}: expected {expected}")
+            }
+        }
+    }
+}
 
 /// What every command has, by a default for digits past the sixth.
 pub fn common<'a>(
     matches: &ArgMatches<'a>,
+    kind: Kind,
     digits: MicrosecondsPrecisionOverflowBehavior,
 ) -> Result<Options<'a>, Refusal> {
+    if let Some(idle) = asked(matches, kind)?.idle() {
+        return Err(Refusal::Idle(idle));
+    }
     Ok(Options {
         reader: reader(matches, digits)?,
         undated_lines: undated_lines(matches)?,
@@ -44,6 +92,27 @@ pub fn common<'a>(
         prefix: Prefix {
             has_name: matches.get_flag("name"),
             has_number: matches.get_flag("number"),
+        },
+    })
+}
+
+/// What is asked for that may make an option idle.
+fn asked(matches: &ArgMatches<'_>, kind: Kind) -> Result<Asked, Refusal> {
+    Ok(Asked {
+        kind,
+        has_field: matches.get_str("field").is_some(),
+        is_date: matches.get_str("kind") == Some("date"),
+        is_strict: matches.get_flag("strict"),
+        has_offset: matches.get_str("offset").is_some(),
+        has_target: matches.get_str("to").is_some(),
+        has_fraction: matches.get_str("fraction").is_some(),
+        undated: match matches.get_str("undated") {
+            Some(_) => Some(undated_lines(matches)?),
+            None => None,
+        },
+        bad: match matches.get_str("bad") {
+            Some(_) => Some(bad_lines(matches)?),
+            None => None,
         },
     })
 }
@@ -64,10 +133,14 @@ fn reader<'a>(
 /// Where the value of a line begins.
 fn place<'a>(matches: &ArgMatches<'a>) -> Result<Place<'a>, Refusal> {
     match (matches.get_str("after"), matches.get_str("field")) {
-        (Some(_), Some(_)) => Err("--after and --field exclude each other"),
-        (_, None) if matches.get_str("separator").is_some() => Err("--separator wants --field"),
+        (Some(_), Some(_)) => Err(Usage("--after and --field exclude each other")),
+        (_, None) if matches.get_str("separator").is_some() => Err(Usage(
+            "--separator wants --field",
+        )),
         (None, None) => Ok(Place::Front),
-        (Some(text), None) if text.is_empty() => Err("--after wants a text that is not empty"),
+        (Some(text), None) if text.is_empty() => Err(Usage(
+            "--after wants a text that is not empty",
+        )),
         (Some(text), None) => Ok(Place::After(text.as_bytes())),
         (None, Some(text)) => Ok(Place::Field(NthField {
             number: field_number(text)?,
@@ -80,7 +153,7 @@ fn place<'a>(matches: &ArgMatches<'a>) -> Result<Place<'a>, Refusal> {
 fn field_number(text: &str) -> Result<usize, Refusal> {
     match text.parse::<usize>() {
         Ok(number) if number > 0 => Ok(number),
-        _ => Err("--field is a number, and the first field is 1"),
+        _ => Err(Usage("--field is a number, and the first field is 1")),
     }
 }
 
@@ -88,9 +161,11 @@ fn field_number(text: &str) -> Result<usize, Refusal> {
 fn separator(matches: &ArgMatches<'_>) -> Result<u8, Refusal> {
     match matches.get_str("separator").unwrap_or(",").as_bytes() {
         b"\\t" => Ok(b'\t'),
-        [QUOTE | b'\n' | b'\r'] => Err("--separator is no quote, and no byte that ends lines"),
+        [QUOTE | b'\n' | b'\r'] => Err(Usage(
+            "--separator is no quote, and no byte that ends lines",
+        )),
         [byte] => Ok(*byte),
-        _ => Err("--separator is one byte, or \\t for a tab"),
+        _ => Err(Usage("--separator is one byte, or \\t for a tab")),
     }
 }
 
@@ -100,7 +175,7 @@ fn form(matches: &ArgMatches<'_>) -> Result<Form, Refusal> {
         None | Some("datetime") if matches.get_flag("strict") => Ok(Form::Strict),
         None | Some("datetime") => Ok(Form::DateTime),
         Some("date") => Ok(Form::Date),
-        _ => Err("--kind is datetime or date"),
+        _ => Err(Usage("--kind is datetime or date")),
     }
 }
 
@@ -113,7 +188,7 @@ fn behavior(
         None => Ok(digits),
         Some("refuse") => Ok(MicrosecondsPrecisionOverflowBehavior::Error),
         Some("truncate") => Ok(MicrosecondsPrecisionOverflowBehavior::Truncate),
-        _ => Err("--digits is refuse or truncate"),
+        _ => Err(Usage("--digits is refuse or truncate")),
     }
 }
 
@@ -123,7 +198,9 @@ fn offset(matches: &ArgMatches<'_>) -> Result<Option<i32>, Refusal> {
         None => Ok(None),
         Some(text) => match offset_of(text.as_bytes()) {
             Some(offset) => Ok(Some(offset)),
-            None => Err("--offset is utc or +HH:MM"),
+            None => Err(Usage(
+                "--offset is an offset as values have it, Z, +01:00, +0100 or +01, or utc",
+            )),
         },
     }
 }
@@ -135,7 +212,7 @@ fn undated_lines(matches: &ArgMatches<'_>) -> Result<UndatedLines, Refusal> {
         None | Some("join") => Ok(UndatedLines::Join),
         Some("drop") => Ok(UndatedLines::Drop),
         Some("bad") => Ok(UndatedLines::Bad),
-        _ => Err("--undated is join, drop or bad"),
+        _ => Err(Usage("--undated is join, drop or bad")),
     }
 }
 
@@ -143,9 +220,8 @@ fn undated_lines(matches: &ArgMatches<'_>) -> Result<UndatedLines, Refusal> {
 fn bad_lines(matches: &ArgMatches<'_>) -> Result<BadLines, Refusal> {
     match matches.get_str("bad") {
         None | Some("keep") => Ok(BadLines::Keep),
-        Some("drop") => Ok(BadLines::Drop),
         Some("stop") => Ok(BadLines::Stop),
-        _ => Err("--bad is keep, drop or stop"),
+        _ => Err(Usage("--bad is keep or stop")),
     }
 }
 
@@ -156,7 +232,7 @@ pub fn fraction_digits(matches: &ArgMatches<'_>) -> Result<Option<FractionDigits
         Some("0") => Ok(Some(FractionDigits::Zero)),
         Some("3") => Ok(Some(FractionDigits::Three)),
         Some("6") => Ok(Some(FractionDigits::Six)),
-        _ => Err("--fraction is 0, 3 or 6"),
+        _ => Err(Usage("--fraction is 0, 3 or 6")),
     }
 }
 
@@ -166,23 +242,87 @@ pub fn target(matches: &ArgMatches<'_>) -> Result<Target, Refusal> {
         None | Some("text") => Ok(Target::Own),
         Some(text) => match offset_of(text.as_bytes()) {
             Some(offset) => Ok(Target::Offset(offset)),
-            None => Err("--to is text, utc or +HH:MM"),
+            None => Err(Usage(
+                "--to is text, or an offset as values have it, Z, +01:00, +0100 or +01, or utc",
+            )),
         },
     }
 }
 
-/// The seconds of an offset: 0 of `utc`, 3,600 of `+01:00`.
-fn offset_of(text: &[u8]) -> Option<i32> {
-    if text == b"utc".as_slice() {
-        return Some(0);
+/// Whether a text is `utc` or `UTC`.
+fn is_utc(text: &[u8]) -> bool
+    ensures utc { result ≡ is_utc text.now }
+{
+    matches!(text, [b'u', b't', b'c'] | [b'U', b'T', b'C'])
+}
+
+/// Whether a text is a sign and two bytes.
+fn is_of_hours(text: &[u8]) -> bool
+    ensures hours { result ≡ is_of_hours text.now }
+{
+    matches!(text, [b'+' | b'-', _, _])
+}
+
+/// Whether a text begins as an offset of a value: with `Z`, a sign, or U+2212, which is a minus sign too.
+fn begins_offset(text: &[u8]) -> bool
+    ensures begins { result ≡ begins_offset text.now }
+{
+    matches!(text, [b'Z' | b'z' | b'+' | b'-' | 0xE2, ..])
+}
+
+/// The seconds of an offset as values may have it, of `+01`, or of `utc`: 3,600 of `+01:00`.
+fn offset_of(text: &[u8]) -> Option<i32>
+    ensures offset { result ≡ offset_of text.now }
+{
+    if text.len() > 8 {
+        None
+    } else if is_utc(text) {
+        Some(0)
+    } else if is_of_hours(text) {
+        midnight_offset(text, b":00")
+    } else if begins_offset(text) {
+        midnight_offset(text, b"")
+    } else {
+        None
     }
-    if text.len() != 6 || !matches!(text[0], b'+' | b'-') {
-        return None;
-    }
-    let mut midnight = ArrayVec::<u8, 16>::new();
-    let _ = midnight.try_extend_from_slice(b"00:00");
-    let _ = midnight.try_extend_from_slice(text);
-    match Time::parse_bytes(midnight.as_slice()) {
+}
+
+/// The seconds of the offset of a midnight, by the text of the offset in two parts.
+fn midnight_offset(text: &[u8], rest: &[u8]) -> Option<i32>
+    requires short { length text.now ≤ 8 }
+    requires shorter { length rest.now ≤ 3 }
+    ensures offset { result ≡ midnight_offset text.now rest.now }
+{
+    time_offset(midnight_text(text, rest).as_slice())
+}
+
+/// The text of a midnight, by the text of its offset in two parts.
+fn midnight_text(text: &[u8], rest: &[u8]) -> ArrayVec<u8, 16>
+    requires short { length text.now ≤ 8 }
+    requires shorter { length rest.now ≤ 3 }
+    ensures text { result.items ≡ midnight_text text.now rest.now }
+{
+    let mut midnight = ArrayVec::new();
+    append(&mut midnight, b"00:00");
+    append(&mut midnight, text);
+    append(&mut midnight, rest);
+    midnight
+}
+
+/// Appends bytes to a text that has room for them.
+fn append(text: &mut ArrayVec<u8, 16>, bytes: &[u8])
+    requires room { array_vec_len text.old + length bytes.now ≤ 16 }
+    ensures items { text.new.items ≡ text.old.items ++ bytes.now }
+    ensures length { array_vec_len text.new ≡ array_vec_len text.old + length bytes.now }
+{
+    text.try_extend_from_slice(bytes).unwrap();
+}
+
+/// The seconds of the offset of a time, if the text is one and has one.
+fn time_offset(text: &[u8]) -> Option<i32>
+    ensures offset { result ≡ offset_in (time_answer Behavior.Error text.now) }
+{
+    match Time::parse_bytes(text) {
         Ok(time) => time.tz_offset,
         Err(_) => None,
     }
@@ -193,14 +333,16 @@ type Bound = Option<(i64, bool)>;
 
 /// The bounds of `between`, and which values fit them.
 pub fn bounds(matches: &ArgMatches<'_>, offset: Option<i32>) -> Result<(Bounds, Offsets), Refusal> {
-    let from = bound_of(matches.get_str("FROM"), offset)?;
-    let to = bound_of(matches.get_str("TO"), offset)?;
+    let from = bound_of("FROM", matches.get_str("FROM"), offset)?;
+    let to = bound_of("TO", matches.get_str("TO"), offset)?;
     let offsets = match (from, to) {
         (Some((_, first)), Some((_, second))) if first != second => {
-            return Err("FROM and TO both have an offset or neither; --offset gives them one");
+            return Err(Usage(
+                "FROM and TO both have an offset or neither; --offset gives them one",
+            ));
         }
         (Some((first, _)), Some((second, _))) if first > second => {
-            return Err("FROM is after TO");
+            return Err(Usage("FROM is after TO"));
         }
         (Some((_, has_offset)), _) | (None, Some((_, has_offset))) => {
             Offsets::AsBounds(has_offset)
@@ -222,29 +364,35 @@ fn instant_of(bound: Bound) -> Option<i64> {
     }
 }
 
-/// A bound by its text.
-fn bound_of(text: Option<&str>, offset: Option<i32>) -> Result<Bound, Refusal> {
+/// A bound by its name and its text.
+fn bound_of(name: &'static str, text: Option<&str>, offset: Option<i32>) -> Result<Bound, Refusal> {
     let Some(text) = text else {
         return Ok(None);
     };
     if text == ".." {
         return Ok(None);
     }
-    let Some(value) = bound_value(text.as_bytes()) else {
-        return Err("a bound is a date-time, as 2026-11-22T06:10Z, a date, or ..");
-    };
-    let value = speedate_scan::reading::assume(offset, value);
-    let has_offset = value.time.tz_offset.is_some();
-    Ok(Some((value.timestamp_tz_us(), has_offset)))
+    match bound_value(text.as_bytes()) {
+        Ok(value) => {
+            let value = speedate_scan::reading::assume(offset, value);
+            let has_offset = value.time.tz_offset.is_some();
+            Ok(Some((value.timestamp_tz_us(), has_offset)))
+        }
+        Err(bad) => Err(Refusal::Bound(name, bad)),
+    }
 }
 
 /// The date-time of a bound, or the midnight of its date.
-fn bound_value(text: &[u8]) -> Option<DateTime> {
-    if let Ok(value) = DateTime::parse_bytes_rfc3339(text) {
-        return Some(value);
-    }
-    match Date::parse_bytes_rfc3339(text) {
-        Ok(date) => Some(speedate_scan::form::midnight_of(date)),
-        Err(_) => None,
+fn bound_value(text: &[u8]) -> Result<DateTime, BadBound>
+    ensures value { result_map date_and_time result ≡ bound_value text.now }
+{
+    let (form, kind) = if text.len() > 10 {
+        (Form::DateTime, CallKind::DateTime)
+    } else {
+        (Form::Date, CallKind::Date)
+    };
+    match form.whole(text, MicrosecondsPrecisionOverflowBehavior::Error) {
+        Ok(value) => Ok(value),
+        Err(refused) => Err(BadBound { kind, refused }),
     }
 }

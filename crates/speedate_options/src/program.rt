@@ -6,10 +6,12 @@ use std::alloc::{AllocError, Global};
 /// Whether a command prints lines of its input.
 #[derive(Clone, Copy, PartialEq, Eq)]
 enum Prints {
-    /// It prints no lines of its input, or prints them alone.
-    Reports,
-    /// It prints lines of its input, after their file and number if these are asked for.
+    /// It prints none.
+    Nothing,
+    /// It prints them alone.
     Lines,
+    /// It prints them, after their file and number if these are asked for.
+    PrefixedLines,
 }
 
 /// The program's command line.
@@ -35,95 +37,122 @@ pub fn program<'a>(alloc: Global) -> Result<Command<'a>, AllocError> {
 /// The command `between`.
 fn between<'a>(alloc: Global) -> Result<Command<'a>, AllocError> {
     let command = Command::new(alloc, "between")
-        .about("Prints the entries with FROM <= instant < TO; a bound of .. is open")
+        .about("Print entries between two times")
+        .after_help("Prints the entries with FROM <= instant < TO; a bound of .. is open")
         .arg(bound(alloc, "FROM"))?
         .arg(bound(alloc, "TO"))?
         .arg(flag(alloc, "in-order").help(
             "The values of each file never fall: search for FROM and TO",
         ))?;
-    with_common(alloc, command, Prints::Lines)
+    with_common(alloc, command, Prints::PrefixedLines)
 }
 
 /// The command `check`.
 fn check<'a>(alloc: Global) -> Result<Command<'a>, AllocError> {
-    let command = Command::new(alloc, "check").about(
-        "Prints FILE:LINE:COLUMN: expected .. for each bad value",
-    );
-    with_common(alloc, command, Prints::Reports)
+    let command = Command::new(alloc, "check")
+        .about("Report values that are not valid")
+        .after_help("Prints FILE:LINE:COLUMN: expected .. for each bad value");
+    let command = with_values(alloc, command)?;
+    with_lines_and_files(alloc, command, Prints::Nothing)
 }
 
 /// The command `convert`.
 fn convert<'a>(alloc: Global) -> Result<Command<'a>, AllocError> {
     let command = Command::new(alloc, "convert")
-        .about("Prints each line with its value written anew, the other bytes as they are")
-        .arg(valued(alloc, "to", "WHAT").help(
-            "How a value is written: text, utc, or an offset +HH:MM [default: text]",
-        ))?
+        .about("Rewrite each value in one form")
+        .after_help("Prints each line with its value written anew, the other bytes as they are")
+        .arg(
+            valued(alloc, "to", "WHAT").allow_hyphen_values(true).help(
+                "How a value is written: text, utc, or an offset +HH:MM [default: text]",
+            ),
+        )?
         .arg(valued(alloc, "fraction", "N").help(
             "Exactly 0, 3 or 6 digits of a second, rounded down; implies --digits truncate",
         ))?;
-    with_common(alloc, command, Prints::Lines)
+    with_common(alloc, command, Prints::PrefixedLines)
 }
 
 /// The command `merge`.
 fn merge<'a>(alloc: Global) -> Result<Command<'a>, AllocError> {
-    let command = Command::new(alloc, "merge").about(
-        "Prints the entries of all files in the order of their values; each file is in order",
-    );
-    with_common(alloc, command, Prints::Reports)
+    let command = Command::new(alloc, "merge")
+        .about("Merge files that are in order")
+        .after_help(
+            "Prints the entries of all files in the order of their values; each file is in order",
+        );
+    with_common(alloc, command, Prints::Lines)
 }
 
 /// The command `order`.
 fn order<'a>(alloc: Global) -> Result<Command<'a>, AllocError> {
-    let command = Command::new(alloc, "order").about(
-        "Prints each value that is earlier than the one before, and by how much",
-    );
-    with_common(alloc, command, Prints::Reports)
+    let command = Command::new(alloc, "order")
+        .about("Report values that go back in time")
+        .after_help("Prints each value that is earlier than the one before, and by how much");
+    with_common(alloc, command, Prints::Nothing)
 }
 
 /// The command `sum`.
 fn sum<'a>(alloc: Global) -> Result<Command<'a>, AllocError> {
-    let command = Command::new(alloc, "sum").about(
-        "Prints the exact total of durations, one in each line; years and months are bad",
-    );
-    let command = with_lines(alloc, with_digits(alloc, with_field(alloc, command)?)?)?;
-    with_files(alloc, command)
+    let command = Command::new(alloc, "sum")
+        .about("Add up the durations of lines")
+        .after_help(
+            "Prints the exact total of durations, one in each line; years and months are bad",
+        );
+    let command = with_digits(alloc, with_field(alloc, command)?)?;
+    with_lines_and_files(alloc, command, Prints::Nothing)
 }
 
 /// The command `sort`.
 fn sort<'a>(alloc: Global) -> Result<Command<'a>, AllocError> {
-    let command = Command::new(alloc, "sort").about(
-        "Prints the entries of all files in the order of their values; reads them into memory",
-    );
-    with_common(alloc, command, Prints::Reports)
+    let command = Command::new(alloc, "sort")
+        .about("Sort entries by their values")
+        .after_help(
+            "Prints the entries of all files in the order of their values; reads them into memory",
+        );
+    with_common(alloc, command, Prints::Lines)
 }
 
 /// The command `summary`.
 fn summary<'a>(alloc: Global) -> Result<Command<'a>, AllocError> {
-    let command = Command::new(alloc, "summary").about(
-        "Prints how many lines and values there are, the first, the last and the longest gap",
-    );
-    with_common(alloc, command, Prints::Reports)
+    let command = Command::new(alloc, "summary")
+        .about("Count lines, show first and last value")
+        .after_help(
+            "Prints how many lines and values there are, the first, the last and the longest gap",
+        );
+    with_common(alloc, command, Prints::Nothing)
 }
 
-/// A command with what every command takes.
+/// A command with what every command about date-times has, but for `check`.
 fn with_common<'a>(
     alloc: Global,
     command: Command<'a>,
     prints: Prints,
 ) -> Result<Command<'a>, AllocError> {
+    let command = with_values(alloc, command)?.arg(
+        valued(alloc, "offset", "OFFSET")
+            .allow_hyphen_values(true)
+            .help("For values and bounds that have none: utc, or +HH:MM"),
+    )?;
+    with_lines_and_files(alloc, command, prints)
+}
+
+/// A command with how its date-times are read.
+fn with_values<'a>(alloc: Global, command: Command<'a>) -> Result<Command<'a>, AllocError> {
     let command = with_place(alloc, command)?
         .arg(valued(alloc, "kind", "KIND").help("datetime or date [default: datetime]"))?
         .arg(flag(alloc, "strict").help("Accept only RFC 3339"))?;
-    let command = with_digits(alloc, command)?.arg(
-        valued(alloc, "offset", "OFFSET")
-            .allow_hyphen_values(true)
-            .help("utc or +HH:MM for values and bounds that have none"),
-    )?;
-    let command = with_lines(alloc, command)?;
+    with_digits(alloc, command)
+}
+
+/// A command with what is done with lines, and its files.
+fn with_lines_and_files<'a>(
+    alloc: Global,
+    command: Command<'a>,
+    prints: Prints,
+) -> Result<Command<'a>, AllocError> {
+    let command = with_lines(alloc, command, prints)?;
     let command = match prints {
-        Prints::Lines => with_prefix(alloc, command)?,
-        Prints::Reports => command,
+        Prints::PrefixedLines => with_prefix(alloc, command)?,
+        Prints::Lines | Prints::Nothing => command,
     };
     with_files(alloc, command)
 }
@@ -134,14 +163,24 @@ fn with_digits<'a>(alloc: Global, command: Command<'a>) -> Result<Command<'a>, A
 }
 
 /// A command with what is done with lines that have no good value.
-fn with_lines<'a>(alloc: Global, command: Command<'a>) -> Result<Command<'a>, AllocError> {
-    command
-        .arg(valued(alloc, "undated", "WHAT").help(
+fn with_lines<'a>(
+    alloc: Global,
+    command: Command<'a>,
+    prints: Prints,
+) -> Result<Command<'a>, AllocError> {
+    let (undated, bad) = match prints {
+        Prints::Nothing => (
+            "Only bad: lines without a value are bad; with --field also join: they are not",
+            "Only stop: end at the first bad value",
+        ),
+        Prints::Lines | Prints::PrefixedLines => (
             "Lines without a value: join, drop or bad [default: join, with --field bad]",
-        ))?
-        .arg(valued(alloc, "bad", "WHAT").help(
-            "Lines with a bad value: keep, drop or stop [default: keep]",
-        ))?
+            "Lines with a bad value: keep or stop [default: keep]",
+        ),
+    };
+    command
+        .arg(valued(alloc, "undated", "WHAT").help(undated))?
+        .arg(valued(alloc, "bad", "WHAT").help(bad))?
         .arg(flag(alloc, "header").help("The first line of each file has no value"))
 }
 

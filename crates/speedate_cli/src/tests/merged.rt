@@ -37,13 +37,14 @@ x\n\
         None,
     ),
     (
-        "merge --undated drop --bad drop",
+        "merge --undated drop",
         SECOND,
         FIRST,
         "\
 2026-11-22T06:09Z d\n\
 2026-11-22T06:10Z a\n\
 2026-11-22T06:30Z e\n\
+2026-02-30 f\n\
 2026-11-22T06:30Z b\n\
 2026-11-22T07:30+01:00 c\n\
 ",

@@ -188,11 +188,12 @@ app.log:5:2026-11-22T06:30:00.5Z d\n\
 ",
     ),
     (
-        "between --number --name --undated drop --bad drop .. ..",
+        "between --number --name --undated drop .. ..",
         LOG,
         "\
 app.log:1:2026-11-22T06:10:00Z a\n\
 app.log:3:[2026-11-22T07:09:00+01:00] b\n\
+app.log:4:2026-02-30T00:00Z c\n\
 app.log:5:2026-11-22T06:30:00.5Z d\n\
 ",
     ),
@@ -219,7 +220,7 @@ trace\n\
 ",
     ),
     (
-        "convert --to +05:30",
+        "convert --to +0530",
         LOG,
         "\
 2026-11-22T11:40:00+05:30 a\n\
@@ -230,12 +231,13 @@ trace\n\
 ",
     ),
     (
-        "convert --to text --bad drop",
+        "convert --to text --bad keep",
         LOG,
         "\
 2026-11-22T06:10:00Z a\n\
 trace\n\
 [2026-11-22T07:09:00+01:00] b\n\
+2026-02-30T00:00Z c\n\
 2026-11-22T06:30:00.500000Z d\n\
 ",
     ),
@@ -305,7 +307,7 @@ app.log:4:9: expected a day that the month has\n\
 ",
     ),
     (
-        "convert --offset -01:00 --to utc --digits truncate",
+        "convert --offset -01 --to Z --digits truncate",
         CLOCKS,
         "\
 2026-11-22T07:10:00.123456Z a\n\
@@ -378,7 +380,7 @@ longest gap PT21M0.5S before app.log:5\n\
 ",
     ),
     (
-        "summary --kind date --offset +01:00",
+        "summary --kind date",
         "\
 2026-11-22\n\
 2026-11-24 x\n\
@@ -389,8 +391,8 @@ values 2\n\
 undated 0\n\
 bad 0\n\
 out of order 0\n\
-earliest 2026-11-21T23:00:00Z\n\
-latest 2026-11-23T23:00:00Z\n\
+earliest 2026-11-22T00:00:00\n\
+latest 2026-11-24T00:00:00\n\
 longest gap P2D before app.log:2\n\
 ",
     ),

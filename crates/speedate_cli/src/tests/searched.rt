@@ -29,7 +29,7 @@ const SEARCHED: [&str; 14] = [
     "between -n --header 2026-11-22T08:19Z 2026-11-22T08:21Z",
     "between --header 2026-11-22T08:19Z 2026-11-22T08:21Z",
     "between --undated drop 2026-11-22T08:19Z 2026-11-22T08:21Z",
-    "between --undated bad --bad drop 2026-11-22T08:19Z 2026-11-22T08:31Z",
+    "between --undated bad 2026-11-22T08:19Z 2026-11-22T08:31Z",
     "between --undated bad --bad stop 2026-11-22T08:19Z 2026-11-22T08:31Z",
 ];
 

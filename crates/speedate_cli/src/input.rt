@@ -1,0 +1,133 @@
+//! What is read: standard input or a file, and what is told of it on standard error.
+
+use crate::reason::Reason;
+use speedate_commands::first::{First, FirstLines};
+use std::fs::{self, File};
+use std::io::{self, ErrorKind, Read, Seek, SeekFrom, Stdin};
+use std::os::unix::fs::MetadataExt;
+
+/// A file, or standard input.
+#[derive(Drop)]
+pub enum Input {
+    /// Standard input.
+    Standard(Stdin),
+    /// A file.
+    File(File),
+}
+
+impl Read for Input {
+    fn read(&mut self, buffer: &mut [u8]) -> io::Result<usize> {
+        match self {
+            Input::Standard(input) => input.read(buffer),
+            Input::File(input) => input.read(buffer),
+        }
+    }
+}
+
+impl Seek for Input {
+    fn seek(&mut self, place: SeekFrom) -> io::Result<u64> {
+        match self {
+            // It is read as a whole.
+            Input::Standard(_) => Err(io::Error::from(ErrorKind::NotSeekable)),
+            Input::File(input) => input.seek(place),
+        }
+    }
+}
+
+/// Opens a file, or tells why it cannot be read.
+pub fn open_input(rt: &HostRuntime, name: &str) -> Option<Input> {
+    if is_output(rt, if name == "-" { "/dev/stdin" } else { name }) {
+        let _ = eprintln!(rt; "speedate: {name}: is the output too");
+        return None;
+    }
+    if name == "-" {
+        return Some(Input::Standard(rt.stdin()));
+    }
+    match fs::open(rt, name) {
+        Ok(file) => Some(Input::File(file)),
+        Err(error) => {
+            let reason = Reason::new(&error);
+            let _ = eprintln!(rt; "speedate: {name}: cannot be opened: {reason}");
+            None
+        }
+    }
+}
+
+/// Whether a file is the one that standard output goes to: reading it would never end.
+fn is_output(rt: &HostRuntime, path: &str) -> bool {
+    let Ok(output) = fs::metadata(rt, "/dev/stdout") else {
+        return false;
+    };
+    match fs::metadata(rt, path) {
+        Ok(file) => output.is_file() && file.dev() == output.dev() && file.ino() == output.ino(),
+        Err(_) => false,
+    }
+}
+
+/// Tells that a file cannot be read, and why.
+pub fn tell_unread(rt: &HostRuntime, name: &str, reason: Option<Reason>) {
+    let reason = reason.unwrap_or(Reason::Other);
+    let _ = eprintln!(rt; "speedate: {name}: cannot be read: {reason}");
+}
+
+/// Tells that no line of a file has a value.
+pub fn tell_without_value(rt: &HostRuntime, name: &str) {
+    let _ = eprintln!(rt; "speedate: {name}: no line has a value");
+}
+
+/// A reader whose lines are looked at up to the first value. It remembers why a read failed.
+#[derive(Drop)]
+pub struct Looking<'a, R> {
+    /// The reader.
+    pub inner: R,
+    /// What is known of its lines.
+    pub lines: FirstLines<'a>,
+    /// Why a read failed, if one did.
+    pub reason: Option<Reason>,
+}
+
+impl<'a, R> Looking<'a, R> {
+    /// A reader of which nothing was read.
+    pub fn new(inner: R, first: First<'a>) -> Self {
+        Looking {
+            inner,
+            lines: FirstLines::new(first),
+            reason: None,
+        }
+    }
+}
+
+impl<R: Read> Looking<'_, R> {
+    /// Reads up to the first value, or up to the end.
+    pub fn look(&mut self) {
+        let mut buffer = [0; 16_384];
+        for _ in 0..u64::MAX {
+            if self.lines.first.is_found() {
+                return;
+            }
+            match self.read(&mut buffer) {
+                Ok(0) | Err(_) => return,
+                Ok(_) => {}
+            }
+        }
+    }
+}
+
+impl<R: Read> Read for Looking<'_, R> {
+    fn read(&mut self, buffer: &mut [u8]) -> io::Result<usize> {
+        match self.inner.read(buffer) {
+            Ok(count) => {
+                if count > 0 {
+                    self.lines.read(&buffer[..count]);
+                } else if !buffer.is_empty() {
+                    self.lines.end();
+                }
+                Ok(count)
+            }
+            Err(error) => {
+                self.reason = Some(Reason::new(&error));
+                Err(error)
+            }
+        }
+    }
+}

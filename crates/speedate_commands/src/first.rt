@@ -1,0 +1,212 @@
+//! The lines before the first value of a file, and whether it has one.
+
+ghost use Rattle.std.specs.Prelude.{◌≡◌, ◌&&◌, [], false, true};
+ghost use Rattle.speedate_commands.specs.First.{after_duration, after_end, after_reading, first_after};
+ghost use Rattle.speedate_commands.specs.First.{head_with, is_dated, is_found, is_without_value};
+ghost use Rattle.speedate_commands.specs.First.{first_read, head_read, lines_before, taken};
+ghost use Rattle.speedate_scan.specs.Reading.{IsReadWithin};
+
+use arrayvec::ArrayVec;
+use speedate_scan::reading::Reading;
+use speedate_scan::scan::Scan;
+use speedate_stream::HEAD_MAX;
+
+/// What is known of the lines of a file up to its first value.
+#[derive(Clone, Copy)]
+pub struct First<'a> {
+    /// What is known of the lines so far.
+    pub scan: Scan<'a>,
+    /// Whether the values are durations.
+    pub has_durations: bool,
+    /// Whether a line of the file has a value, which may be bad.
+    pub has_value: bool,
+    /// Whether an entry has begun, in this file or in one before it.
+    pub has_entry: bool,
+    /// How many lines came before the first entry.
+    pub before: u64,
+}
+
+/// Whether a line has a value, which may be bad.
+fn is_dated(reading: &Reading) -> bool
+    ensures dated { result ≡ is_dated reading.now }
+{
+    !matches!(reading, Reading::Undated(_))
+}
+
+impl<'a> First<'a> {
+    /// What is known before the first file.
+    pub fn new(scan: Scan<'a>, has_durations: bool) -> Self
+        ensures new { result ≡ record {
+          scan = scan.entry;
+          has_durations = has_durations;
+          has_value = false;
+          has_entry = false;
+          before = 0;
+        } }
+    {
+        First {
+            scan,
+            has_durations,
+            has_value: false,
+            has_entry: false,
+            before: 0,
+        }
+    }
+
+    /// Begins a file.
+    pub fn begin(&mut self, scan: Scan<'a>)
+        ensures begun { self.new ≡ record self.old { scan = scan.entry; has_value = false } }
+    {
+        self.scan = scan;
+        self.has_value = false;
+    }
+}
+
+impl First<'_> {
+    /// Adds a line, by its head.
+    #[tactic(auto, unfolding(crate::specs::First::first_after))]
+    pub fn add(&mut self, head: &[u8])
+        ensures added { self.new ≡ first_after self.old head.now }
+    {
+        if self.scan.is_stopped() {
+            return;
+        }
+        if self.scan.has_header && self.scan.number == 0 {
+            self.scan.count();
+            return;
+        }
+        if !self.has_durations {
+            let reading = self.scan.reader.read(head);
+            self.pass(reading, head);
+            return;
+        }
+        match self.scan.reader.read_duration(head) {
+            Ok(_) => self.pass_duration(),
+            Err(reading) => self.pass(reading, head),
+        }
+    }
+
+    /// Passes a line by what is read of it.
+    fn pass(&mut self, reading: Reading, head: &[u8])
+        requires within { IsReadWithin reading head.now }
+        ensures passed { self.new ≡ after_reading self.old reading }
+    {
+        let line = self.scan.judged(reading, head);
+        self.has_value |= is_dated(&reading);
+        self.has_entry |= line.is_value();
+        if !self.has_entry {
+            self.before = self.before.saturating_add(1);
+        }
+        self.scan.pass(line);
+    }
+
+    /// Passes a line that has a duration.
+    fn pass_duration(&mut self)
+        ensures passed { self.new ≡ after_duration self.old }
+    {
+        self.has_value = true;
+        self.has_entry = true;
+        self.scan.count();
+    }
+
+    /// How many lines came before the first entry, if one has begun: otherwise 0.
+    pub fn lines_before(&self) -> u64
+        ensures before { result ≡ lines_before self.now }
+    {
+        if self.has_entry { self.before } else { 0 }
+    }
+
+    /// Whether no further line of the file needs to be added.
+    pub fn is_found(&self) -> bool
+        ensures found { result ≡ is_found self.now }
+    {
+        self.has_value && self.has_entry
+    }
+
+    /// Whether the lines that were added are all of a file without any value. A header is not counted.
+    pub fn is_without_value(&self) -> bool
+        ensures without { result ≡ is_without_value self.now }
+    {
+        let headers = if self.scan.has_header { 1 } else { 0 };
+        !self.has_value && !self.scan.is_stopped() && headers < self.scan.number
+    }
+}
+
+/// The lines of a file up to its first value, by the bytes that are read of the file.
+#[derive(Drop)]
+pub struct FirstLines<'a> {
+    /// What is known of the lines.
+    pub first: First<'a>,
+    /// The head of the line that has not ended.
+    pub head: ArrayVec<u8, HEAD_MAX>,
+    /// Whether the file was read to its end.
+    pub is_ended: bool,
+}
+
+impl<'a> FirstLines<'a> {
+    /// A file of which nothing was read.
+    pub fn new(first: First<'a>) -> Self
+        ensures first { result.first ≡ first.entry }
+        ensures head { result.head.items ≡ [] }
+        ensures unended { result.is_ended ≡ false }
+    {
+        FirstLines {
+            first,
+            head: ArrayVec::new(),
+            is_ended: false,
+        }
+    }
+}
+
+impl FirstLines<'_> {
+    /// Adds the lines that end in some bytes, up to the first value.
+    pub fn read(&mut self, bytes: &[u8])
+        ensures first { self.new.first
+            ≡ first_read self.old.first self.old.head.items bytes.now }
+        ensures head { self.new.head.items
+            ≡ head_read self.old.first self.old.head.items bytes.now }
+        ensures ended { self.new.is_ended ≡ self.old.is_ended }
+    {
+        let mut place = 0;
+        while place < bytes.len() {
+            if self.first.is_found() {
+                return;
+            }
+            self.take(bytes[place]);
+            place += 1;
+        }
+    }
+
+    /// Adds a byte, and the line that it ends.
+    fn take(&mut self, byte: u8)
+        ensures first { self.new.first ≡ taken self.old.first self.old.head.items byte }
+        ensures head { self.new.head.items ≡ head_with self.old.head.items byte }
+        ensures ended { self.new.is_ended ≡ self.old.is_ended }
+    {
+        if byte == b'\n' {
+            self.first.add(self.head.as_slice());
+            self.head.clear();
+        } else if !self.head.is_full() {
+            self.head.push(byte);
+        }
+    }
+
+    /// Adds the last line, if no line feed ends it.
+    pub fn end(&mut self)
+        ensures first { self.new.first ≡ after_end self.old.first self.old.head.items }
+        ensures ended { self.new.is_ended ≡ true }
+    {
+        if !self.head.is_empty() {
+            self.first.add(self.head.as_slice());
+            self.head.clear();
+        }
+        self.is_ended = true;
+    }
+
+    /// Whether the file was read to its end, has a line that is not its header, and no value.
+    pub fn is_without_value(&self) -> bool
+        ensures without { result ≡ (self.now.is_ended && is_without_value self.now.first) }
+    {
+        self.is_ended && self.first.is_without_value()
+    }
+}

@@ -1,0 +1,55 @@
+-- Options that can have no effect.
+use Rattle.std.specs.Prelude.{Bool, true, false, not, ◌&&◌, Option, Some, None, if◌then◌else◌}
+use Rattle.speedate_scan.specs.declared.scan.BadLines.{BadLines}
+use Rattle.speedate_scan.specs.declared.scan.UndatedLines.{UndatedLines}
+pub use Rattle.speedate_options.specs.declared.idle.Kind.{Kind}
+pub use Rattle.speedate_options.specs.declared.idle.Asked.{Asked}
+pub use Rattle.speedate_options.specs.declared.idle.Idle.{Idle}
+
+-- an option about clocks and offsets, where values are dates
+abbrev pub about_dates : Asked → Option Idle
+about_dates asked =
+    if not asked.is_date then None
+    else if asked.is_strict then Some Idle.StrictOfDates
+    else if asked.has_fraction then Some Idle.FractionOfDates
+    else if asked.has_offset then Some Idle.OffsetOfDates
+    else if asked.has_target then Some Idle.TargetOfDates
+    else None
+
+-- an offset for values that all have one
+abbrev pub about_offset : Asked → Option Idle
+about_offset asked = if asked.has_offset && asked.is_strict then Some Idle.OffsetOfStrict else None
+
+-- lines with a bad value are to be printed, or not
+abbrev pub about_bad : Option BadLines → Option Idle
+about_bad None = None
+about_bad (Some BadLines.Keep) = Some Idle.Bad
+about_bad (Some BadLines.Drop) = Some Idle.Bad
+about_bad (Some BadLines.Stop) = None
+
+-- lines without a value are to be printed, or not; a field without a value is bad by default
+abbrev pub about_undated : Bool → Option UndatedLines → Option BadLines → Option Idle
+about_undated has_field None bad = about_bad bad
+about_undated has_field (Some UndatedLines.Bad) bad = about_bad bad
+about_undated true (Some UndatedLines.Join) bad = about_bad bad
+about_undated true (Some UndatedLines.Drop) bad = about_bad bad
+about_undated false (Some UndatedLines.Join) bad = Some Idle.Undated
+about_undated false (Some UndatedLines.Drop) bad = Some Idle.Undated
+
+-- what is to be done with lines, where none is printed
+abbrev pub about_lines_of : Kind → Asked → Option Idle
+about_lines_of Kind.Prints asked = None
+about_lines_of Kind.Reports asked = about_undated asked.has_field asked.undated asked.bad
+
+abbrev pub about_lines : Asked → Option Idle
+about_lines asked = about_lines_of asked.kind asked
+
+-- the first of two options that is there
+abbrev pub first_of_two : Option Idle → Option Idle → Option Idle
+first_of_two None other = other
+first_of_two (Some found) other = Some found
+
+-- an option that can have no effect, if there is one
+abbrev pub idle : Asked → Option Idle
+idle asked =
+    first_of_two (about_dates asked) (first_of_two (about_offset asked) (about_lines asked))

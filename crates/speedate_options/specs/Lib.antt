@@ -1,0 +1,3 @@
+pub mod Bound
+pub mod Idle
+pub mod Offset
