@@ -1,6 +1,5 @@
 -- A date-time that the library reads, as the one of a line: its zone may come after a blank.
-use Rattle.std.proofs.Common.{◌≡◌, ◌∙◌, ap, sym, refl, rules, arith, ℕ, ℤ, pos, ◌+◌, ◌*◌, ◌&&◌, ◌==◌, Bool, true, false, List, drop, slice_index, Option, Some, None, is_some, Result, Ok, Err, if◌then◌else◌}
-use Rattle.std.proofs.lemmas.Bool.Decides.{nat_tests}
+use Rattle.std.proofs.Common.{◌≡◌, ◌∙◌, ap, sym, refl, rules, arith, ℕ, ℤ, pos, ◌+◌, ◌==◌, Bool, true, false, List, drop, slice_index, Option, Some, None, is_some, Result, Ok, Err, if◌then◌else◌}
 use Rattle.speedate.specs.Base.{Behavior, ParseError}
 use Rattle.speedate.specs.Calendar.{Ymd}
 use Rattle.speedate.specs.Date.{date_front}

@@ -59,9 +59,12 @@ abbrev pub with_digit : List ℕ → Option ℕ → Option ℕ
 with_digit text None = None
 with_digit text (Some place) = if is_ascii_digit (slice_index text place) then Some place else None
 
--- the place of the seventh digit of a fraction, if it has so many
+-- the place of the seventh digit of a fraction in a text of ISO 8601, which has only one
 unfoldable pub seventh_digit : List ℕ → Option ℕ
-seventh_digit text = with_digit text (option_map (λ place. place + 7) (position is_decimal_mark text))
+seventh_digit text =
+    if is_iso text
+    then with_digit text (option_map (λ place. place + 7) (position is_decimal_mark text))
+    else None
 
 -- What duration is a part of a line.
 

@@ -1,8 +1,8 @@
 -- The zone after the clock of a value, and where a value ends.
-use Rattle.std.specs.Prelude.{ℕ, ◌+◌, ◌*◌, ◌==◌, ◌&&◌, ◌||◌, not, Bool, true, List, [], ◌∷◌, codes, drop, slice_index, nat_lt, Option, Some, None, is_some, Result, Ok, ℤ, pos, if◌then◌else◌}
+use Rattle.std.specs.Prelude.{ℕ, ◌+◌, ◌*◌, ◌==◌, ◌&&◌, ◌||◌, not, Bool, true, List, [], ◌∷◌, drop, slice_index, nat_lt, Option, Some, None, is_some, Result, Ok, ℤ, pos, if◌then◌else◌}
 use Rattle.std.specs.Char.{is_ascii_alphanumeric, is_ascii_digit}
 use Rattle.std.specs.Result.{result_unwrap_or}
-use Rattle.speedate_base.specs.Ascii.{capital_z, colon, full_stop, hyphen, plus_sign, small_z, space}
+use Rattle.speedate_base.specs.Ascii.{capital_z, colon, full_stop, hyphen, plus_sign, space}
 use Rattle.speedate_base.specs.Digits.{two_digit_value, two_digits_at}
 use Rattle.speedate_base.specs.Numbers.{with_sign}
 use Rattle.speedate_base.specs.Requirement.{◌at_byte◌, ◌else_fault◌, first_refusal_or, shifted}

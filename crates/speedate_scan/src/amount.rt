@@ -129,12 +129,15 @@ fn mark_place(text: &[u8]) -> Option<usize>
     text.iter().position(|&byte| is_decimal_mark(byte))
 }
 
-/// The place of the seventh digit of a fraction, if it has so many: 10 in `b"PT0.1234567S"`.
+/// The place of the seventh digit of the fraction of a text of ISO 8601, if it has so many: 10 in `b"PT0.1234567S"`.
 #[tactic(auto, unfolding(crate::specs::Amount::seventh_digit))]
 fn seventh_digit(text: &[u8]) -> Option<usize>
     ensures place { result ≡ seventh_digit text.now }
     ensures within { IfSome result (λ place. place ≤ length text.now) }
 {
+    if !is_iso(text) {
+        return None;
+    }
     let Some(place) = mark_place(text) else {
         return None;
     };
@@ -147,25 +150,30 @@ fn seventh_digit(text: &[u8]) -> Option<usize>
 
 /// What is not exact about a duration, by its text, which begins at a byte of a line.
 #[tactic(auto, unfolding(crate::specs::Amount::inexact))]
-fn inexact(
-    text: &[u8],
-    from: usize,
-    behavior: MicrosecondsPrecisionOverflowBehavior,
-) -> Option<Bad>
+fn inexact(text: &[u8], from: usize, behavior: MicrosecondsPrecisionOverflowBehavior) -> Option<Bad>
     requires room { from + length text.now ≤ usize.MAX }
     ensures inexact { result ≡ inexact behavior from text.now }
 {
     if let Some(place) = years_or_months(text) {
-        return Some(Bad { place: from + place, why: Why::NoYearsOrMonths });
+        return Some(Bad {
+            place: from + place,
+            why: Why::NoYearsOrMonths,
+        });
     }
     if let Some(place) = clock_after_minus(text) {
-        return Some(Bad { place: from + place, why: Why::NoClock });
+        return Some(Bad {
+            place: from + place,
+            why: Why::NoClock,
+        });
     }
     if behavior == MicrosecondsPrecisionOverflowBehavior::Truncate {
         return None;
     }
     match seventh_digit(text) {
-        Some(place) => Some(Bad { place: from + place, why: Why::SixDigits }),
+        Some(place) => Some(Bad {
+            place: from + place,
+            why: Why::SixDigits,
+        }),
         None => None,
     }
 }

@@ -18,7 +18,8 @@ ghost use Rattle.speedate_scan.specs.Reading.{strict_whole, whole_of};
 
 use crate::zone::{late_zone, zone_front};
 use speedate::{
-    Date, DateTime, IsoOrder, MicrosecondsPrecisionOverflowBehavior, ParseError, Refused, Time, TimeConfig,
+    Date, DateTime, IsoOrder, MicrosecondsPrecisionOverflowBehavior, ParseError, Refused, Time,
+    TimeConfig,
 };
 use speedate_base::numbers::byte_at;
 use speedate_civil::datetime::full_front;
@@ -216,8 +217,8 @@ fn refused(
 fn zoned(date: Date, clock: &PureTime, offset: Option<i32>) -> DateTime
     requires range { ForSome offset IsOffset }
     ensures value { date_and_time result ≡ record {
-        date = ymd date;
-        time = clock_with_offset (clock_parts clock.now) offset;
+      date = ymd date;
+      time = clock_with_offset (clock_parts clock.now) offset;
     } }
 {
     let time = Time {

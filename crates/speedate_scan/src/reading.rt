@@ -357,11 +357,7 @@ impl Reader<'_> {
 
     /// What is read of a line, by its head and the byte at which a value is claimed.
     #[inline(always)]
-    fn parse_claim(
-        &self,
-        head: &[u8],
-        claim: Result<usize, Reading>,
-    ) -> (Reading, Option<DateTime>)
+    fn parse_claim(&self, head: &[u8], claim: Result<usize, Reading>) -> (Reading, Option<DateTime>)
         requires start { IfOk claim (λ start. start ≤ length (seen head.now)) }
         requires reading { IfErr claim (λ reading. IsReadWithin reading head.now) }
         requires bare { IfErr claim IsWithoutValue }

@@ -83,16 +83,25 @@ fn signed_zone(
     let Some(minute) = digits_at(numbers, place) else {
         let size = 3600 * u32::from(hour);
         if size >= SECONDS_PER_DAY {
-            return Err(Refused { fault: ParseError::OutOfRangeTz, place: start });
+            return Err(Refused {
+                fault: ParseError::OutOfRangeTz,
+                place: start,
+            });
         }
         return Ok((Some(with_sign(west, size)), sign + 2));
     };
     if minute > 59 {
-        return Err(Refused { fault: ParseError::OutOfRangeTzMinute, place: start + place });
+        return Err(Refused {
+            fault: ParseError::OutOfRangeTzMinute,
+            place: start + place,
+        });
     }
     let size = 3600 * u32::from(hour) + 60 * u32::from(minute);
     if size >= SECONDS_PER_DAY {
-        return Err(Refused { fault: ParseError::OutOfRangeTz, place: start });
+        return Err(Refused {
+            fault: ParseError::OutOfRangeTz,
+            place: start,
+        });
     }
     Ok((Some(with_sign(west, size)), sign + (place + 2)))
 }
