@@ -1,18 +1,20 @@
 -- A date-time that the library reads, as the one of a line: its zone may come after a blank.
-use Rattle.std.proofs.Common.{◌≡◌, ◌∙◌, ap, sym, refl, rules, arith, ℕ, ℤ, pos, ◌+◌, ◌==◌, Bool, true, false, List, drop, slice_index, Option, Some, None, is_some, Result, Ok, Err, if◌then◌else◌}
+use Rattle.std.proofs.Common.{◌≡◌, ◌∙◌, ap, sym, refl, rules, arith, ℕ, ℤ, pos, ◌+◌, ◌==◌, ◌||◌, Bool, true, false, List, drop, slice_index, Option, Some, None, is_some, Result, Ok, Err, if◌then◌else◌}
 use Rattle.speedate.specs.Base.{Behavior, ParseError}
 use Rattle.speedate.specs.Calendar.{Ymd}
 use Rattle.speedate.specs.Date.{date_front}
 use Rattle.speedate.specs.DateTime.{DateAndTime, date_time_front, date_time_front_or, is_separator}
 use Rattle.speedate.specs.Refused.{placed, refused_place}
+use Rattle.std.proofs.lemmas.Bool.{or_parts}
 use Rattle.std.proofs.lemmas.List.{drop-drop}
 use Rattle.speedate.specs.Requirement.{result_and_then}
 use Rattle.speedate.specs.Time.{Clock, TimeOfDay, clock_front, clock_with_offset, has_minus_sign, is_plus_or_minus, is_utc}
 use Rattle.speedate.specs.Time.{offset_front, signed_front}
-use Rattle.speedate.specs.Ascii.{hyphen}
+use Rattle.speedate.specs.Ascii.{capital_z, hyphen}
 use Rattle.speedate_base.specs.declared.refusal.Refused.{Refused}
 use Rattle.speedate_scan.specs.Reading.{relaxed_front, with_late_zone, with_place, zoned}
-use Rattle.speedate_scan.specs.Zone.{late_zone, signed_zone, utc_zone, zone_front}
+use Rattle.speedate_scan.specs.Zone.{late_zone, may_begin_zone, no_zone, signed_zone, utc_zone, zone_after_blank}
+use Rattle.speedate_scan.specs.Zone.{zone_front}
 
 -- an offset that the library reads after a sign is the zone there
 signed_read : (start sign : ℕ) (west : Bool) (numbers : List ℕ) (zone : Option ℤ × ℕ)
@@ -183,3 +185,15 @@ unfolding relaxed_front
 library_is_zoned behavior text front read =
     chained text (refused_place (date_time_front_or placed behavior text)) (date_front text)
     (is_separator (slice_index text 10)) (clock_front behavior (drop 11 text)) front read
+
+-- no zone comes after a blank if its first byte does not
+pub no_zone_begins : (text : List ℕ) → may_begin_zone (slice_index text 0) ≡ false
+    → zone_after_blank text ≡ no_zone
+unfolding zone_after_blank
+no_zone_begins text other =
+    let byte = slice_index text 0 in
+    let signs = is_plus_or_minus byte in
+    let with_z = or_parts (signs || (byte == 71) || (byte == 85)) (byte == capital_z) other in
+    let with_u = or_parts (signs || (byte == 71)) (byte == 85) with_z.0 in
+    let with_g = or_parts signs (byte == 71) with_u.0 in
+    rw (with_u.1, with_g.1, with_z.1, with_g.0) refl

@@ -77,6 +77,11 @@ apart text =
     then minute_zone (slice_index text 0 == hyphen) (drop 1 text)
     else no_zone
 
+-- the first byte of a zone that comes after a blank
+abbrev pub may_begin_zone : ℕ → Bool
+may_begin_zone byte =
+    (byte == plus_sign) || (byte == hyphen) || (byte == 71) || (byte == 85) || (byte == capital_z)
+
 -- a zone after a blank, by what follows it, which has to be a boundary
 abbrev pub after_blank : Option ℤ × ℕ → List ℕ → Option ℤ × ℕ
 after_blank zone rest = if is_some zone.0 && is_boundary rest then (zone.0, 1 + zone.1) else no_zone

@@ -147,6 +147,7 @@ fn with_late_zone(value: DateTime, size: usize, text: &[u8]) -> (DateTime, usize
 }
 
 /// A date, a separator and a clock at the front of a text.
+#[inline(always)]
 fn date_and_clock(
     text: &[u8],
     behavior: MicrosecondsPrecisionOverflowBehavior,
@@ -169,6 +170,7 @@ fn date_and_clock(
 }
 
 /// Whether a byte that may stand between a date and a time follows the ten bytes of a date.
+#[inline(always)]
 fn has_separator(text: &[u8]) -> bool
     ensures separator { result ≡ is_separator (slice_index text.now 10) }
     ensures there { IsTrue result → 11 ≤ length text.now }
@@ -214,6 +216,7 @@ fn refused(
 }
 
 /// The date-time of a date, a clock and an offset.
+#[inline(always)]
 fn zoned(date: Date, clock: &PureTime, offset: Option<i32>) -> DateTime
     requires range { ForSome offset IsOffset }
     ensures value { date_and_time result ≡ record {

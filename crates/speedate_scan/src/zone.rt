@@ -1,6 +1,6 @@
 //! The zone after the clock of a value, and where a value ends.
 
-ghost use Rattle.std.specs.Prelude.{◌≡◌, ◌+◌, ◌<◌, ◌≤◌, IfErr, IfOk, IfSome, IsTrue, None, Some, drop, length, if◌then◌else◌};
+ghost use Rattle.std.specs.Prelude.{◌≡◌, ◌+◌, ◌<◌, ◌≤◌, IfErr, IfOk, IfSome, IsTrue, None, Some, drop, length, slice_index, if◌then◌else◌};
 ghost use Rattle.std.specs.Option.{ForSome};
 ghost use Rattle.speedate_base.specs.Digits.{two_digit_value, two_digits_at};
 ghost use Rattle.speedate_base.specs.Numbers.{with_sign};
@@ -9,7 +9,7 @@ ghost use Rattle.speedate_base.specs.Timestamp.{seconds_per_day};
 ghost use Rattle.speedate_civil.specs.Time.{has_minus_sign, is_plus_or_minus, is_utc};
 ghost use Rattle.speedate_scan.specs.Zone.{apart, has_utc_name, is_boundary, joins};
 ghost use Rattle.speedate_scan.specs.Zone.{late_zone, minute_zone, signed_zone, zone_after_blank};
-ghost use Rattle.speedate_scan.specs.Zone.{has_minute, zone_front};
+ghost use Rattle.speedate_scan.specs.Zone.{has_minute, may_begin_zone, zone_front};
 
 use speedate::{ParseError, Refused};
 use speedate_base::numbers::byte_at;
@@ -30,6 +30,20 @@ pub fn is_boundary(rest: &[u8]) -> bool
     ensures boundary { result ≡ is_boundary rest.now }
 {
     let first = byte_at(rest, 0);
+    // Mostly the line ends, or a blank, a quote or a tab follows: bytes before all that are looked for below.
+    if first < b'+' {
+        return true;
+    }
+    is_boundary_byte(first, rest)
+}
+
+/// The same, by the first byte of the text, which is `+` or comes after it.
+#[inline(never)]
+#[tactic(auto, unfolding(crate::specs::Zone::is_boundary))]
+fn is_boundary_byte(first: u8, rest: &[u8]) -> bool
+    requires first { first ≡ slice_index rest.now 0 }
+    ensures boundary { result ≡ is_boundary rest.now }
+{
     if first.is_ascii_alphanumeric() {
         return false;
     }
@@ -167,10 +181,34 @@ fn apart(text: &[u8]) -> (Option<i32>, usize)
     (None, 0)
 }
 
+/// Whether a zone may begin with a byte that follows a blank.
+#[inline(always)]
+fn may_begin_zone(byte: u8) -> bool
+    ensures begins { result ≡ may_begin_zone byte }
+{
+    matches!(byte, b'+' | b'-' | b'G' | b'U' | b'Z')
+}
+
 /// The zone after a blank, by what follows it, and how many bytes it takes with the blank: 3,600, and six bytes,
 /// for `b"+0100 GET"`, none for `b"+0100a"` and `b"-5 items"`.
-#[tactic(auto, unfolding(crate::specs::Zone::zone_after_blank))]
+#[inline(always)]
 fn zone_after_blank(text: &[u8]) -> (Option<i32>, usize)
+    ensures zone { result ≡ zone_after_blank text.now }
+    ensures range { ForSome result.0 IsOffset }
+    ensures size { result.1 ≤ 1 + length text.now }
+{
+    // Most values are followed by a blank and a word.
+    if may_begin_zone(byte_at(text, 0)) {
+        begun_zone(text)
+    } else {
+        (None, 0)
+    }
+}
+
+/// The same, for a text that may begin with one.
+#[inline(never)]
+#[tactic(auto, unfolding(crate::specs::Zone::zone_after_blank))]
+fn begun_zone(text: &[u8]) -> (Option<i32>, usize)
     ensures zone { result ≡ zone_after_blank text.now }
     ensures range { ForSome result.0 IsOffset }
     ensures size { result.1 ≤ 1 + length text.now }
@@ -191,15 +229,15 @@ pub fn late_zone(rest: &[u8]) -> (Option<i32>, usize)
     ensures range { ForSome result.0 IsOffset }
     ensures size { result.1 ≤ length rest.now }
 {
-    if byte_at(rest, 0) == b' ' {
-        zone_after_blank(&rest[1..])
-    } else {
-        (None, 0)
+    if byte_at(rest, 0) != b' ' {
+        return (None, 0);
     }
+    zone_after_blank(&rest[1..])
 }
 
 /// The zone after a clock, by the bytes after it, which begin at `start` of the whole text, and how many bytes
 /// it takes.
+#[inline(always)]
 #[tactic(auto, unfolding(crate::specs::Zone::zone_front))]
 pub fn zone_front(rest: &[u8], start: usize) -> Result<(Option<i32>, usize), Refused>
     requires start { start + 12 ≤ usize.MAX }
@@ -209,11 +247,11 @@ pub fn zone_front(rest: &[u8], start: usize) -> Result<(Option<i32>, usize), Ref
     ensures place { IfErr result (λ refused. refused.place ≤ start + length rest.now) }
 {
     let first = byte_at(rest, 0);
-    if is_plus_or_minus(first) {
-        return signed_zone(&rest[1..], first == b'-', 1, start + 1);
-    }
     if first == b'Z' || first == b'z' {
         return Ok((Some(0), 1));
+    }
+    if is_plus_or_minus(first) {
+        return signed_zone(&rest[1..], first == b'-', 1, start + 1);
     }
     if has_minus_sign(rest) {
         return signed_zone(&rest[3..], true, 3, start + 3);
