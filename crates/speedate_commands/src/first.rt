@@ -1,12 +1,13 @@
 //! The lines before the first value of a file, and whether it has one.
 
-ghost use Rattle.std.specs.Prelude.{◌≡◌, ◌&&◌, [], false, true};
+ghost use Rattle.std.specs.Prelude.{◌≡◌, ◌+◌, ◌++◌, ◌&&◌, ◌<◌, ◌≤◌, [], drop, false, length, take, true};
 ghost use Rattle.speedate_commands.specs.First.{after_duration, after_end, after_reading, first_after};
-ghost use Rattle.speedate_commands.specs.First.{head_with, is_dated, is_found, is_without_value};
-ghost use Rattle.speedate_commands.specs.First.{first_read, head_read, lines_before, taken};
+ghost use Rattle.speedate_commands.specs.First.{is_dated, is_found, is_without_value};
+ghost use Rattle.speedate_commands.specs.First.{first_read, head_read, lines_before};
 ghost use Rattle.speedate_scan.specs.Reading.{IsReadWithin};
 
 use arrayvec::ArrayVec;
+use speedate::line_end;
 use speedate_scan::reading::Reading;
 use speedate_scan::scan::Scan;
 use speedate_stream::HEAD_MAX;
@@ -172,23 +173,69 @@ impl FirstLines<'_> {
             if self.first.is_found() {
                 return;
             }
-            self.take(bytes[place]);
-            place += 1;
+            place = self.take_line(bytes, place);
         }
     }
 
-    /// Adds a byte, and the line that it ends.
-    fn take(&mut self, byte: u8)
-        ensures first { self.new.first ≡ taken self.old.first self.old.head.items byte }
-        ensures head { self.new.head.items ≡ head_with self.old.head.items byte }
+    /// Adds the bytes from a place on, up to the end of their line, which is added too, and returns the place behind
+    /// it.
+    fn take_line(&mut self, bytes: &[u8], place: usize) -> usize
+        requires within { place < length bytes.now }
+        requires other { is_found self.old.first ≡ false }
+        ensures first { first_read self.old.first self.old.head.items (drop place bytes.now)
+            ≡ first_read self.new.first self.new.head.items (drop result bytes.now) }
+        ensures head { head_read self.old.first self.old.head.items (drop place bytes.now)
+            ≡ head_read self.new.first self.new.head.items (drop result bytes.now) }
+        ensures ended { self.new.is_ended ≡ self.old.is_ended }
+        ensures after { place < result }
+        ensures all { result ≤ length bytes.now }
+    {
+        let room = self.head.remaining_capacity();
+        match line_end(bytes, place) {
+            Some(end) => {
+                self.go_on(&bytes[place..end], room);
+                self.end_line();
+                end + 1
+            }
+            None => {
+                self.go_on(&bytes[place..], room);
+                bytes.len()
+            }
+        }
+    }
+
+    /// Adds bytes to the head of the line that has not ended, which has room for so many.
+    fn go_on(&mut self, bytes: &[u8], room: usize)
+        requires room { length self.old.head.items + room ≡ 4097 }
+        ensures first { self.new.first ≡ self.old.first }
+        ensures head { self.new.head.items ≡ take 4097 (self.old.head.items ++ bytes.now) }
         ensures ended { self.new.is_ended ≡ self.old.is_ended }
     {
-        if byte == b'\n' {
-            self.first.add(self.head.as_slice());
-            self.head.clear();
-        } else if !self.head.is_full() {
-            self.head.push(byte);
+        if bytes.len() > room {
+            self.append(&bytes[..room]);
+        } else {
+            self.append(bytes);
         }
+    }
+
+    /// Appends bytes to the head of the line that has not ended, for which there is room.
+    fn append(&mut self, bytes: &[u8])
+        requires room { length self.old.head.items + length bytes.now ≤ 4097 }
+        ensures first { self.new.first ≡ self.old.first }
+        ensures head { self.new.head.items ≡ self.old.head.items ++ bytes.now }
+        ensures ended { self.new.is_ended ≡ self.old.is_ended }
+    {
+        let _ = self.head.try_extend_from_slice(bytes);
+    }
+
+    /// Adds the line that has ended.
+    fn end_line(&mut self)
+        ensures first { self.new.first ≡ first_after self.old.first self.old.head.items }
+        ensures head { self.new.head.items ≡ [] }
+        ensures ended { self.new.is_ended ≡ self.old.is_ended }
+    {
+        self.first.add(self.head.as_slice());
+        self.head.clear();
     }
 
     /// Adds the last line, if no line feed ends it.

@@ -114,9 +114,9 @@ fn sort<'a>(alloc: Global) -> Result<Command<'a>, AllocError> {
 /// The command `summary`.
 fn summary<'a>(alloc: Global) -> Result<Command<'a>, AllocError> {
     let command = Command::new(alloc, "summary")
-        .about("Count lines, show first and last value")
+        .about("Count lines, show earliest and latest")
         .after_help(
-            "Prints how many lines and values there are, the first, the last and the longest gap",
+            "Prints how many lines and values there are, the earliest, the latest and the longest gap",
         );
     with_common(alloc, command, Prints::Nothing)
 }

@@ -1,7 +1,7 @@
 use Rattle.std.proofs.Common.{◌≡◌, ◌∙◌, ◌<◌, ◌≤◌, arith, length, refl, sym, false}
 use Rattle.speedate_commands.specs.First.{is_found}
-use Rattle.speedate_commands.proofs.FirstLemmas.{first_ends, first_stays, first_step}
-use Rattle.speedate_commands.proofs.FirstLemmas.{head_ends, head_stays, head_step}
+use Rattle.speedate_commands.proofs.FirstLemmas.{first_ends, first_stays}
+use Rattle.speedate_commands.proofs.FirstLemmas.{head_ends, head_stays}
 use Rattle.speedate_commands.proofs.first.FirstLines.read.Goals as goal
 
 pub loop-place-init : goal.loop-place-init
@@ -21,21 +21,12 @@ pub returns-then-is_found-clause-ended : goal.returns-then-is_found-clause-ended
 returns-then-is_found-clause-ended c = c.loop-place.invariant.ended
 
 pub loop-place-preserved : goal.loop-place-preserved
-loop-place-preserved c =
-    let first = c.loop-place.self.first in
-    let head = c.loop-place.self.head.items in
-    let bytes = c.args.bytes.now in
-    let place = c.loop-place.place in
-    let within : place < length bytes = omega arith in
-    let other : is_found first ≡ false = sym c.is_found.ensures.found ∙ c.if-is_found.false in
-    record {
-      within = omega arith;
-      first = rw (c.take.ensures.first, c.take.ensures.head)
-          (c.loop-place.invariant.first ∙ first_step first head bytes place within other);
-      head = rw (c.take.ensures.first, c.take.ensures.head)
-          (c.loop-place.invariant.head ∙ head_step first head bytes place within other);
-      ended = c.take.ensures.ended ∙ c.loop-place.invariant.ended;
-    }
+loop-place-preserved c = record {
+  within = c.take_line-place.ensures.all;
+  first = c.loop-place.invariant.first ∙ c.take_line-place.ensures.first;
+  head = c.loop-place.invariant.head ∙ c.take_line-place.ensures.head;
+  ended = c.take_line-place.ensures.ended ∙ c.loop-place.invariant.ended;
+}
 
 pub returns-clause-first : goal.returns-clause-first
 returns-clause-first c =
