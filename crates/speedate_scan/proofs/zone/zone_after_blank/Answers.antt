@@ -1,4 +1,4 @@
-use Rattle.std.proofs.Common.{◌∙◌, sym, rules}
+use Rattle.std.proofs.Common.{sym, rules}
 use Rattle.speedate_scan.proofs.ZoneLemmas.{no_zone_begins}
 use Rattle.speedate_scan.proofs.zone.zone_after_blank.Goals as goal
 

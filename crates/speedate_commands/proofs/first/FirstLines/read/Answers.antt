@@ -1,5 +1,4 @@
-use Rattle.std.proofs.Common.{◌≡◌, ◌∙◌, ◌<◌, ◌≤◌, arith, length, refl, sym, false}
-use Rattle.speedate_commands.specs.First.{is_found}
+use Rattle.std.proofs.Common.{◌∙◌, ◌≤◌, arith, length, refl, sym}
 use Rattle.speedate_commands.proofs.FirstLemmas.{first_ends, first_stays}
 use Rattle.speedate_commands.proofs.FirstLemmas.{head_ends, head_stays}
 use Rattle.speedate_commands.proofs.first.FirstLines.read.Goals as goal
