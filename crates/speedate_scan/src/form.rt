@@ -147,7 +147,6 @@ fn with_late_zone(value: DateTime, size: usize, text: &[u8]) -> (DateTime, usize
 }
 
 /// A date, a separator and a clock at the front of a text.
-#[inline(always)]
 fn date_and_clock(
     text: &[u8],
     behavior: MicrosecondsPrecisionOverflowBehavior,
@@ -170,7 +169,6 @@ fn date_and_clock(
 }
 
 /// Whether a byte that may stand between a date and a time follows the ten bytes of a date.
-#[inline(always)]
 fn has_separator(text: &[u8]) -> bool
     ensures separator { result ≡ is_separator (slice_index text.now 10) }
     ensures there { IsTrue result → 11 ≤ length text.now }
@@ -179,8 +177,27 @@ fn has_separator(text: &[u8]) -> bool
 }
 
 /// The date-time at the front of a text, and how many bytes it takes.
-#[tactic(auto, unfolding(crate::specs::Reading::relaxed_front))]
+#[inline(always)]
 fn relaxed_front(
+    text: &[u8],
+    behavior: MicrosecondsPrecisionOverflowBehavior,
+) -> Result<(DateTime, usize), Refused>
+    ensures front { result_map (with_size date_and_time) result ≡ relaxed_front behavior text.now }
+    ensures size { IfOk result (λ front. front.1 ≤ length text.now) }
+    ensures within { IfErr result (λ refused. refused.place ≤ length text.now) }
+{
+    // The library refuses what begins as an offset and is none, such as `-app`.
+    match DateTime::parse_front(text, &relaxed(behavior)) {
+        Ok((value, size)) => Ok(with_late_zone(value, size, text)),
+        Err(_) => front_by_parts(text, behavior),
+    }
+}
+
+/// The same, by its date, its clock and its zone one after the other.
+#[cold]
+#[inline(never)]
+#[tactic(auto, unfolding(crate::specs::Reading::relaxed_front))]
+fn front_by_parts(
     text: &[u8],
     behavior: MicrosecondsPrecisionOverflowBehavior,
 ) -> Result<(DateTime, usize), Refused>
@@ -216,7 +233,6 @@ fn refused(
 }
 
 /// The date-time of a date, a clock and an offset.
-#[inline(always)]
 fn zoned(date: Date, clock: &PureTime, offset: Option<i32>) -> DateTime
     requires range { ForSome offset IsOffset }
     ensures value { date_and_time result ≡ record {

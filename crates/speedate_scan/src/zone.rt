@@ -237,7 +237,6 @@ pub fn late_zone(rest: &[u8]) -> (Option<i32>, usize)
 
 /// The zone after a clock, by the bytes after it, which begin at `start` of the whole text, and how many bytes
 /// it takes.
-#[inline(always)]
 #[tactic(auto, unfolding(crate::specs::Zone::zone_front))]
 pub fn zone_front(rest: &[u8], start: usize) -> Result<(Option<i32>, usize), Refused>
     requires start { start + 12 ≤ usize.MAX }
