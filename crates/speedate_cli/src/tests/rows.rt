@@ -284,12 +284,16 @@ app.log:4:9: expected a day that the month has\n\
     (
         "check --kind date",
         "\
-2026-11-22x\n\
+2026-11-22,x\n\
 2026-11-31x\n\
+2026-11-22x\n\
 ",
-        "app.log:2:9: expected a day that the month has\n",
+        "\
+app.log:2:9: expected a day that the month has\n\
+app.log:3:11: expected the end of the value\n\
+",
     ),
-    ("convert --kind date", "[2026-11-22x\n", "[2026-11-22x\n"),
+    ("convert --kind date", "[2026-11-22]x\n", "[2026-11-22]x\n"),
     (
         "check",
         CLOCKS,
