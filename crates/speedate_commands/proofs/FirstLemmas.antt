@@ -7,7 +7,8 @@ use Rattle.std.proofs.Math.Seq.{take-append-add}
 use Rattle.speedate.specs.Ascii.{line_feed}
 use Rattle.speedate.proofs.LineLemmas.{EndsNoLine, IsFree, part-free}
 use Rattle.speedate.specs.Lines.{IsLineEnd, IsOneLine}
-use Rattle.speedate_commands.specs.First.{First, first_after, first_read, head_read, head_with, is_found, taken}
+use Rattle.speedate_commands.specs.First.{First, first_after, first_read, head_read, head_with}
+use Rattle.speedate_commands.specs.First.{is_found, taken}
 
 -- The first byte of some that are read.
 

@@ -32,7 +32,8 @@ word_here word (first ∷ rest) bytes byte parts here = rw here refl
 
 -- a word that does not begin a text is looked for from its next byte on
 word_later : (word text bytes : List ℕ) (byte : ℕ) → text ≡ (byte ∷ bytes)
-    → begins_claim word text ≡ false → claim_after word text ≡ moved_place 1 (claim_after word bytes)
+    → begins_claim word text ≡ false
+    → claim_after word text ≡ moved_place 1 (claim_after word bytes)
 unfolding claim_after
 word_later word [] bytes byte parts later = cc
 word_later word (first ∷ rest) bytes byte parts later =

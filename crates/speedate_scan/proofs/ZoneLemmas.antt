@@ -8,12 +8,14 @@ use Rattle.speedate.specs.Refused.{placed, refused_place}
 use Rattle.std.proofs.lemmas.Bool.{or_parts}
 use Rattle.std.proofs.lemmas.List.{drop-drop}
 use Rattle.speedate.specs.Requirement.{result_and_then}
-use Rattle.speedate.specs.Time.{Clock, TimeOfDay, clock_front, clock_with_offset, has_minus_sign, is_plus_or_minus, is_utc}
+use Rattle.speedate.specs.Time.{Clock, TimeOfDay, clock_front, clock_with_offset}
+use Rattle.speedate.specs.Time.{has_minus_sign, is_plus_or_minus, is_utc}
 use Rattle.speedate.specs.Time.{offset_front, signed_front}
 use Rattle.speedate.specs.Ascii.{capital_z, hyphen}
 use Rattle.speedate_base.specs.declared.refusal.Refused.{Refused}
 use Rattle.speedate_scan.specs.Reading.{relaxed_front, with_late_zone, with_place, zoned}
-use Rattle.speedate_scan.specs.Zone.{late_zone, may_begin_zone, no_zone, signed_zone, utc_zone, zone_after_blank}
+use Rattle.speedate_scan.specs.Zone.{late_zone, may_begin_zone, no_zone, signed_zone, utc_zone}
+use Rattle.speedate_scan.specs.Zone.{zone_after_blank}
 use Rattle.speedate_scan.specs.Zone.{zone_front}
 
 -- an offset that the library reads after a sign is the zone there
@@ -142,7 +144,8 @@ after_clock : (text : List ℕ) (date : Ymd) (clock : Clock) (front : DateAndTim
 after_clock text date clock front (Ok zone) there read =
     let zone_is = offset_read (11 + clock.size) (drop (11 + clock.size) text) zone there in
     let whole = zoned_late text date clock zone there in
-    rw zone_is (ap Ok whole ∙ ap (λ (f : DateAndTime × ℕ). Ok (with_late_zone text f)) (front_of _ _ read))
+    let same = front_of _ _ read in
+    rw zone_is (ap Ok whole ∙ ap (λ (f : DateAndTime × ℕ). Ok (with_late_zone text f)) same)
 after_clock text date clock front (Err fault) there read = cc
 
 -- The chain of both, over plain answers.
@@ -156,14 +159,16 @@ library_chain text at_date separated at_clock =
     result_and_then (λ (date : Ymd × ℕ).
     result_and_then (dated date.0)
     (parted separated (result_and_then (λ (clock : Clock).
-    result_and_then (timed clock) (offset_front (drop clock.size (drop 11 text)))) at_clock))) at_date
+    result_and_then (timed clock) (offset_front (drop clock.size (drop 11 text)))) at_clock)))
+    at_date
 
 abbrev line_chain : List ℕ → Option ℕ → Result (Ymd × ℕ) ParseError → Bool
     → Result Clock ParseError → Result (DateAndTime × ℕ) Refused
 line_chain text place at_date separated at_clock =
     result_and_then (zoned_at text)
     (with_place (result_and_then (λ (date : Ymd × ℕ).
-    result_and_then (λ (clock : Clock). with_clock date.0 clock) (parted separated at_clock)) at_date)
+    result_and_then (λ (clock : Clock). with_clock date.0 clock) (parted separated at_clock))
+    at_date)
     place)
 
 chained : (text : List ℕ) (place : Option ℕ) (at_date : Result (Ymd × ℕ) ParseError)

@@ -19,8 +19,8 @@ use Rattle.speedate_civil.specs.Time.{signed_front_or}
 abbrev pub joins : ℕ → Bool
 joins byte = (byte == full_stop) || (byte == colon) || (byte == plus_sign) || (byte == hyphen)
 
--- a value can end before these bytes: at the end of the line, or before a byte that is no letter and
--- no digit, and that joins no digit
+-- a value can end before these bytes: at the end of the line, or before a byte that is no letter
+-- and no digit, and that joins no digit
 unfoldable pub is_boundary : List ℕ → Bool
 is_boundary rest =
     not (is_ascii_alphanumeric (slice_index rest 0))

@@ -7,17 +7,19 @@ pub returns-in-Some-clause-first : goal.returns-in-Some-clause-first
 returns-in-Some-clause-first c =
     let old = c.args.self.now in
     let short : length old.head.items ≤ 4097 = omega arith in
-    rw (c.end_line.ensures.first, c.end_line.ensures.head, c.go_on.ensures.first, c.go_on.ensures.head)
-    (first_line old.first old.head.items c.args.bytes.now c.args.place c.in-Some.end c.requires.other
-    c.in-Some.ensures.found short)
+    rw (c.end_line.ensures.first, c.end_line.ensures.head)
+    (rw (c.go_on.ensures.first, c.go_on.ensures.head)
+    (first_line old.first old.head.items c.args.bytes.now c.args.place c.in-Some.end
+    c.requires.other c.in-Some.ensures.found short))
 
 pub returns-in-Some-clause-head : goal.returns-in-Some-clause-head
 returns-in-Some-clause-head c =
     let old = c.args.self.now in
     let short : length old.head.items ≤ 4097 = omega arith in
-    rw (c.end_line.ensures.first, c.end_line.ensures.head, c.go_on.ensures.first, c.go_on.ensures.head)
-    (head_line old.first old.head.items c.args.bytes.now c.args.place c.in-Some.end c.requires.other
-    c.in-Some.ensures.found short)
+    rw (c.end_line.ensures.first, c.end_line.ensures.head)
+    (rw (c.go_on.ensures.first, c.go_on.ensures.head)
+    (head_line old.first old.head.items c.args.bytes.now c.args.place c.in-Some.end
+    c.requires.other c.in-Some.ensures.found short))
 
 pub returns-in-None-clause-first : goal.returns-in-None-clause-first
 returns-in-None-clause-first c =
