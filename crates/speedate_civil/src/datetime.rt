@@ -13,7 +13,7 @@ use crate::date::Date;
 use crate::time::Time;
 pub use full_clock::{full_front, utc_front};
 pub use now::Moment;
-pub use parse::require_standard_date_time;
+pub use parse::{has_separator, require_standard_date_time};
 pub use timestamp::timestamp_instant;
 
 /// A date and a time of day, with an offset from UTC or without one.

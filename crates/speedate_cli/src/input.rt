@@ -2,6 +2,7 @@
 
 use crate::reason::Reason;
 use speedate_commands::first::{First, FirstLines};
+use speedate_commands::status::are_one;
 use std::fs::{self, File};
 use std::io::{self, ErrorKind, Read, Seek, SeekFrom, Stdin};
 use std::os::unix::fs::MetadataExt;
@@ -59,7 +60,10 @@ fn is_output(rt: &HostRuntime, path: &str) -> bool {
         return false;
     };
     match fs::metadata(rt, path) {
-        Ok(file) => output.is_file() && file.dev() == output.dev() && file.ino() == output.ino(),
+        Ok(file) => {
+            let (one, other) = ((file.dev(), file.ino()), (output.dev(), output.ino()));
+            output.is_file() && are_one(one, other)
+        }
         Err(_) => false,
     }
 }

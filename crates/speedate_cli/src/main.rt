@@ -1,6 +1,7 @@
-//! Selects, orders, converts, checks and sums up lines by their date-times, and adds up their durations.
+//! Selects, sorts, merges, converts, checks and sums up lines by their date-times, and adds up their durations.
 #![tactic(auto)]
 
+mod files;
 mod input;
 mod merge_session;
 mod reason;
@@ -11,9 +12,9 @@ mod sort_session;
 mod tests;
 
 use clap::ArgMatches;
+use speedate_commands::status::{USAGE, WRITE};
 use speedate_options::commands::{
-    first_between, first_check, first_convert, first_keys, first_merge, first_order, first_sum,
-    first_summary,
+    first_between, first_check, first_convert, first_keys, first_merge, first_sum, first_summary,
 };
 use speedate_options::options::Refusal;
 use speedate_options::program::program;
@@ -21,9 +22,6 @@ use std::alloc::AllocError;
 use std::env::Env;
 use std::io::{ErrorKind, Write};
 use std::process::ExitCode;
-
-/// The status of a command line that is refused.
-const USAGE: u8 = 2;
 
 /// No argument is longer: Linux allows 131,072 bytes with the zero that ends one.
 const ARGUMENT_MAX: usize = 131_072;
@@ -68,7 +66,7 @@ fn tell(rt: &HostRuntime, error: &clap::Error) -> u8 {
             if failure.kind() != ErrorKind::BrokenPipe {
                 let _ = eprintln!(rt; "speedate: output failed");
             }
-            session::WRITE
+            WRITE
         }
     }
 }
@@ -96,13 +94,12 @@ fn tell_argument(rt: &HostRuntime) -> Result<(), AllocError> {
 fn run(rt: &HostRuntime, name: &str, given: &ArgMatches<'_>) -> Result<u8, Refusal> {
     let files = given.get_strs("FILE").unwrap_or(&[]);
     Ok(match name {
-        "between" => session::run_files(rt, &mut first_between(given)?, files),
-        "check" => session::run_files(rt, &mut first_check(given)?, files),
-        "convert" => session::run_files(rt, &mut first_convert(given)?, files),
+        "between" => files::run_files(rt, &mut first_between(given)?, files),
+        "check" => files::run_files(rt, &mut first_check(given)?, files),
+        "convert" => files::run_files(rt, &mut first_convert(given)?, files),
         "merge" => merge_session::run_merge(rt, &first_merge(given)?, files),
-        "order" => session::run_files(rt, &mut first_order(given)?, files),
-        "sum" => session::run_files(rt, &mut first_sum(given)?, files),
+        "sum" => files::run_files(rt, &mut first_sum(given)?, files),
         "sort" => sort_session::run_sort(rt, &mut first_keys(given)?, files),
-        _ => session::run_files(rt, &mut first_summary(given)?, files),
+        _ => files::run_files(rt, &mut first_summary(given)?, files),
     })
 }

@@ -3,13 +3,14 @@
 ghost use Rattle.std.specs.Prelude.{◌+◌, ◌≤◌};
 ghost use Rattle.arrayvec.specs.ArrayVec.{array_vec_len};
 
+use crate::files::{Output, Reports, tell_count, tell_lines_before};
 use crate::input::{Input, Looking, open_input, tell_unread, tell_without_value};
-use crate::session::{BAD, Output, READ, Reports, WRITE, tell_count, tell_lines_before};
 use speedate_commands::first::First;
 use speedate_commands::order::{Latest, push_late};
+use speedate_commands::status::{BAD, READ, WRITE, lines_status};
 use speedate_scan::print::push_line_place;
 use speedate_scan::scan::{Offsets, REPORTS_MAX, Scan};
-use speedate_sort::merge::{Before, Halt, Halted, Source, merge};
+use speedate_sort::merge::{Before, Halt, Halted, Reporter, Source, merge};
 use speedate_sort::sort::{Keys, Unread};
 use speedate_stream::{PENDING_MAX, Pending, STEP_MAX, Watched, push_bytes};
 use std::alloc::AllocError;
@@ -39,13 +40,49 @@ pub fn run_merge<'a>(rt: &HostRuntime, keys: &Keys<'a>, files: &[&'a str]) -> u8
         return READ;
     }
     let mut offsets = keys.scan.offsets;
+    let mut first_bad = FirstBad { rt, told: 0 };
+    if let Some(halted) = read_first_lines(&mut sources, &mut offsets, &mut first_bad) {
+        return tell_end(rt, files, &sources, Some(halted));
+    }
+    merge_sources(rt, files, &mut sources, offsets, &mut first_bad)
+}
+
+/// Reads the first line of each source, up to one whose lines end the merge.
+fn read_first_lines(
+    sources: &mut [FileSource<'_>],
+    offsets: &mut Offsets,
+    first_bad: &mut FirstBad<'_>,
+) -> Option<Halted> {
     for index in 0..sources.len() {
-        if let Err(halt) = sources[index].next(&mut offsets) {
-            tell_bad(rt, &sources);
-            return tell_end(rt, files, &sources, Some(Halted { index, halt }));
+        if let Err(halt) = sources[index].next(offsets, first_bad) {
+            return Some(Halted { index, halt });
         }
     }
-    merge_sources(rt, files, &mut sources, offsets)
+    None
+}
+
+/// Tells the first bad values of all sources.
+#[derive(Drop)]
+struct FirstBad<'r> {
+    /// What tells.
+    rt: &'r HostRuntime,
+    /// How many bad values came so far, also those that were not told.
+    told: u64,
+}
+
+impl Reporter for FirstBad<'_> {
+    fn report(&mut self, scan: &Scan<'_>, told: u64) {
+        let reports = Reports {
+            rt: self.rt,
+            name: scan.name,
+            told,
+        };
+        let mut shown = *scan;
+        let left = (REPORTS_MAX as u64).saturating_sub(self.told);
+        shown.bad = scan.bad.min(told.saturating_add(left));
+        reports.tell(&shown, scan.reader.form.call_kind());
+        self.told = self.told.saturating_add(scan.bad.saturating_sub(told));
+    }
 }
 
 /// Opens a file of which no line has been read, or tells why it cannot be read.
@@ -73,14 +110,13 @@ fn merge_sources(
     files: &[&str],
     sources: &mut [FileSource<'_>],
     offsets: Offsets,
+    first_bad: &mut FirstBad<'_>,
 ) -> u8 {
     let mut output = Watched::new(Output {
         inner: rt.stdout(),
         is_closed: false,
     });
-    let merged = merge(sources, offsets, &mut output);
-    tell_bad(rt, sources);
-    match merged {
+    match merge(sources, offsets, &mut output, first_bad) {
         Ok(halted) => tell_end(rt, files, sources, halted),
         Err(_) => {
             if !output.into_inner().is_closed {
@@ -88,22 +124,6 @@ fn merge_sources(
             }
             tell_end(rt, files, sources, None).max(WRITE)
         }
-    }
-}
-
-/// Tells the first bad values of the sources.
-fn tell_bad(rt: &HostRuntime, sources: &[FileSource<'_>]) {
-    let mut told = 0;
-    for source in sources {
-        let mut scan = source.keys.scan;
-        let reports = Reports {
-            rt,
-            name: scan.name,
-            told: 0,
-        };
-        scan.bad = scan.bad.min((REPORTS_MAX as u64).saturating_sub(told));
-        reports.tell(&scan, scan.reader.form.call_kind());
-        told = told.saturating_add(scan.bad);
     }
 }
 
@@ -129,9 +149,7 @@ fn tell_end(
             status = BAD;
         }
     }
-    if bad > 0 {
-        status = BAD;
-    }
+    status = status.max(lines_status(bad, 0, false));
     if let Some(Halted { index, halt }) = halted {
         if let (Some(name), Some(source)) = (files.get(index), sources.get(index)) {
             status = status.max(tell_halt(rt, name, source, halt));

@@ -1,8 +1,9 @@
 //! The inputs of `sort`, and what is told of them on standard error.
 
+use crate::files::{Output, Reports, tell_count, tell_lines_before};
 use crate::input::{Looking, open_input, tell_unread, tell_without_value};
-use crate::session::{BAD, Output, READ, Reports, WRITE, tell_count, tell_lines_before};
 use speedate_commands::first::First;
+use speedate_commands::status::{BAD, READ, WRITE, lines_status};
 use speedate_sort::sort::{Keys, Lines, Unread, Unsorted};
 use speedate_stream::Watched;
 
@@ -26,7 +27,7 @@ pub fn run_sort<'a>(rt: &HostRuntime, keys: &mut Keys<'a>, files: &[&'a str]) ->
     }
     tell_count(rt, keys.scan.bad, "bad line", "bad lines");
     tell_lines_before(rt, first.lines_before());
-    status.max(if keys.scan.bad > 0 { BAD } else { 0 })
+    status.max(lines_status(keys.scan.bad, 0, false))
 }
 
 /// Adds the lines of a file, tells what is bad, and returns whether no line has a value.

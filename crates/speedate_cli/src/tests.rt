@@ -2,19 +2,22 @@
 
 mod ends;
 mod merged;
+mod option_rows;
 mod rows;
 mod searched;
 mod sorted;
 
+use crate::files::write_end;
 use crate::input::Looking;
-use crate::session::{Session, write_end};
+use crate::session::Session;
 use clap::ArgMatches;
 use ends::{Sink, Source};
-use rows::{CLOCKS, COMMANDS, DURATIONS, LOG, OPTIONS};
+use option_rows::OPTIONS;
+use rows::{CLOCKS, COMMANDS, DURATIONS, LOG};
 use speedate::CallKind;
 use speedate_commands::first::First;
 use speedate_options::commands::{
-    first_between, first_check, first_convert, first_order, first_sum, first_summary,
+    first_between, first_check, first_convert, first_sum, first_summary,
 };
 use speedate_options::program::program;
 use speedate_stream::run::RunError;
@@ -23,8 +26,8 @@ use std::alloc::AllocError;
 use std::process::Abort;
 
 /// Command lines, and how many values are then bad, lines told to be before the first entry, and values out
-/// of order.
-const COUNTS: [(&str, &str, (u64, u64, u64)); 14] = [
+/// of order or after a gap.
+const COUNTS: [(&str, &str, (u64, u64, u64)); 15] = [
     ("between .. ..", LOG, (1, 0, 0)),
     (
         "between --bad stop 2026-11-22T06:09:30Z ..",
@@ -37,10 +40,11 @@ const COUNTS: [(&str, &str, (u64, u64, u64)); 14] = [
     ("check", "x\n2026-02-30T06:10Z\n", (1, 0, 0)),
     ("check --header", BEGINNING, (1, 2, 0)),
     ("convert --to utc", BEGINNING, (1, 3, 0)),
-    ("order", BEGINNING, (1, 0, 0)),
+    ("check --order", BEGINNING, (1, 3, 0)),
     // The second value cannot be written, but is one.
     ("convert --to utc", CLOCKS, (2, 1, 0)),
-    ("order", LOG, (1, 0, 1)),
+    ("check --order", LOG, (1, 0, 1)),
+    ("check --gap PT10M", LOG, (1, 0, 1)),
     ("sum", DURATIONS, (2, 0, 0)),
     ("sum --field 2", "a,PT1H\nb,\nc\n", (2, 0, 0)),
     ("summary", LOG, (1, 0, 1)),
@@ -73,7 +77,7 @@ const EACH: [&str; 6] = [
     "between -n .. ..",
     "check",
     "convert -n",
-    "order",
+    "check --order --gap PT1M",
     "sum",
     "summary",
 ];
@@ -88,7 +92,7 @@ struct Ended {
     /// How many calls of the reader there were.
     reads: u64,
     taken: Vec<u8>,
-    /// How many values were bad, lines before the first entry, and values out of order.
+    /// How many values were bad, lines before the first entry, and values out of order or after a gap.
     counts: (u64, u64, u64),
     /// Whether no line has a value.
     is_without_value: bool,
@@ -117,7 +121,7 @@ fn run_command<'a, M: Session<'a>>(machine: &mut M, source: Source<'_>, sink: Si
         counts: (
             machine.scan().bad,
             machine.lines_before(&first),
-            machine.out_of_order(),
+            machine.late_or_after_gap(),
         ),
         is_without_value: looking.lines.is_without_value(),
     }
@@ -143,7 +147,6 @@ fn run_given<R: Abort>(
             source,
             sink,
         ),
-        "order" => run_command(&mut first_order(given).ok().expect(rt, name), source, sink),
         "sum" => run_command(&mut first_sum(given).ok().expect(rt, name), source, sink),
         _ => run_command(
             &mut first_summary(given).ok().expect(rt, name),

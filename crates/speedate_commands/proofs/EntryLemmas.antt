@@ -10,7 +10,8 @@ use Rattle.speedate_scan.specs.Scan.{fits, is_stopped, is_value, judged, keeps, 
 use Rattle.speedate_scan.specs.Scan.{undated_line, unfit_line}
 use Rattle.speedate_scan.specs.Entries.{Marked, entries, entry_and, lines_text, marked}
 use Rattle.speedate_scan.specs.Entries.{printed_line, up_to_value}
-use Rattle.speedate_commands.specs.Base.{Found, Line, Offsets, Prefix, Reading, Scan, UndatedLines}
+use Rattle.speedate_commands.specs.Base.{Form, Found, Line, Offsets, Prefix, Reading, Scan}
+use Rattle.speedate_commands.specs.Base.{UndatedLines}
 use Rattle.speedate_commands.specs.Between.{Between, Bounds, awaits_header, between_after}
 use Rattle.speedate_commands.specs.Between.{between_lines, between_machine, entries_text, file_text}
 use Rattle.speedate_commands.specs.Between.{kept_after, lies_between, prints}
@@ -153,46 +154,47 @@ printed_entries bounds is_kept (line ∷ lines) are_marks =
     ∙ one_line bounds is_kept line.what line lines are_marks.0
 
 -- a line that is judged is no header
-unfit_mark : (offsets : Offsets) (found : Found) (scan : Scan)
-    → IsMark (unfit_line offsets found) (keeps scan (unfit_line offsets found))
-unfit_mark Offsets.Any found scan = tt
-unfit_mark Offsets.AsFirst found scan = tt
-unfit_mark (Offsets.Only has_offset) found scan = tt
-unfit_mark (Offsets.AsBounds has_offset) found scan = tt
+unfit_mark : (offsets : Offsets) (line : List ℕ) (found : Found) (scan : Scan)
+    → IsMark (unfit_line offsets line found) (keeps scan (unfit_line offsets line found))
+unfit_mark Offsets.Any line found scan = tt
+unfit_mark Offsets.AsFirst line found scan = tt
+unfit_mark (Offsets.Only has_offset) line found scan = tt
+unfit_mark (Offsets.AsBounds has_offset) line found scan = tt
 
-value_mark : (test : Bool) (scan : Scan) (found : Found)
-    → let what : Line = if test then Line.Value found else unfit_line scan.offsets found in
+value_mark : (test : Bool) (scan : Scan) (line : List ℕ) (found : Found)
+    → let what : Line = if test then Line.Value found else unfit_line scan.offsets line found in
     IsMark what (keeps scan what)
-value_mark true scan found = refl
-value_mark false scan found = unfit_mark scan.offsets found scan
+value_mark true scan line found = refl
+value_mark false scan line found = unfit_mark scan.offsets line found scan
 
-undated_mark : (lines : UndatedLines) (place : ℕ) (scan : Scan)
-    → IsMark (undated_line lines place) (keeps scan (undated_line lines place))
-undated_mark UndatedLines.Join place scan = tt
-undated_mark UndatedLines.Drop place scan = tt
-undated_mark UndatedLines.Bad place scan = tt
+undated_mark : (lines : UndatedLines) (form : Form) (place : ℕ) (scan : Scan)
+    → IsMark (undated_line lines form place) (keeps scan (undated_line lines form place))
+undated_mark UndatedLines.Join form place scan = tt
+undated_mark UndatedLines.Drop form place scan = tt
+undated_mark UndatedLines.Bad form place scan = tt
 
-judged_mark : (scan : Scan) (reading : Reading)
-    → IsMark (judged scan reading) (keeps scan (judged scan reading))
-judged_mark scan (Reading.Value found) = value_mark (fits scan.offsets found) scan found
-judged_mark scan (Reading.Bad bad) = tt
-judged_mark scan (Reading.Undated place) = undated_mark scan.undated_lines place scan
+judged_mark : (scan : Scan) (line : List ℕ) (reading : Reading)
+    → IsMark (judged scan line reading) (keeps scan (judged scan line reading))
+judged_mark scan line (Reading.Value found) = value_mark (fits scan.offsets found) scan line found
+judged_mark scan line (Reading.Bad bad) = tt
+judged_mark scan line (Reading.Undated place) =
+    undated_mark scan.undated_lines scan.reader.form place scan
 
 -- a line of a file whose header has come is no header
-chosen_mark : (stopped header : Bool) (scan : Scan) (reading : Reading)
+chosen_mark : (stopped header : Bool) (scan : Scan) (line : List ℕ) (reading : Reading)
     → (not stopped && header) ≡ false
     → let what : Line =
-    if stopped then Line.Late else if header then Line.Header else judged scan reading in
+    if stopped then Line.Late else if header then Line.Header else judged scan line reading in
     IsMark what (keeps scan what)
-chosen_mark true header scan reading no_header = tt
-chosen_mark false true scan reading no_header = cc
-chosen_mark false false scan reading no_header = judged_mark scan reading
+chosen_mark true header scan line reading no_header = tt
+chosen_mark false true scan line reading no_header = cc
+chosen_mark false false scan line reading no_header = judged_mark scan line reading
 
 line_mark : (scan : Scan) (line : List ℕ) → awaits_header scan ≡ false
     → IsMark (line_of scan line) (keeps scan (line_of scan line))
 unfolding line_of
 line_mark scan line no_header =
-    chosen_mark (is_stopped scan.stop) (scan.has_header && (scan.number == 0)) scan
+    chosen_mark (is_stopped scan.stop) (scan.has_header && (scan.number == 0)) scan line
     (read scan.reader line) no_header
 
 no_zero : (number : ℕ) → 1 ≤ number → (number == 0) ≡ false

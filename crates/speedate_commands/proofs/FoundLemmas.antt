@@ -17,7 +17,8 @@ use Rattle.speedate_scan.specs.Reading.{part, read}
 use Rattle.speedate_scan.specs.Scan.{fits, has_offsets, is_stopped, judged, line_of, passed}
 use Rattle.speedate_scan.specs.Scan.{undated_line, unfit_line}
 use Rattle.speedate_scan.specs.Entries.{Marked, entries, mark, marked, printed_line}
-use Rattle.speedate_commands.specs.Base.{Found, Line, Offsets, Reader, Reading, Scan, UndatedLines}
+use Rattle.speedate_commands.specs.Base.{Form, Found, Line, Offsets, Reader, Reading, Scan}
+use Rattle.speedate_commands.specs.Base.{UndatedLines}
 use Rattle.speedate_commands.specs.Between.{Between, awaits_header, between_after, between_lines}
 use Rattle.speedate_commands.specs.Between.{between_machine, entries_text, file_text}
 use Rattle.speedate_commands.specs.InOrder.{AreInOrder, EndsAt, EndsFirstLine, EndsFound, EndsPart}
@@ -152,49 +153,52 @@ begins-front reader has_offset instant (line ∷ some) others begins = inr (reco
 
 -- Numbers of lines.
 
-unfit-number : (scan : Scan) (offsets : Offsets) (found : Found)
-    → (passed scan (unfit_line offsets found)).number ≡ one_more scan.number
+unfit-number : (scan : Scan) (offsets : Offsets) (line : List ℕ) (found : Found)
+    → (passed scan (unfit_line offsets line found)).number ≡ one_more scan.number
 unfolding passed
-unfit-number scan Offsets.Any found = refl
-unfit-number scan Offsets.AsFirst found = refl
-unfit-number scan (Offsets.Only other) found = refl
-unfit-number scan (Offsets.AsBounds other) found = refl
+unfit-number scan Offsets.Any line found = refl
+unfit-number scan Offsets.AsFirst line found = refl
+unfit-number scan (Offsets.Only other) line found = refl
+unfit-number scan (Offsets.AsBounds other) line found = refl
 
-value-number : (scan : Scan) (found : Found) (fit : Bool)
-    → (passed scan (if fit then Line.Value found else unfit_line scan.offsets found)).number
+value-number : (scan : Scan) (line : List ℕ) (found : Found) (fit : Bool)
+    → (passed scan (if fit then Line.Value found else unfit_line scan.offsets line found)).number
     ≡ one_more scan.number
 unfolding passed
-value-number scan found true = refl
-value-number scan found false = unfit-number scan scan.offsets found
+value-number scan line found true = refl
+value-number scan line found false = unfit-number scan scan.offsets line found
 
-undated-number : (scan : Scan) (undated_lines : UndatedLines) (place : ℕ)
-    → (passed scan (undated_line undated_lines place)).number ≡ one_more scan.number
+undated-number : (scan : Scan) (undated_lines : UndatedLines) (form : Form) (place : ℕ)
+    → (passed scan (undated_line undated_lines form place)).number ≡ one_more scan.number
 unfolding passed
-undated-number scan UndatedLines.Bad place = refl
-undated-number scan UndatedLines.Join place = refl
-undated-number scan UndatedLines.Drop place = refl
+undated-number scan UndatedLines.Bad form place = refl
+undated-number scan UndatedLines.Join form place = refl
+undated-number scan UndatedLines.Drop form place = refl
 
-judged-number : (scan : Scan) (reading : Reading)
-    → (passed scan (judged scan reading)).number ≡ one_more scan.number
+judged-number : (scan : Scan) (line : List ℕ) (reading : Reading)
+    → (passed scan (judged scan line reading)).number ≡ one_more scan.number
 unfolding passed
-judged-number scan (Reading.Value found) = value-number scan found (fits scan.offsets found)
-judged-number scan (Reading.Bad bad) = refl
-judged-number scan (Reading.Undated place) = undated-number scan scan.undated_lines place
+judged-number scan line (Reading.Value found) =
+    value-number scan line found (fits scan.offsets found)
+judged-number scan line (Reading.Bad bad) = refl
+judged-number scan line (Reading.Undated place) =
+    undated-number scan scan.undated_lines scan.reader.form place
 
-chosen-number : (stopped header : Bool) (scan : Scan) (reading : Reading) → stopped ≡ false
+chosen-number : (stopped header : Bool) (scan : Scan) (line : List ℕ) (reading : Reading)
+    → stopped ≡ false
     → (passed scan
-    (if stopped then Line.Late else if header then Line.Header else judged scan reading)).number
-    ≡ one_more scan.number
+    (if stopped then Line.Late
+    else if header then Line.Header else judged scan line reading)).number ≡ one_more scan.number
 unfolding passed
-chosen-number true header scan reading goes_on = cc
-chosen-number false true scan reading goes_on = refl
-chosen-number false false scan reading goes_on = judged-number scan reading
+chosen-number true header scan line reading goes_on = cc
+chosen-number false true scan line reading goes_on = refl
+chosen-number false false scan line reading goes_on = judged-number scan line reading
 
 line-number : (scan : Scan) (line : List ℕ) → is_stopped scan.stop ≡ false
     → (passed scan (line_of scan line)).number ≡ one_more scan.number
 unfolding line_of
 line-number scan line goes_on =
-    chosen-number (is_stopped scan.stop) (scan.has_header && (scan.number == 0)) scan
+    chosen-number (is_stopped scan.stop) (scan.has_header && (scan.number == 0)) scan line
     (read scan.reader line) goes_on
 
 number-after : (scan : Scan) (lines : List (List ℕ))

@@ -12,7 +12,7 @@ use Rattle.speedate_scan.specs.Scan.{passed, settled, stop_at_bad, undated_line,
 use Rattle.speedate_scan.specs.Entries.{Entry, Marked, entries, entry_and, lines_text, mark, marked}
 use Rattle.speedate_scan.specs.Entries.{printed_line, up_to_value}
 use Rattle.speedate_commands.specs.Base.{Found, Line, Offsets, Prefix, Reader, Reading, Scan, Stop}
-use Rattle.speedate_commands.specs.Base.{UndatedLines}
+use Rattle.speedate_commands.specs.Base.{Form, UndatedLines}
 use Rattle.speedate_commands.specs.Between.{Bounds, awaits_header, entries_text, entry_text}
 use Rattle.speedate_commands.specs.Between.{is_begun, is_open, lies_between}
 use Rattle.speedate_commands.specs.InOrder.{AreInOrder, NoneIsBefore, line_value, scan_after}
@@ -291,64 +291,67 @@ settled-only has_offset (Offsets.Only other) found asked has = ap (λ (o : Bool)
 settled-only has_offset (Offsets.AsBounds other) found asked has =
     ap (λ (o : Bool). Offsets.Only o) has
 
-unfit-offsets : (scan : Scan) (offsets : Offsets) (found : Found)
-    → (passed scan (unfit_line offsets found)).offsets ≡ scan.offsets
+unfit-offsets : (scan : Scan) (offsets : Offsets) (line : List ℕ) (found : Found)
+    → (passed scan (unfit_line offsets line found)).offsets ≡ scan.offsets
 unfolding passed
-unfit-offsets scan Offsets.Any found = refl
-unfit-offsets scan Offsets.AsFirst found = refl
-unfit-offsets scan (Offsets.Only other) found = refl
-unfit-offsets scan (Offsets.AsBounds other) found = refl
+unfit-offsets scan Offsets.Any line found = refl
+unfit-offsets scan Offsets.AsFirst line found = refl
+unfit-offsets scan (Offsets.Only other) line found = refl
+unfit-offsets scan (Offsets.AsBounds other) line found = refl
 
-undated-offsets : (scan : Scan) (undated_lines : UndatedLines) (place : ℕ)
-    → (passed scan (undated_line undated_lines place)).offsets ≡ scan.offsets
+undated-offsets : (scan : Scan) (undated_lines : UndatedLines) (form : Form) (place : ℕ)
+    → (passed scan (undated_line undated_lines form place)).offsets ≡ scan.offsets
 unfolding passed
-undated-offsets scan UndatedLines.Bad place = refl
-undated-offsets scan UndatedLines.Join place = refl
-undated-offsets scan UndatedLines.Drop place = refl
+undated-offsets scan UndatedLines.Bad form place = refl
+undated-offsets scan UndatedLines.Join form place = refl
+undated-offsets scan UndatedLines.Drop form place = refl
 
 value-offsets : (scan : Scan) (found : Found)
     → (passed scan (Line.Value found)).offsets ≡ settled scan.offsets found
 unfolding passed
 value-offsets scan found = refl
 
-asked-value : (has_offset : Bool) (scan : Scan) (found : Found) (fit : Bool)
+asked-value : (has_offset : Bool) (scan : Scan) (line : List ℕ) (found : Found) (fit : Bool)
     → fits scan.offsets found ≡ fit → AskFor has_offset scan.offsets
     → AskFor has_offset
-    (passed scan (if fit then Line.Value found else unfit_line scan.offsets found)).offsets
-asked-value has_offset scan found true is asked =
+    (passed scan (if fit then Line.Value found else unfit_line scan.offsets line found)).offsets
+asked-value has_offset scan line found true is asked =
     let has = has_is has_offset found
     (sym (asked-fits has_offset scan.offsets found asked) ∙ is) in
     subst (AskFor has_offset)
     (sym (value-offsets scan found ∙ settled-only has_offset scan.offsets found asked has)) refl
-asked-value has_offset scan found false is asked =
-    subst (AskFor has_offset) (sym (unfit-offsets scan scan.offsets found)) asked
+asked-value has_offset scan line found false is asked =
+    subst (AskFor has_offset) (sym (unfit-offsets scan scan.offsets line found)) asked
 
-asked-judged : (has_offset : Bool) (scan : Scan) (reading : Reading)
+asked-judged : (has_offset : Bool) (scan : Scan) (line : List ℕ) (reading : Reading)
     → AskFor has_offset scan.offsets
-    → AskFor has_offset (passed scan (judged scan reading)).offsets
+    → AskFor has_offset (passed scan (judged scan line reading)).offsets
 unfolding passed
-asked-judged has_offset scan (Reading.Value found) asked =
-    asked-value has_offset scan found (fits scan.offsets found) refl asked
-asked-judged has_offset scan (Reading.Bad bad) asked = asked
-asked-judged has_offset scan (Reading.Undated place) asked =
-    subst (AskFor has_offset) (sym (undated-offsets scan scan.undated_lines place)) asked
+asked-judged has_offset scan line (Reading.Value found) asked =
+    asked-value has_offset scan line found (fits scan.offsets found) refl asked
+asked-judged has_offset scan line (Reading.Bad bad) asked = asked
+asked-judged has_offset scan line (Reading.Undated place) asked =
+    subst (AskFor has_offset)
+    (sym (undated-offsets scan scan.undated_lines scan.reader.form place)) asked
 
-asked-chosen : (has_offset stopped header : Bool) (scan : Scan) (reading : Reading)
+asked-chosen : (has_offset stopped header : Bool) (scan : Scan) (line : List ℕ)
+    (reading : Reading)
     → AskFor has_offset scan.offsets
     → AskFor has_offset (passed scan
-    (if stopped then Line.Late else if header then Line.Header else judged scan reading)).offsets
+    (if stopped then Line.Late
+    else if header then Line.Header else judged scan line reading)).offsets
 unfolding passed
-asked-chosen has_offset true header scan reading asked = asked
-asked-chosen has_offset false true scan reading asked = asked
-asked-chosen has_offset false false scan reading asked =
-    asked-judged has_offset scan reading asked
+asked-chosen has_offset true header scan line reading asked = asked
+asked-chosen has_offset false true scan line reading asked = asked
+asked-chosen has_offset false false scan line reading asked =
+    asked-judged has_offset scan line reading asked
 
 asked-line : (has_offset : Bool) (scan : Scan) (line : List ℕ) → AskFor has_offset scan.offsets
     → AskFor has_offset (passed scan (line_of scan line)).offsets
 unfolding line_of
 asked-line has_offset scan line asked =
     asked-chosen has_offset (is_stopped scan.stop) (scan.has_header && (scan.number == 0)) scan
-    (read scan.reader line) asked
+    line (read scan.reader line) asked
 
 pub asked-after : (has_offset : Bool) (scan : Scan) (lines : List (List ℕ))
     → AskFor has_offset scan.offsets → AskFor has_offset (scan_after scan lines).offsets
@@ -403,10 +406,11 @@ alike-plain one other alike =
     ∙ ap (λ (offsets : Offsets). rebuilt (fixed other) offsets one.stop) alike.offsets
     ∙ ap (λ (stop : Stop). rebuilt (fixed other) other.offsets stop) alike.stop
 
-judged-plain : (scan : Scan) (reading : Reading) → judged scan reading ≡ judged (plain scan) reading
-judged-plain scan (Reading.Value found) = refl
-judged-plain scan (Reading.Bad bad) = refl
-judged-plain scan (Reading.Undated place) = refl
+judged-plain : (scan : Scan) (line : List ℕ) (reading : Reading)
+    → judged scan line reading ≡ judged (plain scan) line reading
+judged-plain scan line (Reading.Value found) = refl
+judged-plain scan line (Reading.Bad bad) = refl
+judged-plain scan line (Reading.Undated place) = refl
 
 no_header : (stopped header : Bool) (other : Line) → (not stopped && header) ≡ false
     → (if stopped then Line.Late else if header then Line.Header else other)
@@ -418,19 +422,19 @@ no_header false false other came = refl
 -- what a line is after the header has come
 abbrev later_line : Scan → List ℕ → Line
 later_line scan line =
-    if is_stopped scan.stop then Line.Late else judged scan (read scan.reader line)
+    if is_stopped scan.stop then Line.Late else judged scan line (read scan.reader line)
 
 line-later : (scan : Scan) (line : List ℕ) → awaits_header scan ≡ false
     → line_of scan line ≡ later_line scan line
 unfolding line_of
 line-later scan line came =
     no_header (is_stopped scan.stop) (scan.has_header && (scan.number == 0))
-    (judged scan (read scan.reader line)) came
+    (judged scan line (read scan.reader line)) came
 
 later-plain : (scan : Scan) (line : List ℕ) → later_line scan line ≡ later_line (plain scan) line
 later-plain scan line =
     ap (λ (what : Line). if is_stopped scan.stop then Line.Late else what)
-    (judged-plain scan (read scan.reader line))
+    (judged-plain scan line (read scan.reader line))
 
 line-alike : (one other : Scan) (line : List ℕ) → AreAlike one other
     → awaits_header one ≡ false → awaits_header other ≡ false
@@ -566,10 +570,11 @@ read-in reader has_offset line instant (Reading.Value found) is value =
 read-in reader has_offset line instant (Reading.Bad bad) is value = cc
 read-in reader has_offset line instant (Reading.Undated place) is value = cc
 
-value-is : (scan : Scan) (found : Found) (fit : Bool) → fits scan.offsets found ≡ fit → fit ≡ true
-    → judged scan (Reading.Value found) ≡ Line.Value found
-value-is scan found true is fit = rw is refl
-value-is scan found false is fit = cc
+value-is : (scan : Scan) (line : List ℕ) (found : Found) (fit : Bool)
+    → fits scan.offsets found ≡ fit → fit ≡ true
+    → judged scan line (Reading.Value found) ≡ Line.Value found
+value-is scan line found true is fit = rw is refl
+value-is scan line found false is fit = cc
 
 goes_on-line : (stopped : Bool) (other : Line) → stopped ≡ false
     → (if stopped then Line.Late else other) ≡ other
@@ -582,9 +587,10 @@ value_line : (scan : Scan) (has_offset : Bool) (line : List ℕ) (found : Found)
     → is_stopped scan.stop ≡ false → line_of scan (head line) ≡ Line.Value found
 value_line scan has_offset line found reading has asked came goes_on =
     line-later scan (head line) came
-    ∙ goes_on-line (is_stopped scan.stop) (judged scan (read scan.reader (head line))) goes_on
-    ∙ ap (judged scan) reading
-    ∙ value-is scan found (fits scan.offsets found) refl
+    ∙ goes_on-line (is_stopped scan.stop) (judged scan (head line) (read scan.reader (head line)))
+    goes_on
+    ∙ ap (judged scan (head line)) reading
+    ∙ value-is scan (head line) found (fits scan.offsets found) refl
     (asked-fits has_offset scan.offsets found asked ∙ has)
 
 -- lines whose first one has a value

@@ -1,53 +1,23 @@
--- What the machines of `check`, `order` and `convert` print of lines.
+-- What the machines of `check` and `convert` print of lines.
 use Rattle.std.proofs.Common.{◌≡◌, ℕ, Bool, true, false, List, [], ◌∷◌, ◌++◌, refl, ap, append_assoc, take}
 use Rattle.std.proofs.lemmas.List.{append-nil}
-use Rattle.std.specs.Prelude.{Option, Some, None, if◌then◌else◌}
+use Rattle.std.specs.Prelude.{Some, None, if◌then◌else◌}
 use Rattle.speedate_stream.specs.Machine.{head, lines_output, rest_of}
 use Rattle.speedate_scan.specs.Scan.{keeps, line_of, passed}
-use Rattle.speedate_commands.specs.Base.{Found, Line}
-use Rattle.speedate_commands.specs.Check.{Check, check_lines, check_machine}
+use Rattle.speedate_commands.specs.Base.{Line}
+use Rattle.speedate_commands.specs.Check.{Check, check_after, check_lines, check_machine}
 use Rattle.speedate_commands.specs.Convert.{Convert, convert_line, convert_lines, convert_machine}
 use Rattle.speedate_commands.specs.Convert.{convert_rest, convert_text, converted, line_prefix}
 use Rattle.speedate_commands.specs.Convert.{text_of, written_of}
-use Rattle.speedate_commands.specs.Order.{Latest, Order, dated, dated_and, late_report}
-use Rattle.speedate_commands.specs.Order.{late_reports, latest_of, order_after, order_lines}
-use Rattle.speedate_commands.specs.Order.{order_machine, order_text, report_if_late, value_after}
 
--- `check` prints the reports of the lines whose value is bad
+-- `check` prints the reports of the lines
 pub check_prints : (check : Check) (lines : List (List ℕ))
-    → lines_output check_machine check lines ≡ check_lines check.scan lines
+    → lines_output check_machine check lines ≡ check_lines check lines
 check_prints check [] = refl
 check_prints check (line ∷ lines) =
-    let what : Line = line_of check.scan (head line) in
-    let later = check_prints (record { scan = passed check.scan what }) lines in
+    let what : Line = line_of check.order.scan (head line) in
+    let later = check_prints (check_after check what) lines in
     rw (append-nil, later) refl
-
-late_report_is : (order : Order) (found : Found) (latest : Option Latest)
-    → late_report order.scan found.instant latest
-    ≡ report_if_late latest (latest_of order.scan found)
-late_report_is order found None = refl
-late_report_is order found (Some latest) = refl
-
-one_value : (order : Order) (what : Line) (values : List Latest)
-    → order_text order what ++ late_reports (value_after order what) values
-    ≡ late_reports order.latest (dated_and order.scan what values)
-one_value order (Line.Value found) values =
-    ap (λ (text : List ℕ). text ++ late_reports (value_after order (Line.Value found)) values)
-    (late_report_is order found order.latest)
-one_value order Line.Late values = refl
-one_value order Line.Header values = refl
-one_value order (Line.Bad bad) values = refl
-one_value order Line.Unfit values = refl
-one_value order Line.Undated values = refl
-
--- `order` prints the reports of the values that are earlier than the one before
-pub order_prints : (order : Order) (lines : List (List ℕ))
-    → lines_output order_machine order lines ≡ order_lines order lines
-order_prints order [] = refl
-order_prints order (line ∷ lines) =
-    let what : Line = line_of order.scan (head line) in
-    let later = order_prints (order_after order what) lines in
-    rw (append-nil, later) (one_value order what (dated (passed order.scan what) lines))
 
 -- a line that is printed as it is, if it is printed
 as_it_is : (test : Bool) (prefix line : List ℕ)

@@ -33,20 +33,21 @@ after_one None (Ok numbers) later None is = tt
 after_one (Some total) (Err line) later after is = is
 after_one None (Err line) later after is = is
 
-is_exact : (scan : Scan) (total : Option ℤ) (all : List (List ℕ))
-    → IsExact total (amounts_of scan all) (sum_of (record { scan = scan; total = total }) all).total
-is_exact scan (Some total) [] = refl
-is_exact scan None [] = tt
-is_exact scan total (line ∷ others) =
+is_exact : (has_hours : Bool) (scan : Scan) (total : Option ℤ) (all : List (List ℕ))
+    → IsExact total (amounts_of scan all)
+    (sum_of (record { scan = scan; total = total; has_hours = has_hours }) all).total
+is_exact has_hours scan (Some total) [] = refl
+is_exact has_hours scan None [] = tt
+is_exact has_hours scan total (line ∷ others) =
     let amount : Result DurationNumbers Line = amount_of scan (head line) in
     after_one total amount (amounts_of (scan_after scan amount) others) _
-    (is_exact (scan_after scan amount) (total_after total amount) others)
+    (is_exact has_hours (scan_after scan amount) (total_after total amount) others)
 
 pub sum_adds : (sum : Sum) (all : List (List ℕ))
     → IsSumAfter sum all (state_after sum_machine sum all)
 sum_adds sum all = rw (adds_up sum all) (record {
   added = refl;
-  exact = is_exact sum.scan sum.total all;
+  exact = is_exact sum.has_hours sum.scan sum.total all;
 })
 
 pub sum_prints_none : (sum : Sum) (all : List (List ℕ)) → lines_output sum_machine sum all ≡ []

@@ -1,34 +1,79 @@
--- The command `check`: a report of each bad value.
-use Rattle.std.specs.Prelude.{ℕ, List, [], ◌∷◌, ◌++◌, None}
+-- The command `check`: a report of each bad value and, if these are asked for, of each value that
+-- is earlier than the one before, or comes too long after it.
+use Rattle.std.specs.Prelude.{ℕ, ℤ, ◌-ℤ◌, ◌&&◌, ◌||◌, Bool, false, List, [], ◌∷◌, ◌++◌, Option, Some, None, is_some, int_lt, if◌then◌else◌}
 use Rattle.speedate_stream.specs.Machine.{Machine, head}
 use Rattle.speedate_stream.specs.Watch.{one_more}
 use Rattle.speedate_scan.specs.Print.{call_kind, report_text}
 use Rattle.speedate_scan.specs.Scan.{is_stopped, line_of, passed}
-use Rattle.speedate_commands.specs.Base.{Line, Scan}
+use Rattle.speedate_commands.specs.Base.{Bad, Line, Scan}
+use Rattle.speedate_commands.specs.Order.{Latest, gap_text, late_text, order_after}
 pub use Rattle.speedate_commands.specs.declared.check.Check.{Check}
 
--- what is reported of a line
-abbrev pub check_text : Scan → Line → List ℕ
-check_text scan (Line.Bad bad) =
-    report_text scan.name.now (one_more scan.number) bad (call_kind scan.reader.form)
-check_text scan Line.Late = []
-check_text scan Line.Header = []
-check_text scan (Line.Value found) = []
-check_text scan Line.Unfit = []
-check_text scan Line.Undated = []
+-- values are compared with the one before
+abbrev pub compares : Check → Bool
+compares check = check.reports_late || is_some check.gap
 
--- the report of each bad value, and no line itself
+-- a gap is given, there is a value before, and this one comes more than the gap after it
+abbrev pub is_after_gap : Option ℤ → ℤ → Option Latest → Bool
+is_after_gap None instant latest = false
+is_after_gap (Some gap) instant None = false
+is_after_gap (Some gap) instant (Some latest) = int_lt gap (instant -ℤ latest.instant)
+
+-- the report of a value, by the one before
+abbrev pub value_report : Check → ℤ → Option Latest → List ℕ
+value_report check instant None = []
+value_report check instant (Some latest) =
+    let scan = check.order.scan in
+    if check.reports_late && int_lt instant latest.instant
+    then late_text scan.name.now (one_more scan.number) instant latest
+    else if is_after_gap check.gap instant (Some latest)
+    then gap_text scan.name.now (one_more scan.number) instant latest
+    else []
+
+-- the report of a bad value
+abbrev pub bad_report : Scan → Bad → List ℕ
+bad_report scan bad =
+    report_text scan.name.now (one_more scan.number) bad (call_kind scan.reader.form)
+
+-- what is reported of a line
+abbrev pub check_text : Check → Line → List ℕ
+check_text check (Line.Bad bad) = bad_report check.order.scan bad
+check_text check (Line.Value found) = value_report check found.instant check.order.latest
+check_text check Line.Late = []
+check_text check Line.Header = []
+check_text check Line.Unfit = []
+check_text check Line.Undated = []
+
+-- how many values came after a gap
+abbrev pub gaps_after : Check → Line → ℕ
+gaps_after check (Line.Value found) =
+    if is_after_gap check.gap found.instant check.order.latest then one_more check.gaps
+    else check.gaps
+gaps_after check (Line.Bad bad) = check.gaps
+gaps_after check Line.Late = check.gaps
+gaps_after check Line.Header = check.gaps
+gaps_after check Line.Unfit = check.gaps
+gaps_after check Line.Undated = check.gaps
+
+-- what is known after a line
+abbrev pub check_after : Check → Line → Check
+check_after check line =
+    if compares check
+    then record check { order = order_after check.order line; gaps = gaps_after check line }
+    else record check { order = record check.order { scan = passed check.order.scan line } }
+
+-- the reports, and no line itself
 abbrev pub check_machine : Machine Check
 check_machine = record {
-  after = λ check head. record { scan = passed check.scan (line_of check.scan head) };
-  text = λ check head. check_text check.scan (line_of check.scan head);
+  after = λ check head. check_after check (line_of check.order.scan head);
+  text = λ check head. check_text check (line_of check.order.scan head);
   rest = λ check head. None;
-  done = λ check. is_stopped check.scan.stop;
+  done = λ check. is_stopped check.order.scan.stop;
 }
 
--- what `check` prints of lines: the reports of those whose value is bad
-abbrev pub check_lines : Scan → List (List ℕ) → List ℕ
-check_lines scan [] = []
-check_lines scan (line ∷ lines) =
-    let what = line_of scan (head line) in
-    check_text scan what ++ check_lines (passed scan what) lines
+-- what `check` prints of lines: the reports of each
+abbrev pub check_lines : Check → List (List ℕ) → List ℕ
+check_lines check [] = []
+check_lines check (line ∷ lines) =
+    let what = line_of check.order.scan (head line) in
+    check_text check what ++ check_lines (check_after check what) lines

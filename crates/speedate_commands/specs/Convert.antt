@@ -50,6 +50,7 @@ unfoldable pub written_text : Form → Option FractionDigits → DateAndTime →
 written_text Form.Date digits value = date_text value.date
 written_text Form.DateTime digits value = text_with digits value
 written_text Form.Strict digits value = text_with digits value
+written_text (Form.Timestamp unit) digits value = text_with digits value
 
 -- the text of a value, if there is one
 abbrev pub text_of : Form → Option FractionDigits → Option DateAndTime → List ℕ

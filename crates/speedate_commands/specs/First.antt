@@ -30,8 +30,9 @@ after_line first dated line = record first {
 }
 
 -- what is known after a line, by what is read of it
-abbrev pub after_reading : First → Reading → First
-after_reading first reading = after_line first (is_dated reading) (judged first.scan reading)
+abbrev pub after_reading : First → List ℕ → Reading → First
+after_reading first head reading =
+    after_line first (is_dated reading) (judged first.scan head reading)
 
 -- what is known after a line that has a duration
 abbrev pub after_duration : First → First
@@ -39,9 +40,9 @@ after_duration first =
     record first { scan = counted first.scan; has_value = true; has_entry = true }
 
 -- what is known after a line, by its duration or by what is read of a line that has none
-abbrev pub after_amount : First → Result DurationNumbers Reading → First
-after_amount first (Ok numbers) = after_duration first
-after_amount first (Err reading) = after_reading first reading
+abbrev pub after_amount : First → List ℕ → Result DurationNumbers Reading → First
+after_amount first head (Ok numbers) = after_duration first
+after_amount first head (Err reading) = after_reading first head reading
 
 -- what is known after a line, by its head
 unfoldable pub first_after : First → List ℕ → First
@@ -49,8 +50,8 @@ first_after first head =
     if is_stopped first.scan.stop then first
     else if first.scan.has_header && (first.scan.number == 0)
     then record first { scan = counted first.scan }
-    else if first.has_durations then after_amount first (read_duration first.scan.reader head)
-    else after_reading first (read first.scan.reader head)
+    else if first.has_durations then after_amount first head (read_duration first.scan.reader head)
+    else after_reading first head (read first.scan.reader head)
 
 -- how many lines came before the first entry, if one has begun: otherwise 0
 abbrev pub lines_before : First → ℕ

@@ -8,3 +8,4 @@ pub mod Runs
 pub mod Sum
 pub mod InOrder
 pub mod First
+pub mod Status

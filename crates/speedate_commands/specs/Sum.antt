@@ -1,13 +1,14 @@
 -- The command `sum`: the total of the durations of lines.
-use Rattle.std.specs.Prelude.{◌≡◌, ℕ, ℤ, ◌+ℤ◌, ◌^◌, ◌&&◌, Bool, List, [], ◌∷◌, ◌++◌, Option, Some, None, Result, Ok, Err, is_err, not, nat_lt, unsigned_abs, if◌then◌else◌}
+use Rattle.std.specs.Prelude.{◌≡◌, ℕ, ℤ, ◌+◌, ◌*◌, ◌/◌, ◌%◌, ◌+ℤ◌, ◌^◌, ◌&&◌, Bool, List, [], ◌∷◌, ◌++◌, Option, Some, None, Result, Ok, Err, is_err, not, nat_lt, decimal, unsigned_abs, if◌then◌else◌}
 use Rattle.std.specs.List.{fold}
 use Rattle.std.specs.Result.{result_unwrap_or}
-use Rattle.speedate.specs.Ascii.{capital_d, line_feed}
+use Rattle.speedate.specs.Ascii.{capital_d, colon, hyphen, line_feed}
 use Rattle.speedate.specs.Base.{ParseError}
 use Rattle.speedate.specs.Duration.{amount_answer, counted_text, rest_text, signed_amount}
 use Rattle.speedate.specs.Duration.{start_text}
 use Rattle.speedate.specs.DurationNumbers.{DurationNumbers}
 use Rattle.speedate.specs.Requirement.{result_map}
+use Rattle.speedate.specs.Time.{fraction_text, minute_text}
 use Rattle.speedate_stream.specs.Machine.{Machine, head}
 use Rattle.speedate_scan.specs.Amount.{amount_of}
 use Rattle.speedate_scan.specs.Scan.{counted, is_stopped, passed}
@@ -51,8 +52,10 @@ total_after total (Err line) = total
 
 -- the sum, after a line
 abbrev pub sum_after : Sum → Result DurationNumbers Line → Sum
-sum_after sum amount =
-    record { scan = scan_after sum.scan amount; total = total_after sum.total amount }
+sum_after sum amount = record sum {
+  scan = scan_after sum.scan amount;
+  total = total_after sum.total amount;
+}
 
 -- the sum, after lines: each adds to it
 abbrev pub sum_of : Sum → List (List ℕ) → Sum
@@ -92,9 +95,22 @@ unfoldable pub in_days : DurationNumbers → List ℕ
 in_days numbers =
     start_text numbers.positive ++ counted_text numbers.day capital_d ++ rest_text numbers
 
--- a duration without years, with a line feed
-abbrev pub duration_line : DurationNumbers → List ℕ
-duration_line numbers = in_days numbers ++ line_feed ∷ []
+-- what follows the hours of a duration in hours: its minutes, its seconds, and their fraction
+abbrev pub after_hours : DurationNumbers → List ℕ
+after_hours numbers =
+    colon ∷ minute_text (numbers.second / 60 % 60) (numbers.second % 60)
+    ++ fraction_text numbers.microsecond
+
+-- a duration in print in hours, of which a day has 24
+unfoldable pub in_hours : DurationNumbers → List ℕ
+in_hours numbers =
+    (if numbers.positive then [] else hyphen ∷ [])
+    ++ decimal (24 * numbers.day + numbers.second / 3600) ++ after_hours numbers
+
+-- a duration in hours, or without years, with a line feed
+abbrev pub duration_line : Bool → DurationNumbers → List ℕ
+duration_line has_hours numbers =
+    (if has_hours then in_hours numbers else in_days numbers) ++ line_feed ∷ []
 
 -- no total is printed since it has too many days
 abbrev pub is_too_large : Sum → Bool
@@ -104,4 +120,4 @@ is_too_large sum = not (is_stopped sum.scan.stop) && is_err (total_answer sum.to
 unfoldable pub total_text : Sum → List ℕ
 total_text sum =
     if is_stopped sum.scan.stop then []
-    else result_unwrap_or (result_map duration_line (total_answer sum.total)) []
+    else result_unwrap_or (result_map (duration_line sum.has_hours) (total_answer sum.total)) []

@@ -1,41 +1,132 @@
-//! The command `check`: a report of each bad value.
+//! The command `check`: a report of each bad value and, if these are asked for, of each value that is
+//! earlier than the one before, or comes too long after it.
 
-ghost use Rattle.std.specs.Prelude.{◌≡◌, ◌+◌, ◌++◌, ◌≤◌, Err, OnOk, false, true};
+ghost use Rattle.std.specs.Prelude.{◌≡◌, ◌+◌, ◌++◌, ◌-ℤ◌, ◌≤◌, Err, OnOk, false, int_lt, true};
 ghost use Rattle.arrayvec.specs.ArrayVec.{array_vec_len};
-ghost use Rattle.speedate_commands.specs.Check.{check_lines, check_machine, check_text};
+ghost use Rattle.speedate_commands.specs.Check.{bad_report, check_after, check_lines, check_machine};
+ghost use Rattle.speedate_commands.specs.Check.{check_text, compares, gaps_after, is_after_gap};
+ghost use Rattle.speedate_commands.specs.Check.{value_report};
 ghost use Rattle.speedate_commands.specs.Runs.{EndsWith};
 ghost use Rattle.speedate_stream.specs.Run.{EndsBy, PrintsBeginning, PrintsProgress};
 
-use speedate_scan::print::{REPORT_MAX, push_report};
-use speedate_scan::scan::{Line, Scan};
+use crate::order::{Order, distance, push_gap, push_late};
+use speedate_scan::print::push_report;
+use speedate_scan::reading::Bad;
+use speedate_scan::scan::Line;
 use speedate_stream::run::{RunError, run};
-use speedate_stream::{LineMachine, Observer, PENDING_MAX, Pending, Watched};
+use speedate_stream::{LineMachine, Observer, PENDING_MAX, Pending, STEP_MAX, Watched};
 use std::io::{Read, Write};
 
-/// Prints a report of each line whose value is bad, and no line itself.
+/// Prints a report of each bad value, and of values by the one before, and no line itself.
 #[derive(Clone, Copy)]
 pub struct Check<'a> {
-    /// What is known of the lines so far.
-    pub scan: Scan<'a>,
+    /// What is known of the lines so far, and the value before if values are compared.
+    pub order: Order<'a>,
+    /// Whether values are reported that are earlier than the one before.
+    pub reports_late: bool,
+    /// The longest time between two values, in microseconds, if a value after a longer one is reported.
+    pub gap: Option<i128>,
+    /// How many values came more than that after the one before.
+    pub gaps: u64,
+}
+
+/// Whether a value comes more than so many microseconds after another.
+fn is_past_gap(from: i64, to: i64, gap: i128) -> bool
+    ensures past { result ≡ int_lt gap (to -ℤ from) }
+{
+    gap < distance(from, to)
 }
 
 impl Check<'_> {
+    /// Whether values are compared with the one before.
+    #[inline(always)]
+    fn compares(&self) -> bool
+        ensures compares { result ≡ compares self.now }
+    {
+        self.reports_late || self.gap.is_some()
+    }
+
+    /// Whether a value comes more than a gap after the one before.
+    fn is_after_gap(&self, instant: i64) -> bool
+        ensures after { result ≡ is_after_gap self.now.gap instant self.now.order.latest }
+    {
+        match (self.gap, &self.order.latest) {
+            (Some(gap), Some(latest)) => is_past_gap(latest.instant, instant, gap),
+            _ => false,
+        }
+    }
+
+    /// Appends the report of a value.
+    fn push_value(&self, instant: i64, pending: &mut Pending)
+        requires room { array_vec_len pending.old + STEP_MAX ≤ PENDING_MAX }
+        ensures pushed { pending.new.items
+            ≡ pending.old.items ++ value_report self.now instant self.now.order.latest }
+        ensures length { array_vec_len pending.new ≤ array_vec_len pending.old + STEP_MAX }
+    {
+        let Some(latest) = &self.order.latest else {
+            return;
+        };
+        let scan = &self.order.scan;
+        if self.reports_late && instant < latest.instant {
+            push_late(scan.name, scan.next_number(), instant, latest, pending);
+        } else if self.is_after_gap(instant) {
+            push_gap(scan.name, scan.next_number(), instant, latest, pending);
+        }
+    }
+
+    /// Appends the report of a bad value.
+    fn push_bad(&self, bad: &Bad, pending: &mut Pending)
+        requires room { array_vec_len pending.old + STEP_MAX ≤ PENDING_MAX }
+        ensures pushed { pending.new.items
+            ≡ pending.old.items ++ bad_report self.now.order.scan bad.now }
+        ensures length { array_vec_len pending.new ≤ array_vec_len pending.old + STEP_MAX }
+    {
+        let scan = &self.order.scan;
+        push_report(
+            scan.name,
+            scan.next_number(),
+            bad,
+            scan.reader.form.call_kind(),
+            pending,
+        );
+    }
+
     /// Appends what is reported of a line.
     fn push_line(&self, line: &Line, pending: &mut Pending)
-        requires room { array_vec_len pending.old + REPORT_MAX ≤ PENDING_MAX }
-        ensures pushed { pending.new.items
-            ≡ pending.old.items ++ check_text self.now.scan line.now }
-        ensures length { array_vec_len pending.new ≤ array_vec_len pending.old + REPORT_MAX }
+        requires room { array_vec_len pending.old + STEP_MAX ≤ PENDING_MAX }
+        ensures pushed { pending.new.items ≡ pending.old.items ++ check_text self.now line.now }
+        ensures length { array_vec_len pending.new ≤ array_vec_len pending.old + STEP_MAX }
     {
-        if let Line::Bad(bad) = line {
-            let scan = &self.scan;
-            push_report(
-                scan.name,
-                scan.next_number(),
-                bad,
-                scan.reader.form.call_kind(),
-                pending,
-            );
+        match line {
+            Line::Bad(bad) => self.push_bad(bad, pending),
+            Line::Value(found) => self.push_value(found.instant, pending),
+            _ => {}
+        }
+    }
+
+    /// How many values came after a gap, after a line.
+    fn gaps_after(&self, line: &Line) -> u64
+        ensures gaps { result ≡ gaps_after self.now line.now }
+    {
+        match line {
+            Line::Value(found) if self.is_after_gap(found.instant) => self.gaps.saturating_add(1),
+            _ => self.gaps,
+        }
+    }
+
+    /// Reports and counts a line.
+    fn pass(&mut self, line: Line, pending: &mut Pending)
+        requires room { array_vec_len pending.old + STEP_MAX ≤ PENDING_MAX }
+        ensures after { self.new ≡ check_after self.old line }
+        ensures pushed { pending.new.items ≡ pending.old.items ++ check_text self.old line }
+        ensures length { array_vec_len pending.new ≤ array_vec_len pending.old + STEP_MAX }
+    {
+        self.push_line(&line, pending);
+        if self.compares() {
+            self.gaps = self.gaps_after(&line);
+            self.order.pass(line);
+        } else {
+            self.order.scan.pass(line);
         }
     }
 }
@@ -46,7 +137,7 @@ impl LineMachine for Check<'_> {
     ghost machine = { check_machine };
 
     fn is_done(&self) -> bool {
-        self.scan.is_stopped()
+        self.order.scan.is_stopped()
     }
 
     fn passes(&self, _head: &[u8]) -> bool {
@@ -54,14 +145,13 @@ impl LineMachine for Check<'_> {
     }
 
     fn step(&mut self, head: &[u8], pending: &mut Pending) -> Option<usize> {
-        let line = self.scan.line(head);
-        self.push_line(&line, pending);
-        self.scan.pass(line);
+        let line = self.order.scan.line(head);
+        self.pass(line, pending);
         None
     }
 }
 
-/// Prints a report of each line of an input whose value is bad.
+/// Prints the reports of the lines of an input.
 ///
 /// Fails with `RunError::Read` if a read fails, with `RunError::Write` if a write or the flush does.
 pub fn print_reports<'a, R: Read, W: Write, O: Observer<Check<'a>>>(
@@ -73,7 +163,7 @@ pub fn print_reports<'a, R: Read, W: Write, O: Observer<Check<'a>>>(
     // If neither end had failed before, one has failed if and only if the answer says so.
     ensures failed { input.old.failed ≡ false → output.old.failed ≡ false →
         EndsBy result input.new.failed output.new.failed }
-    ensures ended { OnOk result (EndsWith check_machine (check_lines command.old.scan)
+    ensures ended { OnOk result (EndsWith check_machine (check_lines command.old)
         command.old command.new
         (R.remaining input.old.inner) (R.remaining input.new.inner)
         (W.contents output.old.inner) (W.contents output.new.inner)) }

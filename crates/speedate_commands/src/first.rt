@@ -90,7 +90,7 @@ impl First<'_> {
     /// Passes a line by what is read of it.
     fn pass(&mut self, reading: Reading, head: &[u8])
         requires within { IsReadWithin reading head.now }
-        ensures passed { self.new ≡ after_reading self.old reading }
+        ensures passed { self.new ≡ after_reading self.old head.now reading }
     {
         let line = self.scan.judged(reading, head);
         self.has_value |= is_dated(&reading);
@@ -177,8 +177,8 @@ impl FirstLines<'_> {
         }
     }
 
-    /// Adds the bytes from a place on, up to the end of their line, which is added too, and returns the place behind
-    /// it.
+    /// Adds the bytes from a place on, up to the end of their line, which is added too, and returns the
+    /// place after it.
     fn take_line(&mut self, bytes: &[u8], place: usize) -> usize
         requires within { place < length bytes.now }
         requires other { is_found self.old.first ≡ false }

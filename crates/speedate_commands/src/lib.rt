@@ -1,6 +1,7 @@
 //! What the commands of the program `speedate` print for the lines of their inputs: [`between`], [`check`],
-//! [`convert`], [`order`], [`sum`] and [`summary`]. [`in_order`] does what `between --in-order` does, and
-//! [`first`] looks for the first value of a file.
+//! [`convert`], [`sum`] and [`summary`]. [`order`] compares a value with the one before, [`in_order`] does what
+//! `between --in-order` does, [`first`] looks for the first value of
+//! a file, and [`status`] has the exit status.
 #![tactic(auto)]
 
 pub mod between;
@@ -10,5 +11,6 @@ pub mod first;
 pub mod in_order;
 pub mod order;
 pub mod search;
+pub mod status;
 pub mod sum;
 pub mod summary;

@@ -6,12 +6,12 @@ ghost use Rattle.speedate.specs.Ascii.{capital_d};
 ghost use Rattle.speedate.specs.Duration.{counted_text, duration_numbers, rest_text, start_text};
 ghost use Rattle.speedate.specs.Requirement.{result_map};
 ghost use Rattle.speedate_commands.specs.Runs.{EndsAdded};
-ghost use Rattle.speedate_commands.specs.Sum.{IsSumAfter, in_days, is_too_large};
+ghost use Rattle.speedate_commands.specs.Sum.{IsSumAfter, after_hours, in_days, in_hours, is_too_large};
 ghost use Rattle.speedate_commands.specs.Sum.{sum_after, sum_machine};
 ghost use Rattle.speedate_commands.specs.Sum.{total_after, total_answer, total_text, with_amount};
 ghost use Rattle.speedate_stream.specs.Run.{EndsBy, PrintsBeginning, PrintsProgress};
 
-use speedate::{Duration, ParseError};
+use speedate::{Duration, ParseError, Time};
 use speedate_scan::print::push_number;
 use speedate_scan::scan::{Line, Scan};
 use speedate_stream::run::{RunError, run};
@@ -31,6 +31,8 @@ pub struct Sum<'a> {
     pub scan: Scan<'a>,
     /// The total so far, in microseconds, unless it is too large.
     pub total: Option<i128>,
+    /// Whether the total is printed in hours.
+    pub has_hours: bool,
 }
 
 /// A total with one more duration.
@@ -101,6 +103,40 @@ fn push_in_days(duration: &Duration, pending: &mut Pending)
     push_clock(duration, pending);
 }
 
+/// Appends what follows the hours of a duration in hours: `:30:00`.
+fn push_after_hours(duration: &Duration, pending: &mut Pending)
+    requires room { array_vec_len pending.old + 31 ≤ PENDING_MAX }
+    ensures pushed { pending.new.items
+        ≡ pending.old.items ++ after_hours (duration_numbers duration.now) }
+    ensures length { array_vec_len pending.new ≤ array_vec_len pending.old + 31 }
+{
+    let clock = Time {
+        hour: 0,
+        minute: (duration.second / 60 % 60) as u8,
+        second: (duration.second % 60) as u8,
+        microsecond: duration.microsecond,
+        tz_offset: None,
+    };
+    push_bytes(&clock.to_text().as_str().as_bytes()[2..], pending);
+}
+
+/// Appends a duration in hours: `-75:30:00`.
+#[tactic(auto, unfolding(crate::specs::Sum::in_hours), using(std::proofs::Common::append_assoc))]
+fn push_in_hours(duration: &Duration, pending: &mut Pending)
+    requires room { array_vec_len pending.old + 54 ≤ PENDING_MAX }
+    ensures pushed { pending.new.items
+        ≡ pending.old.items ++ in_hours (duration_numbers duration.now) }
+    ensures length { array_vec_len pending.new ≤ array_vec_len pending.old + 54 }
+{
+    let minus: &[u8] = if duration.positive { b"" } else { b"-" };
+    push_bytes(minus, pending);
+    push_number(
+        24 * u64::from(duration.day) + u64::from(duration.second / 3600),
+        pending,
+    );
+    push_after_hours(duration, pending);
+}
+
 impl Sum<'_> {
     /// Adds the duration of a line, and counts the line.
     fn add(&mut self, amount: Result<Duration, Line>)
@@ -134,7 +170,7 @@ impl Sum<'_> {
         !self.scan.is_stopped() && self.total().is_err()
     }
 
-    /// Appends the total and a line feed: `P400DT1H30M`, without years, so that a sum takes it again. It
+    /// Appends the total and a line feed: `P400DT1H30M`, without years, so that a sum takes it again, or in hours. It
     /// appends nothing if the total has more than 999,999,999 days, or if the run ended at a bad value.
     #[tactic(auto, unfolding(crate::specs::Sum::total_text), using(std::proofs::Common::append_assoc))]
     pub fn push_onto(&self, pending: &mut Pending)
@@ -146,7 +182,11 @@ impl Sum<'_> {
             return;
         }
         if let Ok(total) = self.total() {
-            push_in_days(&total, pending);
+            if self.has_hours {
+                push_in_hours(&total, pending);
+            } else {
+                push_in_days(&total, pending);
+            }
             push_bytes(b"\n", pending);
         }
     }

@@ -15,7 +15,7 @@ ghost use Rattle.speedate_commands.specs.Order.{latest_of};
 ghost use Rattle.speedate_stream.specs.Run.{EndsBy, PrintsBeginning, PrintsProgress};
 
 use crate::convert::push_value;
-use crate::order::{Latest, Order, push_duration_text};
+use crate::order::{Latest, Order, distance, push_duration_text};
 use speedate::{DateTime, DateTimeConfig, ParseError, TimeConfig, TimestampUnit};
 use speedate_scan::form::Form;
 use speedate_scan::print::{push_line_place, push_number};
@@ -79,7 +79,7 @@ impl Gap<'_> {
     fn size(&self) -> i128
         ensures size { result ≡ gap_size self.now }
     {
-        i128::from(self.to.instant) - i128::from(self.from)
+        distance(self.from, self.to.instant)
     }
 }
 

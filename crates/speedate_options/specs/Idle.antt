@@ -4,6 +4,7 @@ use Rattle.speedate_scan.specs.declared.scan.BadLines.{BadLines}
 use Rattle.speedate_scan.specs.declared.scan.UndatedLines.{UndatedLines}
 pub use Rattle.speedate_options.specs.declared.idle.Kind.{Kind}
 pub use Rattle.speedate_options.specs.declared.idle.Asked.{Asked}
+pub use Rattle.speedate_options.specs.declared.idle.BoundsKind.{BoundsKind}
 pub use Rattle.speedate_options.specs.declared.idle.Idle.{Idle}
 
 -- an option about clocks and offsets, where values are dates
@@ -16,9 +17,57 @@ about_dates asked =
     else if asked.has_target then Some Idle.TargetOfDates
     else None
 
--- an offset for values that all have one
+-- values are compared only where that is asked for
+abbrev pub checks : Kind → Bool
+checks Kind.Prints = false
+checks Kind.Reports = false
+checks Kind.Checks = true
+
+-- at least one bound is a date or a date-time
+abbrev pub are_times : Option BoundsKind → Bool
+are_times None = false
+are_times (Some BoundsKind.Open) = false
+are_times (Some BoundsKind.Numbers) = false
+are_times (Some BoundsKind.Times) = true
+
+-- both bounds are open
+abbrev pub are_open : Option BoundsKind → Bool
+are_open None = false
+are_open (Some BoundsKind.Open) = true
+are_open (Some BoundsKind.Numbers) = false
+are_open (Some BoundsKind.Times) = false
+
+-- `--offset` is given for Unix timestamps, and no bound may need it
+abbrev pub is_offset_of_numbers : Asked → Bool
+is_offset_of_numbers asked =
+    asked.has_offset && (asked.is_timestamp && not (are_times asked.bounds))
+
+-- `--offset` where each value has an offset, no values are compared or all fit, and `--strict` for
+-- Unix timestamps
 abbrev pub about_offset : Asked → Option Idle
-about_offset asked = if asked.has_offset && asked.is_strict then Some Idle.OffsetOfStrict else None
+about_offset asked =
+    if asked.is_strict && asked.is_timestamp then Some Idle.StrictOfTimestamps
+    else if asked.has_offset && asked.is_strict then Some Idle.OffsetOfStrict
+    else if is_offset_of_numbers asked then Some Idle.OffsetOfTimestamps
+    else if asked.has_offset && (checks asked.kind && not asked.compares)
+    then Some Idle.OffsetOfCheck
+    else if asked.has_offset && are_open asked.bounds then Some Idle.OffsetOfOpen
+    else None
+
+-- the run is to end at a bad value
+abbrev pub ends_at_bad : Option BadLines → Bool
+ends_at_bad None = false
+ends_at_bad (Some BadLines.Keep) = false
+ends_at_bad (Some BadLines.Drop) = false
+ends_at_bad (Some BadLines.Stop) = true
+
+-- `--digits` for values without such digits, and `--in-order` where nothing is searched
+abbrev pub about_search : Asked → Option Idle
+about_search asked =
+    if asked.has_digits && asked.is_whole then Some Idle.DigitsOfWhole
+    else if asked.is_in_order && are_open asked.bounds then Some Idle.SearchOfOpen
+    else if asked.is_in_order && ends_at_bad asked.bad then Some Idle.SearchOfStop
+    else None
 
 -- lines with a bad value are to be printed, or not
 abbrev pub about_bad : Option BadLines → Option Idle
@@ -40,6 +89,7 @@ about_undated false (Some UndatedLines.Drop) bad = Some Idle.Undated
 abbrev pub about_lines_of : Kind → Asked → Option Idle
 about_lines_of Kind.Prints asked = None
 about_lines_of Kind.Reports asked = about_undated asked.has_field asked.undated asked.bad
+about_lines_of Kind.Checks asked = about_undated asked.has_field asked.undated asked.bad
 
 abbrev pub about_lines : Asked → Option Idle
 about_lines asked = about_lines_of asked.kind asked
@@ -52,4 +102,5 @@ first_of_two (Some found) other = Some found
 -- an option that can have no effect, if there is one
 abbrev pub idle : Asked → Option Idle
 idle asked =
-    first_of_two (about_dates asked) (first_of_two (about_offset asked) (about_lines asked))
+    first_of_two (about_dates asked) (first_of_two (about_offset asked)
+    (first_of_two (about_search asked) (about_lines asked)))

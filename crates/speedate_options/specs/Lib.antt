@@ -1,3 +1,4 @@
 pub mod Bound
+pub mod Field
 pub mod Idle
 pub mod Offset

@@ -18,7 +18,7 @@ use speedate_sort::sort::Keys;
 /// The command `between` before the first line.
 pub fn first_between<'a>(given: &ArgMatches<'a>) -> Result<Between<'a>, Refusal> {
     let options = options::common(given, Kind::Prints, Truncate)?;
-    let (bounds, offsets) = options::bounds(given, options.reader.offset)?;
+    let (bounds, offsets) = options::bounds(given, &options.reader)?;
     Ok(Between {
         scan: first_scan(&options, offsets),
         bounds,
@@ -32,9 +32,19 @@ pub fn first_between<'a>(given: &ArgMatches<'a>) -> Result<Between<'a>, Refusal>
 
 /// The command `check` before the first line.
 pub fn first_check<'a>(given: &ArgMatches<'a>) -> Result<Check<'a>, Refusal> {
-    let options = options::common(given, Kind::Reports, Error)?;
+    let options = options::common(given, Kind::Checks, Error)?;
+    let reports_late = given.get_flag("order");
+    let gap = options::gap(given)?;
+    let offsets = if reports_late || gap.is_some() {
+        Offsets::AsFirst
+    } else {
+        Offsets::Any
+    };
     Ok(Check {
-        scan: first_scan(&options, Offsets::Any),
+        order: first_order(first_scan(&options, offsets)),
+        reports_late,
+        gap,
+        gaps: 0,
     })
 }
 
@@ -70,14 +80,13 @@ pub fn first_merge<'a>(given: &ArgMatches<'a>) -> Result<Keys<'a>, Refusal> {
     first_keys(given)
 }
 
-/// The command `order` before the first line.
-pub fn first_order<'a>(given: &ArgMatches<'a>) -> Result<Order<'a>, Refusal> {
-    let options = options::common(given, Kind::Reports, Truncate)?;
-    Ok(Order {
-        scan: first_scan(&options, Offsets::AsFirst),
+/// What is known of the order of values before the first line.
+fn first_order(scan: Scan<'_>) -> Order<'_> {
+    Order {
+        scan,
         latest: None,
         late: 0,
-    })
+    }
 }
 
 /// The command `sum` before the first line.
@@ -86,6 +95,7 @@ pub fn first_sum<'a>(given: &ArgMatches<'a>) -> Result<Sum<'a>, Refusal> {
     Ok(Sum {
         scan: first_scan(&options, Offsets::Any),
         total: Some(0),
+        has_hours: options::has_hours(given)?,
     })
 }
 
@@ -103,8 +113,9 @@ pub fn first_keys<'a>(given: &ArgMatches<'a>) -> Result<Keys<'a>, Refusal> {
 
 /// The command `summary` before the first line.
 pub fn first_summary<'a>(given: &ArgMatches<'a>) -> Result<Summary<'a>, Refusal> {
+    let options = options::common(given, Kind::Reports, Truncate)?;
     Ok(Summary {
-        order: first_order(given)?,
+        order: first_order(first_scan(&options, Offsets::AsFirst)),
         lines: 0,
         values: 0,
         undated: 0,

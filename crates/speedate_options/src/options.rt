@@ -1,29 +1,31 @@
 //! What the options of a command line ask for.
 
-ghost use Rattle.std.specs.Prelude.{◌≡◌, ◌≤◌, ◌+◌, ◌++◌, length};
+ghost use Rattle.std.specs.Prelude.{◌≡◌};
 ghost use Rattle.speedate.specs.DateTime.{date_and_time};
 ghost use Rattle.speedate.specs.Requirement.{result_map};
-ghost use Rattle.speedate_options.specs.Bound.{bound_value};
-ghost use Rattle.speedate_options.specs.Offset.{begins_offset, is_of_hours, is_utc, midnight_offset};
-ghost use Rattle.speedate_options.specs.Offset.{midnight_text, offset_in, offset_of};
-ghost use Rattle.speedate.specs.Base.{Behavior};
-ghost use Rattle.speedate.specs.Time.{time_answer};
-ghost use Rattle.arrayvec.specs.ArrayVec.{array_vec_len};
+ghost use Rattle.speedate_options.specs.Bound.{bound_form, bound_value, bounds_kind_of, claims_number};
+ghost use Rattle.speedate_options.specs.Bound.{bounds_of, closed, is_open, is_time};
+ghost use Rattle.speedate_options.specs.Field.{separator_of};
+ghost use Rattle.speedate_options.specs.Offset.{is_utc, offset_of};
 
 use self::Refusal::Usage;
-use crate::idle::{Asked, Idle, Kind};
-use arrayvec::ArrayVec;
+use crate::idle::{Asked, BoundsKind, Idle, Kind};
 use clap::ArgMatches;
 use speedate::{
-    CallKind, DateTime, FractionDigits, MicrosecondsPrecisionOverflowBehavior, Refused, Time,
+    CallKind, DateTime, FractionDigits, MicrosecondsPrecisionOverflowBehavior, Refused,
+    TimestampUnit,
 };
+use speedate_base::numbers::byte_at;
 use speedate_commands::between::Bounds;
 use speedate_commands::convert::Target;
+use speedate_scan::amount::exact_between;
+use speedate_scan::claim::{claims_date, field_claims};
 use speedate_scan::field::{NthField, QUOTE};
 use speedate_scan::form::Form;
 use speedate_scan::print::Prefix;
-use speedate_scan::reading::{Place, Reader};
+use speedate_scan::reading::{Bad, Place, Reader, assume};
 use speedate_scan::scan::{BadLines, Offsets, UndatedLines};
+use speedate_scan::zone::zone_front;
 use std::fmt;
 
 /// What the command line asks for that every command has.
@@ -50,6 +52,8 @@ pub enum Refusal {
     Idle(Idle),
     /// A bound of this name is bad.
     Bound(&'static str, BadBound),
+    /// The duration of a gap is bad.
+    Gap(Bad),
 }
 
 /// What is bad about a bound.
@@ -70,6 +74,11 @@ impl fmt::Display for Refusal {
                 let column = bad.refused.place.saturating_add(1);
                 let expected = bad.refused.fault.expected(bad.kind);
                 write!(f, "{name}:{column}: expected {expected}")
+            }
+            Refusal::Gap(bad) => {
+                let column = bad.place.saturating_add(1);
+                let expected = bad.why.expected(CallKind::Duration);
+                write!(f, "--gap:{column}: expected {expected}")
             }
         }
     }
@@ -101,11 +110,17 @@ fn asked(matches: &ArgMatches<'_>, kind: Kind) -> Result<Asked, Refusal> {
     Ok(Asked {
         kind,
         has_field: matches.get_str("field").is_some(),
+        compares: matches.get_flag("order") || matches.get_str("gap").is_some(),
+        bounds: bounds_kind(matches)?,
+        is_in_order: matches.get_flag("in-order"),
         is_date: matches.get_str("kind") == Some("date"),
+        is_timestamp: timestamp_unit(matches.get_str("kind")).is_some(),
+        is_whole: matches!(matches.get_str("kind"), Some("date" | "microseconds")),
         is_strict: matches.get_flag("strict"),
         has_offset: matches.get_str("offset").is_some(),
         has_target: matches.get_str("to").is_some(),
         has_fraction: matches.get_str("fraction").is_some(),
+        has_digits: matches.get_str("digits").is_some(),
         undated: match matches.get_str("undated") {
             Some(_) => Some(undated_lines(matches)?),
             None => None,
@@ -115,6 +130,42 @@ fn asked(matches: &ArgMatches<'_>, kind: Kind) -> Result<Asked, Refusal> {
             None => None,
         },
     })
+}
+
+/// What the bounds are, if the command has bounds.
+fn bounds_kind(matches: &ArgMatches<'_>) -> Result<Option<BoundsKind>, Refusal> {
+    let (Some(from), Some(to)) = (matches.get_str("FROM"), matches.get_str("TO")) else {
+        return Ok(None);
+    };
+    let form = form(matches)?;
+    Ok(Some(bounds_kind_of(from.as_bytes(), to.as_bytes(), form)))
+}
+
+/// What two bounds are, by their texts.
+fn bounds_kind_of(from: &[u8], to: &[u8], form: Form) -> BoundsKind
+    ensures kind { result ≡ bounds_kind_of form from.now to.now }
+{
+    if is_open(from) && is_open(to) {
+        BoundsKind::Open
+    } else if is_time(from, form) || is_time(to, form) {
+        BoundsKind::Times
+    } else {
+        BoundsKind::Numbers
+    }
+}
+
+/// Whether a bound is open.
+fn is_open(text: &[u8]) -> bool
+    ensures open { result ≡ is_open text.now }
+{
+    text == b"..".as_slice()
+}
+
+/// Whether a bound is a date or a date-time.
+fn is_time(text: &[u8], form: Form) -> bool
+    ensures time { result ≡ is_time form text.now }
+{
+    !is_open(text) && !claims_number(text, form)
 }
 
 /// How values are read.
@@ -157,25 +208,52 @@ fn field_number(text: &str) -> Result<usize, Refusal> {
     }
 }
 
-/// The byte that stands between two fields.
+/// The byte between two fields.
 fn separator(matches: &ArgMatches<'_>) -> Result<u8, Refusal> {
-    match matches.get_str("separator").unwrap_or(",").as_bytes() {
-        b"\\t" => Ok(b'\t'),
-        [QUOTE | b'\n' | b'\r'] => Err(Usage(
-            "--separator is no quote, and no byte that ends lines",
+    match separator_of(matches.get_str("separator").unwrap_or(",").as_bytes()) {
+        Some(byte) => Ok(byte),
+        None => Err(Usage(
+            "--separator is one byte that is no quote and ends no line, or \\t for a tab",
         )),
-        [byte] => Ok(*byte),
-        _ => Err(Usage("--separator is one byte, or \\t for a tab")),
+    }
+}
+
+/// The byte between two fields, by its text: a tab is `\t` too.
+fn separator_of(text: &[u8]) -> Option<u8>
+    ensures separator { result ≡ separator_of text.now }
+{
+    if text == b"\\t".as_slice() {
+        return Some(b'\t');
+    }
+    let byte = byte_at(text, 0);
+    if text.len() == 1 && byte != QUOTE && byte != b'\n' && byte != b'\r' {
+        Some(byte)
+    } else {
+        None
     }
 }
 
 /// What a value is.
 fn form(matches: &ArgMatches<'_>) -> Result<Form, Refusal> {
-    match matches.get_str("kind") {
+    let kind = matches.get_str("kind");
+    if let Some(unit) = timestamp_unit(kind) {
+        return Ok(Form::Timestamp(unit));
+    }
+    match kind {
         None | Some("datetime") if matches.get_flag("strict") => Ok(Form::Strict),
         None | Some("datetime") => Ok(Form::DateTime),
         Some("date") => Ok(Form::Date),
-        _ => Err(Usage("--kind is datetime or date")),
+        _ => Err(Usage("--kind is datetime, date, seconds, milliseconds or microseconds")),
+    }
+}
+
+/// The unit of Unix timestamps, if values are of this kind.
+fn timestamp_unit(kind: Option<&str>) -> Option<TimestampUnit> {
+    match kind {
+        Some("seconds") => Some(TimestampUnit::Second),
+        Some("milliseconds") => Some(TimestampUnit::Millisecond),
+        Some("microseconds") => Some(TimestampUnit::Microsecond),
+        _ => None,
     }
 }
 
@@ -225,6 +303,33 @@ fn bad_lines(matches: &ArgMatches<'_>) -> Result<BadLines, Refusal> {
     }
 }
 
+/// Whether a total is printed in hours.
+pub fn has_hours(matches: &ArgMatches<'_>) -> Result<bool, Refusal> {
+    match matches.get_str("to") {
+        None | Some("text") => Ok(false),
+        Some("hours") => Ok(true),
+        _ => Err(Usage("--to is text or hours")),
+    }
+}
+
+/// The longest time between two values, in microseconds, if a value after a longer one is reported.
+pub fn gap(matches: &ArgMatches<'_>) -> Result<Option<i128>, Refusal> {
+    let Some(text) = matches.get_str("gap") else {
+        return Ok(None);
+    };
+    let text = text.as_bytes();
+    match exact_between(
+        text,
+        0,
+        text.len(),
+        MicrosecondsPrecisionOverflowBehavior::Error,
+    ) {
+        Ok(duration) if duration.positive => Ok(Some(duration.signed_total_microseconds())),
+        Ok(_) => Err(Usage("--gap is a duration without a minus")),
+        Err(bad) => Err(Refusal::Gap(bad)),
+    }
+}
+
 /// With how many digits of a second values are written, if not with all that are not 0.
 pub fn fraction_digits(matches: &ArgMatches<'_>) -> Result<Option<FractionDigits>, Refusal> {
     match matches.get_str("fraction") {
@@ -253,78 +358,22 @@ pub fn target(matches: &ArgMatches<'_>) -> Result<Target, Refusal> {
 fn is_utc(text: &[u8]) -> bool
     ensures utc { result ≡ is_utc text.now }
 {
-    matches!(text, [b'u', b't', b'c'] | [b'U', b'T', b'C'])
+    text == b"utc".as_slice() || text == b"UTC".as_slice()
 }
 
-/// Whether a text is a sign and two bytes.
-fn is_of_hours(text: &[u8]) -> bool
-    ensures hours { result ≡ is_of_hours text.now }
-{
-    matches!(text, [b'+' | b'-', _, _])
-}
-
-/// Whether a text begins as an offset of a value: with `Z`, a sign, or U+2212, which is a minus sign too.
-fn begins_offset(text: &[u8]) -> bool
-    ensures begins { result ≡ begins_offset text.now }
-{
-    matches!(text, [b'Z' | b'z' | b'+' | b'-' | 0xE2, ..])
-}
-
-/// The seconds of an offset as values may have it, of `+01`, or of `utc`: 3,600 of `+01:00`.
+/// The seconds of an offset as values may have it right after their clock, or of `utc`: 3,600 of `+01:00`.
 fn offset_of(text: &[u8]) -> Option<i32>
     ensures offset { result ≡ offset_of text.now }
 {
-    if text.len() > 8 {
-        None
-    } else if is_utc(text) {
-        Some(0)
-    } else if is_of_hours(text) {
-        midnight_offset(text, b":00")
-    } else if begins_offset(text) {
-        midnight_offset(text, b"")
-    } else {
-        None
+    if is_utc(text) {
+        return Some(0);
     }
-}
-
-/// The seconds of the offset of a midnight, by the text of the offset in two parts.
-fn midnight_offset(text: &[u8], rest: &[u8]) -> Option<i32>
-    requires short { length text.now ≤ 8 }
-    requires shorter { length rest.now ≤ 3 }
-    ensures offset { result ≡ midnight_offset text.now rest.now }
-{
-    time_offset(midnight_text(text, rest).as_slice())
-}
-
-/// The text of a midnight, by the text of its offset in two parts.
-fn midnight_text(text: &[u8], rest: &[u8]) -> ArrayVec<u8, 16>
-    requires short { length text.now ≤ 8 }
-    requires shorter { length rest.now ≤ 3 }
-    ensures text { result.items ≡ midnight_text text.now rest.now }
-{
-    let mut midnight = ArrayVec::new();
-    append(&mut midnight, b"00:00");
-    append(&mut midnight, text);
-    append(&mut midnight, rest);
-    midnight
-}
-
-/// Appends bytes to a text that has room for them.
-fn append(text: &mut ArrayVec<u8, 16>, bytes: &[u8])
-    requires room { array_vec_len text.old + length bytes.now ≤ 16 }
-    ensures items { text.new.items ≡ text.old.items ++ bytes.now }
-    ensures length { array_vec_len text.new ≡ array_vec_len text.old + length bytes.now }
-{
-    text.try_extend_from_slice(bytes).unwrap();
-}
-
-/// The seconds of the offset of a time, if the text is one and has one.
-fn time_offset(text: &[u8]) -> Option<i32>
-    ensures offset { result ≡ offset_in (time_answer Behavior.Error text.now) }
-{
-    match Time::parse_bytes(text) {
-        Ok(time) => time.tz_offset,
-        Err(_) => None,
+    if byte_at(text, 0) == b' ' {
+        return None;
+    }
+    match zone_front(text, 0) {
+        Ok((offset, size)) if size == text.len() => offset,
+        _ => None,
     }
 }
 
@@ -332,49 +381,71 @@ fn time_offset(text: &[u8]) -> Option<i32>
 type Bound = Option<(i64, bool)>;
 
 /// The bounds of `between`, and which values fit them.
-pub fn bounds(matches: &ArgMatches<'_>, offset: Option<i32>) -> Result<(Bounds, Offsets), Refusal> {
-    let from = bound_of("FROM", matches.get_str("FROM"), offset)?;
-    let to = bound_of("TO", matches.get_str("TO"), offset)?;
-    let offsets = match (from, to) {
-        (Some((_, first)), Some((_, second))) if first != second => {
-            return Err(Usage(
-                "FROM and TO both have an offset or neither; --offset gives them one",
-            ));
-        }
-        (Some((first, _)), Some((second, _))) if first > second => {
-            return Err(Usage("FROM is after TO"));
-        }
-        (Some((_, has_offset)), _) | (None, Some((_, has_offset))) => {
-            Offsets::AsBounds(has_offset)
-        }
-        (None, None) => Offsets::Any,
-    };
-    let bounds = Bounds {
-        from: instant_of(from),
-        to: instant_of(to),
-    };
-    Ok((bounds, offsets))
+pub fn bounds(matches: &ArgMatches<'_>, reader: &Reader<'_>) -> Result<(Bounds, Offsets), Refusal> {
+    let from = bound_of("FROM", matches.get_str("FROM"), reader)?;
+    let to = bound_of("TO", matches.get_str("TO"), reader)?;
+    match bounds_of(from, to) {
+        Ok(bounds) => Ok(bounds),
+        Err(Unordered::Mixed) => Err(Usage(
+            "FROM and TO both have an offset or neither; --offset gives them one",
+        )),
+        Err(Unordered::Reversed) => Err(Usage("FROM is after TO")),
+    }
 }
 
-/// The microsecond of a bound, unless it is open.
-fn instant_of(bound: Bound) -> Option<i64> {
-    match bound {
-        Some((instant, _)) => Some(instant),
-        None => None,
+/// Why two bounds are refused together.
+#[derive(Clone, Copy, Debug, PartialEq, Eq)]
+pub enum Unordered {
+    /// Only one of them has an offset.
+    Mixed,
+    /// The first is after the second.
+    Reversed,
+}
+
+/// Two bounds that were read, and which values fit them.
+fn bounds_of(from: Bound, to: Bound) -> Result<(Bounds, Offsets), Unordered>
+    ensures bounds { result ≡ bounds_of from to }
+{
+    match (from, to) {
+        (Some((first, has_offset)), Some((second, second_has_offset))) => {
+            if has_offset != second_has_offset {
+                return Err(Unordered::Mixed);
+            }
+            if first > second {
+                return Err(Unordered::Reversed);
+            }
+            Ok(closed(Some(first), Some(second), has_offset))
+        }
+        (Some((first, has_offset)), None) => Ok(closed(Some(first), None, has_offset)),
+        (None, Some((second, has_offset))) => Ok(closed(None, Some(second), has_offset)),
+        (None, None) => {
+            let bounds = Bounds {
+                from: None,
+                to: None,
+            };
+            Ok((bounds, Offsets::Any))
+        }
     }
+}
+
+/// Bounds of which at least one is not open, and which values fit them.
+fn closed(from: Option<i64>, to: Option<i64>, has_offset: bool) -> (Bounds, Offsets)
+    ensures bounds { result ≡ closed from to has_offset }
+{
+    (Bounds { from, to }, Offsets::AsBounds(has_offset))
 }
 
 /// A bound by its name and its text.
-fn bound_of(name: &'static str, text: Option<&str>, offset: Option<i32>) -> Result<Bound, Refusal> {
+fn bound_of(name: &'static str, text: Option<&str>, reader: &Reader<'_>) -> Result<Bound, Refusal> {
     let Some(text) = text else {
         return Ok(None);
     };
-    if text == ".." {
+    if is_open(text.as_bytes()) {
         return Ok(None);
     }
-    match bound_value(text.as_bytes()) {
+    match bound_value(text.as_bytes(), reader.form) {
         Ok(value) => {
-            let value = speedate_scan::reading::assume(offset, value);
+            let value = assume(reader.offset, value);
             let has_offset = value.time.tz_offset.is_some();
             Ok(Some((value.timestamp_tz_us(), has_offset)))
         }
@@ -382,17 +453,36 @@ fn bound_of(name: &'static str, text: Option<&str>, offset: Option<i32>) -> Resu
     }
 }
 
-/// The date-time of a bound, or the midnight of its date.
-fn bound_value(text: &[u8]) -> Result<DateTime, BadBound>
-    ensures value { result_map date_and_time result ≡ bound_value text.now }
+/// The date-time of a bound, or the midnight of its date. Where values are Unix timestamps, a number is one too.
+fn bound_value(text: &[u8], form: Form) -> Result<DateTime, BadBound>
+    ensures value { result_map date_and_time result ≡ bound_value form text.now }
 {
-    let (form, kind) = if text.len() > 10 {
-        (Form::DateTime, CallKind::DateTime)
-    } else {
-        (Form::Date, CallKind::Date)
-    };
+    let form = bound_form(text, form);
     match form.whole(text, MicrosecondsPrecisionOverflowBehavior::Error) {
         Ok(value) => Ok(value),
-        Err(refused) => Err(BadBound { kind, refused }),
+        Err(refused) => Err(BadBound {
+            kind: form.call_kind(),
+            refused,
+        }),
     }
+}
+
+/// What a bound is, by what values are: a number is as they are, and a text of at most ten bytes is a date.
+fn bound_form(text: &[u8], form: Form) -> Form
+    ensures form { result ≡ bound_form form text.now }
+{
+    if claims_number(text, form) {
+        form
+    } else if text.len() > 10 {
+        Form::DateTime
+    } else {
+        Form::Date
+    }
+}
+
+/// Whether values are numbers, and a text begins with one and not with a date.
+fn claims_number(text: &[u8], form: Form) -> bool
+    ensures number { result ≡ claims_number form text.now }
+{
+    field_claims(form, text) && !claims_date(text)
 }

@@ -20,7 +20,7 @@ pub fn program<'a>(alloc: Global) -> Result<Command<'a>, AllocError> {
         .version("1.0.0")
         .bin_name("speedate")?
         .about(
-            "Selects, orders, converts, checks and sums up lines by their date-times, and adds up durations",
+            "Selects, sorts, merges, converts, checks and sums up lines by their date-times, and adds up durations",
         )
         .subcommand_required(true)
         .arg_required_else_help(true)
@@ -28,7 +28,6 @@ pub fn program<'a>(alloc: Global) -> Result<Command<'a>, AllocError> {
         .subcommand(check(alloc)?)?
         .subcommand(convert(alloc)?)?
         .subcommand(merge(alloc)?)?
-        .subcommand(order(alloc)?)?
         .subcommand(sort(alloc)?)?
         .subcommand(sum(alloc)?)?
         .subcommand(summary(alloc)?)
@@ -50,10 +49,17 @@ fn between<'a>(alloc: Global) -> Result<Command<'a>, AllocError> {
 /// The command `check`.
 fn check<'a>(alloc: Global) -> Result<Command<'a>, AllocError> {
     let command = Command::new(alloc, "check")
-        .about("Report values that are not valid")
-        .after_help("Prints FILE:LINE:COLUMN: expected .. for each bad value");
-    let command = with_values(alloc, command)?;
-    with_lines_and_files(alloc, command, Prints::Nothing)
+        .about("Report bad values, and late ones and gaps")
+        .after_help("Prints FILE:LINE:COLUMN: expected .. for each bad value")
+        .arg(flag(alloc, "order").help(
+            "Also report each value that is earlier than the one before",
+        ))?
+        .arg(
+            valued(alloc, "gap", "DURATION")
+                .allow_hyphen_values(true)
+                .help("Also report each value that comes more than this after the one before"),
+        )?;
+    with_common(alloc, command, Prints::Nothing)
 }
 
 /// The command `convert`.
@@ -82,14 +88,6 @@ fn merge<'a>(alloc: Global) -> Result<Command<'a>, AllocError> {
     with_common(alloc, command, Prints::Lines)
 }
 
-/// The command `order`.
-fn order<'a>(alloc: Global) -> Result<Command<'a>, AllocError> {
-    let command = Command::new(alloc, "order")
-        .about("Report values that go back in time")
-        .after_help("Prints each value that is earlier than the one before, and by how much");
-    with_common(alloc, command, Prints::Nothing)
-}
-
 /// The command `sum`.
 fn sum<'a>(alloc: Global) -> Result<Command<'a>, AllocError> {
     let command = Command::new(alloc, "sum")
@@ -97,7 +95,9 @@ fn sum<'a>(alloc: Global) -> Result<Command<'a>, AllocError> {
         .after_help(
             "Prints the exact total of durations, one in each line; years and months are bad",
         );
-    let command = with_digits(alloc, with_field(alloc, command)?)?;
+    let command = with_digits(alloc, with_place(alloc, command)?)?.arg(valued(
+        alloc, "to", "WHAT",
+    ).help("How the total is written: text, or hours [default: text]"))?;
     with_lines_and_files(alloc, command, Prints::Nothing)
 }
 
@@ -121,7 +121,7 @@ fn summary<'a>(alloc: Global) -> Result<Command<'a>, AllocError> {
     with_common(alloc, command, Prints::Nothing)
 }
 
-/// A command with what every command about date-times has, but for `check`.
+/// A command with what every command about date-times has.
 fn with_common<'a>(
     alloc: Global,
     command: Command<'a>,
@@ -138,7 +138,9 @@ fn with_common<'a>(
 /// A command with how its date-times are read.
 fn with_values<'a>(alloc: Global, command: Command<'a>) -> Result<Command<'a>, AllocError> {
     let command = with_place(alloc, command)?
-        .arg(valued(alloc, "kind", "KIND").help("datetime or date [default: datetime]"))?
+        .arg(valued(alloc, "kind", "KIND").help(
+            "datetime, date, seconds, milliseconds or microseconds [default: datetime]",
+        ))?
         .arg(flag(alloc, "strict").help("Accept only RFC 3339"))?;
     with_digits(alloc, command)
 }
@@ -199,7 +201,7 @@ fn with_place<'a>(alloc: Global, command: Command<'a>) -> Result<Command<'a>, Al
     let command = command.arg(
         valued(alloc, "after", "TEXT")
             .allow_hyphen_values(true)
-            .help("The value comes after the first TEXT of a line [default: at its front]"),
+            .help("The value comes after the first TEXT of a line that a value follows"),
     )?;
     with_field(alloc, command)
 }
@@ -250,5 +252,6 @@ fn bound<'a>(alloc: Global, name: &'a str) -> Arg<'a> {
     Arg::new(alloc, name)
         .required(true)
         .action(ArgAction::Set)
-        .help("A date-time, a date, which is its midnight, or ..")
+        .allow_negative_numbers(true)
+        .help("A date-time, a date, which is its midnight, a number if values are, or ..")
 }

@@ -3,3 +3,5 @@ mod WordLemmas
 mod ZoneLemmas
 mod FieldLemmas
 pub mod SeenLemmas
+mod ScanLemmas
+mod RunLemmas

@@ -1,12 +1,12 @@
 -- A parser's answer with the place of its error, and texts that claim to be dates.
-use Rattle.std.proofs.Common.{◌≡◌, ℕ, ◌+◌, Bool, true, false, ◌&&◌, nat_le, List, codes, Option, Result, Ok, Err, refl, arith, if◌then◌else◌}
+use Rattle.std.proofs.Common.{◌≡◌, ◌≢◌, ℕ, ◌+◌, ◌==◌, Bool, true, false, ◌&&◌, nat_le, List, [], ◌∷◌, codes, slice_index, Option, Result, Ok, Err, refl, arith, if◌then◌else◌}
 use Rattle.std.proofs.lemmas.Bool.Decides.{nat_tests}
 use Rattle.speedate.specs.Base.{ParseError}
 use Rattle.speedate.specs.Requirement.{result_map}
 use Rattle.speedate.specs.Refused.{refused_place, without_place}
 use Rattle.speedate_base.specs.declared.refusal.Refused.{Refused}
 use Rattle.speedate_base.specs.Digits.{eight_at, fit_length}
-use Rattle.speedate_scan.specs.Reading.{claims, with_place}
+use Rattle.speedate_scan.specs.Reading.{claims_date, left_bracket, length_before_value, with_place}
 
 -- what a parser says of its answer and of its error's place is its answer with that place
 pub placed_answer : {A B : Type 0} (view : A → B) (result : Result A Refused)
@@ -30,6 +30,15 @@ five_of true true true true true n = grind (arith, nat_tests)
 
 -- a text claims to be a date if five or more of its first bytes fit the pattern of one
 pub claims_by_length : (text : List ℕ)
-    → nat_le 5 (fit_length (codes "0000-00-") (eight_at text 0)) ≡ claims text
-unfolding claims
+    → nat_le 5 (fit_length (codes "0000-00-") (eight_at text 0)) ≡ claims_date text
+unfolding claims_date
 claims_by_length text = five_of _ _ _ _ _ _
+
+-- no byte order mark and no bracket begins a text whose first byte is another
+pub no_mark_begins : (text : List ℕ) → slice_index text 0 ≢ left_bracket
+    → slice_index text 0 ≢ 239 → length_before_value text ≡ 0
+no_mark_begins [] bracket mark = refl
+no_mark_begins (byte ∷ bytes) bracket mark =
+    let no_mark : (239 == byte) ≡ false = grind (arith, nat_tests) in
+    let no_bracket : (byte == left_bracket) ≡ false = grind (arith, nat_tests) in
+    rw (no_mark, no_bracket) refl

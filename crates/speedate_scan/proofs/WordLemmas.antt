@@ -1,12 +1,13 @@
 -- The first place at which a word stands in a text.
 use Rattle.std.proofs.Common.{◌≡◌, ◌∙◌, ℕ, ◌+◌, ◌-◌, ◌<◌, ◌≤◌, List, [], ◌∷◌, length, take, drop, true, false, Option, Some, None, refl, ap, sym, add-one, arith, get_or, drop-cons}
 use Rattle.std.proofs.lemmas.List.{drop_all, take_rest}
-use Rattle.speedate_scan.specs.Reading.{begins_claim, claim_after, moved_place}
+use Rattle.speedate_scan.specs.Reading.{Wanted, begins_claim, claim_after, moved_place}
 
 -- no place before a byte of a text is the word's, so that what is found is found from there on
-pub record IsSearchedUpTo (word text : List ℕ) (place : ℕ) : Type 0 where
+pub record IsSearchedUpTo (wanted : Wanted) (word text : List ℕ) (place : ℕ) : Type 0 where
   pub within : place ≤ length text
-  pub found : claim_after word text ≡ moved_place place (claim_after word (drop place text))
+  pub found : claim_after wanted word text
+      ≡ moved_place place (claim_after wanted word (drop place text))
 
 -- at the front of a text nothing was passed
 pub nothing_passed : (found : Option ℕ) → found ≡ moved_place 0 found
@@ -14,9 +15,9 @@ nothing_passed None = refl
 nothing_passed (Some p) = ap Some (omega arith)
 
 -- a search begins at the front
-pub search_begins : (word text : List ℕ) → IsSearchedUpTo word text 0
-search_begins word text =
-    record { within = omega arith; found = nothing_passed (claim_after word text) }
+pub search_begins : (wanted : Wanted) (word text : List ℕ) → IsSearchedUpTo wanted word text 0
+search_begins wanted word text =
+    record { within = omega arith; found = nothing_passed (claim_after wanted word text) }
 
 one_further : (place : ℕ) (found : Option ℕ)
     → moved_place place (moved_place 1 found) ≡ moved_place (place + 1) found
@@ -24,21 +25,21 @@ one_further place None = refl
 one_further place (Some p) = ap Some (omega arith)
 
 -- a word that begins a text ends after itself
-word_here : (word text bytes : List ℕ) (byte : ℕ) → text ≡ (byte ∷ bytes)
-    → begins_claim word text ≡ true → claim_after word text ≡ Some (length word)
+word_here : (wanted : Wanted) (word text bytes : List ℕ) (byte : ℕ) → text ≡ (byte ∷ bytes)
+    → begins_claim wanted word text ≡ true → claim_after wanted word text ≡ Some (length word)
 unfolding claim_after
-word_here word [] bytes byte parts here = cc
-word_here word (first ∷ rest) bytes byte parts here = rw here refl
+word_here wanted word [] bytes byte parts here = cc
+word_here wanted word (first ∷ rest) bytes byte parts here = rw here refl
 
 -- a word that does not begin a text is looked for from its next byte on
-word_later : (word text bytes : List ℕ) (byte : ℕ) → text ≡ (byte ∷ bytes)
-    → begins_claim word text ≡ false
-    → claim_after word text ≡ moved_place 1 (claim_after word bytes)
+word_later : (wanted : Wanted) (word text bytes : List ℕ) (byte : ℕ) → text ≡ (byte ∷ bytes)
+    → begins_claim wanted word text ≡ false
+    → claim_after wanted word text ≡ moved_place 1 (claim_after wanted word bytes)
 unfolding claim_after
-word_later word [] bytes byte parts later = cc
-word_later word (first ∷ rest) bytes byte parts later =
+word_later wanted word [] bytes byte parts later = cc
+word_later wanted word (first ∷ rest) bytes byte parts later =
     let same : rest ≡ bytes = cc in
-    rw later (ap (λ (l : List ℕ). moved_place 1 (claim_after word l)) same)
+    rw later (ap (λ (l : List ℕ). moved_place 1 (claim_after wanted word l)) same)
 
 -- the bytes of a text from a byte on
 pub parts_at : (text : List ℕ) (place : ℕ) → place < length text
@@ -46,36 +47,39 @@ pub parts_at : (text : List ℕ) (place : ℕ) → place < length text
 parts_at text place within = drop-cons text place 0 within ∙ rw add-one refl
 
 -- a search ends where the word begins
-pub search_ends : (word text : List ℕ) (place : ℕ) → IsSearchedUpTo word text place
+pub search_ends : (wanted : Wanted) (word text : List ℕ) (place : ℕ)
+    → IsSearchedUpTo wanted word text place
     → place < length text
-    → begins_claim word (take (length text - place) (drop place text)) ≡ true
-    → Some (place + length word) ≡ claim_after word text
-search_ends word text place searched within front_is =
-    let here : begins_claim word (drop place text) ≡ true = rw take_rest at front_is in
+    → begins_claim wanted word (take (length text - place) (drop place text)) ≡ true
+    → Some (place + length word) ≡ claim_after wanted word text
+search_ends wanted word text place searched within front_is =
+    let here : begins_claim wanted word (drop place text) ≡ true = rw take_rest at front_is in
     sym (searched.found ∙ ap (moved_place place)
-    (word_here word (drop place text) _ _ (parts_at text place within) here))
+    (word_here wanted word (drop place text) _ _ (parts_at text place within) here))
 
 -- a search goes on where the word does not begin
-pub search_goes_on : (word text : List ℕ) (place : ℕ) → IsSearchedUpTo word text place
+pub search_goes_on : (wanted : Wanted) (word text : List ℕ) (place : ℕ)
+    → IsSearchedUpTo wanted word text place
     → place < length text
-    → begins_claim word (take (length text - place) (drop place text)) ≡ false
-    → IsSearchedUpTo word text (place + 1)
-search_goes_on word text place searched within front_is_not =
-    let later : begins_claim word (drop place text) ≡ false = rw take_rest at front_is_not in
-    let next = word_later word (drop place text) _ _ (parts_at text place within) later in
+    → begins_claim wanted word (take (length text - place) (drop place text)) ≡ false
+    → IsSearchedUpTo wanted word text (place + 1)
+search_goes_on wanted word text place searched within front_is_not =
+    let later : begins_claim wanted word (drop place text) ≡ false = rw take_rest at front_is_not in
+    let next = word_later wanted word (drop place text) _ _ (parts_at text place within) later in
     record {
       within = omega arith;
       found = searched.found ∙ ap (moved_place place) next
-          ∙ one_further place (claim_after word (drop (place + 1) text));
+          ∙ one_further place (claim_after wanted word (drop (place + 1) text));
     }
 
-nothing_at_end : (word : List ℕ) → claim_after word [] ≡ None
+nothing_at_end : (wanted : Wanted) (word : List ℕ) → claim_after wanted word [] ≡ None
 unfolding claim_after
-nothing_at_end word = refl
+nothing_at_end wanted word = refl
 
 -- a search that comes to the end finds nothing
-pub search_fails : (word text : List ℕ) (place : ℕ) → IsSearchedUpTo word text place
-    → length text ≤ place → None ≡ claim_after word text
-search_fails word text place searched ended =
-    sym (searched.found ∙ ap (λ (l : List ℕ). moved_place place (claim_after word l))
-    (drop_all place text ended) ∙ ap (moved_place place) (nothing_at_end word))
+pub search_fails : (wanted : Wanted) (word text : List ℕ) (place : ℕ)
+    → IsSearchedUpTo wanted word text place
+    → length text ≤ place → None ≡ claim_after wanted word text
+search_fails wanted word text place searched ended =
+    sym (searched.found ∙ ap (λ (l : List ℕ). moved_place place (claim_after wanted word l))
+    (drop_all place text ended) ∙ ap (moved_place place) (nothing_at_end wanted word))

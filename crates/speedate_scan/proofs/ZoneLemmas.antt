@@ -1,11 +1,12 @@
 -- A date-time that the library reads, as the one of a line: its zone may come after a blank.
-use Rattle.std.proofs.Common.{◌≡◌, ◌∙◌, ap, sym, refl, rules, arith, ℕ, ℤ, pos, ◌+◌, ◌==◌, ◌||◌, Bool, true, false, List, drop, slice_index, Option, Some, None, is_some, Result, Ok, Err, if◌then◌else◌}
+use Rattle.std.proofs.Common.{◌≡◌, ◌∙◌, ap, sym, refl, rules, arith, codes, ℕ, ℤ, pos, ◌+◌, ◌==◌, ◌||◌, Bool, true, false, List, [], ◌∷◌, drop, slice_index, Option, Some, None, is_some, Result, Ok, Err, if◌then◌else◌}
 use Rattle.speedate.specs.Base.{Behavior, ParseError}
 use Rattle.speedate.specs.Calendar.{Ymd}
 use Rattle.speedate.specs.Date.{date_front}
 use Rattle.speedate.specs.DateTime.{DateAndTime, date_time_front, date_time_front_or, is_separator}
 use Rattle.speedate.specs.Refused.{placed, refused_place}
 use Rattle.std.proofs.lemmas.Bool.{or_parts}
+use Rattle.std.proofs.lemmas.Bool.Decides.{nat_tests}
 use Rattle.std.proofs.lemmas.List.{drop-drop}
 use Rattle.speedate.specs.Requirement.{result_and_then}
 use Rattle.speedate.specs.Time.{Clock, TimeOfDay, clock_front, clock_with_offset}
@@ -14,7 +15,9 @@ use Rattle.speedate.specs.Time.{offset_front, signed_front}
 use Rattle.speedate.specs.Ascii.{capital_z, hyphen}
 use Rattle.speedate_base.specs.declared.refusal.Refused.{Refused}
 use Rattle.speedate_scan.specs.Reading.{relaxed_front, with_late_zone, with_place, zoned}
-use Rattle.speedate_scan.specs.Zone.{late_zone, may_begin_zone, no_zone, signed_zone, utc_zone}
+use Rattle.speedate_scan.specs.Zone.{begins_with, capital_g, capital_u, late_zone, may_begin_zone}
+use Rattle.speedate_scan.specs.Zone.{no_zone}
+use Rattle.speedate_scan.specs.Zone.{signed_zone, utc_zone}
 use Rattle.speedate_scan.specs.Zone.{zone_after_blank}
 use Rattle.speedate_scan.specs.Zone.{zone_front}
 
@@ -191,14 +194,24 @@ library_is_zoned behavior text front read =
     chained text (refused_place (date_time_front_or placed behavior text)) (date_front text)
     (is_separator (slice_index text 10)) (clock_front behavior (drop 11 text)) front read
 
+-- no text begins with a word whose first byte is another
+other_word : (byte first : ℕ) (bytes word : List ℕ) → (byte == first) ≡ false
+    → begins_with (first ∷ word) (byte ∷ bytes) ≡ false
+other_word byte first bytes word other =
+    let turned : (first == byte) ≡ false = grind (arith, nat_tests) in
+    rw turned refl
+
 -- no zone comes after a blank if its first byte does not
 pub no_zone_begins : (text : List ℕ) → may_begin_zone (slice_index text 0) ≡ false
     → zone_after_blank text ≡ no_zone
 unfolding zone_after_blank
-no_zone_begins text other =
-    let byte = slice_index text 0 in
+no_zone_begins [] other = refl
+no_zone_begins (byte ∷ bytes) other =
     let signs = is_plus_or_minus byte in
-    let with_z = or_parts (signs || (byte == 71) || (byte == 85)) (byte == capital_z) other in
-    let with_u = or_parts (signs || (byte == 71)) (byte == 85) with_z.0 in
-    let with_g = or_parts signs (byte == 71) with_u.0 in
-    rw (with_u.1, with_g.1, with_z.1, with_g.0) refl
+    let with_z = or_parts (signs || (byte == capital_g) || (byte == capital_u)) (byte == capital_z)
+    other in
+    let with_u = or_parts (signs || (byte == capital_g)) (byte == capital_u) with_z.0 in
+    let with_g = or_parts signs (byte == capital_g) with_u.0 in
+    let utc = other_word byte capital_u bytes (drop 1 (codes "UTC")) with_u.1 in
+    let gmt = other_word byte capital_g bytes (drop 1 (codes "GMT")) with_g.1 in
+    rw (utc, gmt, with_z.1, with_g.0) refl

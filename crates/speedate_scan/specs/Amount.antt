@@ -1,8 +1,8 @@
 -- What duration a line has.
-use Rattle.std.specs.Prelude.{ℕ, ◌+◌, ◌==◌, ◌&&◌, ◌||◌, not, Bool, List, length, take, slice_index, ◌-◌, Option, Some, None, is_none, option_map, Result, Ok, Err, if◌then◌else◌}
+use Rattle.std.specs.Prelude.{ℕ, ◌+◌, ◌==◌, ◌&&◌, ◌||◌, not, Bool, List, [], ◌∷◌, length, take, drop, slice_index, ◌-◌, Option, Some, None, is_none, option_map, Result, Ok, Err, if◌then◌else◌}
 use Rattle.std.specs.List.{position}
 use Rattle.std.specs.Char.{is_ascii_digit}
-use Rattle.speedate.specs.Ascii.{capital_m, capital_p, capital_t, capital_y, colon}
+use Rattle.speedate.specs.Ascii.{capital_m, capital_p, capital_t, capital_y, colon, comma}
 use Rattle.speedate.specs.Config.{refuses_digits}
 use Rattle.speedate_base.specs.Digits.{is_decimal_mark}
 use Rattle.speedate.specs.Base.{Behavior, IsoOrder}
@@ -11,10 +11,12 @@ use Rattle.speedate.specs.DurationNumbers.{DurationNumbers}
 use Rattle.speedate.specs.Refused.{placed, refused_place}
 use Rattle.speedate_base.specs.Numbers.{has_minus, sign_size}
 use Rattle.speedate_base.specs.declared.refusal.Refused.{Refused}
-use Rattle.speedate_scan.specs.Field.{Field, nth_field}
-use Rattle.speedate_scan.specs.Reading.{Bad, Place, Reader, Reading, Why, alone, fields_of, is_cut}
-use Rattle.speedate_scan.specs.Reading.{not_within, part, undated_field, with_place, without_field}
+use Rattle.speedate_scan.specs.Field.{Field, mark_length, nth_field}
+use Rattle.speedate_scan.specs.Reading.{Bad, Place, Reader, Reading, Wanted, Why, alone}
+use Rattle.speedate_scan.specs.Reading.{claim_after, fields_of, is_cut, not_within, part}
+use Rattle.speedate_scan.specs.Reading.{undated_field, with_place, without_field}
 use Rattle.speedate_scan.specs.Scan.{Line, Scan, is_stopped, judged}
+use Rattle.speedate_scan.specs.Zone.{is_boundary}
 
 -- Years and months, whose lengths differ.
 
@@ -123,16 +125,40 @@ duration_in behavior head (Some field) =
     if is_cut head field.end then Err (not_within field.from)
     else field_duration behavior head field
 
--- all of a line, as a field
+-- all of a line but a byte order mark, as a field
 abbrev pub whole_line : List ℕ → Field
 whole_line head =
-    record { from = 0; to = length (fields_of head); end = length (fields_of head) }
+    let text = fields_of head in
+    record { from = mark_length text; to = length text; end = length text }
 
--- where the text of a duration is: it is a field, or else the whole line
+-- a duration after a word can end before these bytes: a comma before a digit may begin a fraction
+abbrev pub ends_duration : List ℕ → Bool
+ends_duration rest =
+    is_boundary rest && not ((slice_index rest 0 == comma) && is_ascii_digit (slice_index rest 1))
+
+-- how many bytes of a text a duration at its front may have: it can end before the byte after them
+unfoldable pub length_to_end : List ℕ → ℕ
+length_to_end [] = 0
+length_to_end (byte ∷ bytes) =
+    if ends_duration (byte ∷ bytes) then 0 else 1 + length_to_end bytes
+
+-- the bytes of a text from one on up to where a duration can end after its sign, as a field
+abbrev pub run_from : List ℕ → ℕ → Field
+run_from text from =
+    let start = from + sign_size (drop from text) in
+    let to = start + length_to_end (drop start text) in
+    record { from = from; to = to; end = to }
+
+-- the duration after a word of a text, as a field, if one is claimed after it
+abbrev pub run_after : List ℕ → List ℕ → Option Field
+run_after word text = option_map (run_from text) (claim_after Wanted.Duration word text)
+
+-- where the text of a duration is: a field, what comes after a word up to where a value can end, or
+-- the whole line
 abbrev pub duration_place : Place → List ℕ → Option Field
-duration_place (Place.Field which) head = nth_field which (fields_of head)
 duration_place Place.Front head = Some (whole_line head)
-duration_place (Place.After word) head = Some (whole_line head)
+duration_place (Place.Field which) head = nth_field which (fields_of head)
+duration_place (Place.After word) head = run_after word.now (fields_of head)
 
 -- the duration of a line, or what is read of a line that has none
 unfoldable pub read_duration : Reader → List ℕ → Result DurationNumbers Reading
@@ -140,13 +166,14 @@ read_duration reader head =
     duration_in reader.behavior head (duration_place reader.place head)
 
 -- a duration that was read, or what the line is instead
-abbrev pub judged_amount : Scan → Result DurationNumbers Reading → Result DurationNumbers Line
-judged_amount scan (Ok numbers) = Ok numbers
-judged_amount scan (Err reading) = Err (judged scan reading)
+abbrev pub judged_amount : Scan → List ℕ → Result DurationNumbers Reading
+    → Result DurationNumbers Line
+judged_amount scan head (Ok numbers) = Ok numbers
+judged_amount scan head (Err reading) = Err (judged scan head reading)
 
 -- the duration of a line, or what a line is that has none, by its head
 unfoldable pub amount_of : Scan → List ℕ → Result DurationNumbers Line
 amount_of scan head =
     if is_stopped scan.stop then Err Line.Late
     else if scan.has_header && (scan.number == 0) then Err Line.Header
-    else judged_amount scan (read_duration scan.reader head)
+    else judged_amount scan head (read_duration scan.reader head)

@@ -1,6 +1,6 @@
 -- Where the fields of a line are.
-use Rattle.std.specs.Prelude.{ℕ, ◌+◌, ◌-◌, ◌≤◌, ◌==◌, zero, suc, Bool, List, [], ◌∷◌, length, drop, slice_index, nat_lt, Option, Some, None, if◌then◌else◌}
-use Rattle.std.specs.List.{position_or_len}
+use Rattle.std.specs.Prelude.{ℕ, ◌+◌, ◌-◌, ◌≤◌, ◌==◌, zero, suc, Bool, List, [], ◌∷◌, length, drop, slice_index, nat_eq, nat_lt, Option, Some, None, if◌then◌else◌}
+use Rattle.std.specs.List.{position_or_len, starts_with}
 pub use Rattle.speedate_scan.specs.declared.field.NthField.{NthField}
 pub use Rattle.speedate_scan.specs.declared.field.Field.{Field}
 
@@ -45,9 +45,17 @@ field_after separator text start (suc others) =
     let end = (field_at separator text start).end in
     if nat_lt end (length text) then field_after separator text (end + 1) others else None
 
+-- the bytes of U+FEFF, a byte order mark
+abbrev pub byte_order_mark : List ℕ
+byte_order_mark = 239 ∷ 187 ∷ 191 ∷ []
+
+-- how many bytes of a text its byte order mark takes, which belongs to no value
+abbrev pub mark_length : List ℕ → ℕ
+mark_length text = if starts_with nat_eq text byte_order_mark then 3 else 0
+
 -- field N of a text; the first one is field 1
 abbrev pub nth_field : NthField → List ℕ → Option Field
-nth_field which text = field_after which.separator text 0 (which.number - 1)
+nth_field which text = field_after which.separator text (mark_length text) (which.number - 1)
 
 -- a field lies within a text
 pub record IsFieldWithin (field : Field) (text : List ℕ) : Type 0 where

@@ -1,3 +1,4 @@
+pub mod Timestamp
 pub mod Zone
 pub mod Field
 pub mod Reading

@@ -26,12 +26,15 @@ abbrev pub call_kind : Form → CallKind
 call_kind Form.DateTime = CallKind.DateTime
 call_kind Form.Strict = CallKind.DateTimeStrict
 call_kind Form.Date = CallKind.Date
+call_kind (Form.Timestamp unit) = CallKind.DateTime
 
 -- what was expected, as a phrase
 unfoldable pub expected_by : Why → CallKind → List ℕ
 expected_by (Why.Parse fault) kind = expected_text fault kind
 expected_by Why.Within kind = codes "a value within the first 4,080 bytes"
 expected_by Why.End kind = codes "the end of the value"
+expected_by Why.Timestamp kind = codes "a Unix timestamp, as --kind says"
+expected_by Why.Clock kind = codes "a time, as in 2026-11-22T06:10, or --kind date"
 expected_by Why.NoOffset kind = codes "no offset"
 expected_by Why.NoYearsOrMonths kind = codes "a duration without years and months"
 expected_by Why.NoClock kind = codes "no clock after days with a minus"

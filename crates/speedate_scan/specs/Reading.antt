@@ -1,26 +1,29 @@
 -- What is read of a line: where its value begins, and what value stands there.
-use Rattle.std.specs.Prelude.{◌≡◌, ◌≤◌, ℕ, ◌+◌, ◌-◌, ◌==◌, ◌&&◌, not, Bool, List, [], ◌∷◌, length, take, drop, slice_index, nat_eq, nat_lt, Option, Some, None, is_some, IsSomeAnd, Result, Ok, Err, ℤ, if◌then◌else◌}
+use Rattle.std.specs.Prelude.{◌≡◌, ◌≤◌, ℕ, ◌+◌, ◌-◌, ◌==◌, ◌&&◌, ◌||◌, not, Bool, false, List, [], ◌∷◌, length, take, drop, slice_index, nat_le, nat_lt, Option, Some, None, is_some, IsSomeAnd, Result, Ok, Err, ℤ, pos, if◌then◌else◌}
 use Rattle.std.specs.Option.{unwrap_or}
 use Rattle.std.specs.Result.{result_unwrap_or}
 use Rattle.std.specs.Char.{is_ascii_digit}
-use Rattle.std.specs.List.{starts_with}
-use Rattle.speedate.specs.Base.{Behavior, ParseError}
-use Rattle.speedate.specs.Ascii.{hyphen}
+use Rattle.speedate.specs.Base.{Behavior, ParseError, TimestampUnit}
+use Rattle.speedate.specs.Ascii.{capital_p, capital_t, colon, hyphen, small_t}
 use Rattle.speedate.specs.Requirement.{first_fault_or, result_map, with_no_more_or, with_size}
 use Rattle.speedate.specs.Requirement.{◌>>=◌}
 use Rattle.speedate.specs.Refused.{placed, refused_place}
+use Rattle.speedate_base.specs.Numbers.{sign_size}
 use Rattle.speedate_base.specs.declared.refusal.Refused.{Refused}
 use Rattle.speedate.specs.Calendar.{Ymd}
 use Rattle.speedate.specs.Date.{date_answer, date_answer_or, date_front, date_front_or}
 use Rattle.speedate.specs.DateTime.{DateAndTime, date_time_front}
 use Rattle.speedate.specs.DateTime.{date_time_front_or, date_time_with_offset, separator_table}
+use Rattle.speedate.specs.DateTime.{date_time_or_timestamp, date_time_or_timestamp_or}
 use Rattle.speedate.specs.DateTime.{utc_microsecond}
 use Rattle.speedate.specs.Lines.{without_return}
 use Rattle.speedate.specs.Strict.{strict_date_time_answer, strict_date_time_answer_or}
 use Rattle.speedate.specs.Time.{Clock, clock_front, clock_with_offset, end_fault, minute_time}
 use Rattle.speedate_stream.specs.Machine.{longest_line}
-use Rattle.speedate_scan.specs.Field.{Field, goes_on, nth_field}
-use Rattle.speedate_scan.specs.Zone.{is_boundary, late_zone, zone_front}
+use Rattle.speedate_scan.specs.Field.{Field, goes_on, mark_length, nth_field}
+use Rattle.speedate_scan.specs.Timestamp.{fewest_digits, has_number, number_length, whole_digits}
+use Rattle.speedate_scan.specs.Zone.{begins_with, is_boundary, late_zone, zone_front}
+pub use Rattle.speedate_scan.specs.declared.claim.Wanted.{Wanted}
 pub use Rattle.speedate_scan.specs.declared.reading.Place.{Place}
 pub use Rattle.speedate_scan.specs.declared.form.Form.{Form}
 pub use Rattle.speedate_scan.specs.declared.reading.Reader.{Reader}
@@ -93,17 +96,54 @@ midnight_front text =
     result_map (with_size midnight_of)
     (with_place (date_front text) (refused_place (date_front_or placed text)))
 
+-- the refusal of a number that the library does not read, since it has more than 64 bits
+abbrev pub past_64_bits : List ℕ → Refused
+past_64_bits text =
+    let is_negative = slice_index text 0 == hyphen in
+    placed (if is_negative then ParseError.DateTooSmall else ParseError.DateTooLarge) 0
+
+-- what the library read of a number
+abbrev pub or_past_64_bits : List ℕ → Result DateAndTime Refused → Result DateAndTime Refused
+or_past_64_bits text (Ok value) = Ok value
+or_past_64_bits text (Err refused) =
+    if has_number text then Err refused else Err (past_64_bits text)
+
+-- the date-time in UTC of the Unix timestamp that a number is
+unfoldable pub timestamp_of : TimestampUnit → Behavior → List ℕ → Result DateAndTime Refused
+timestamp_of unit behavior text =
+    or_past_64_bits text
+    (with_place (date_time_or_timestamp unit behavior (Some (pos 0)) text)
+    (refused_place (date_time_or_timestamp_or placed unit behavior (Some (pos 0)) text)))
+
+-- the date-time in UTC of the Unix timestamp at the front of a text, and how many bytes it takes
+unfoldable pub timestamp_front : TimestampUnit → Behavior → List ℕ
+    → Result (DateAndTime × ℕ) Refused
+timestamp_front unit behavior text = do
+  value ← timestamp_of unit behavior (take (number_length unit text) text)
+  Ok (value, number_length unit text)
+
 -- the value at the front of a text, and how many bytes it takes
 abbrev pub front_of : Form → Behavior → List ℕ → Result (DateAndTime × ℕ) Refused
 front_of Form.DateTime behavior text = relaxed_front behavior text
 front_of Form.Strict behavior text = strict_front behavior text
 front_of Form.Date behavior text = midnight_front text
+front_of (Form.Timestamp unit) behavior text = timestamp_front unit behavior text
 
--- the date-time that a text is: nothing follows the one at its front
+-- the value at the front of a text, if nothing follows it
+abbrev pub whole_front : List ℕ → DateAndTime × ℕ → Result DateAndTime Refused
+whole_front text front = with_no_more_or placed (λ read. end_fault read.time.offset) text front
+
+-- the date-time that a text is
 unfoldable pub relaxed_whole : Behavior → List ℕ → Result DateAndTime Refused
 relaxed_whole behavior text = do
-  value ← relaxed_front behavior text
-  with_no_more_or placed (λ read. end_fault read.time.offset) text value
+  front ← relaxed_front behavior text
+  whole_front text front
+
+-- the date-time in UTC of the Unix timestamp that a text is, without a sign but a minus
+unfoldable pub timestamp_whole : TimestampUnit → Behavior → List ℕ → Result DateAndTime Refused
+timestamp_whole unit behavior text = do
+  front ← timestamp_front unit behavior text
+  whole_front text front
 
 -- the midnight of the date that a text is
 unfoldable pub midnight_whole : List ℕ → Result DateAndTime Refused
@@ -116,6 +156,7 @@ abbrev pub whole_of : Form → Behavior → List ℕ → Result DateAndTime Refu
 whole_of Form.DateTime behavior text = relaxed_whole behavior text
 whole_of Form.Strict behavior text = strict_whole behavior text
 whole_of Form.Date behavior text = midnight_whole text
+whole_of (Form.Timestamp unit) behavior text = timestamp_whole unit behavior text
 
 -- Where a value begins.
 
@@ -132,34 +173,59 @@ abbrev pub moved_place : ℕ → Option ℕ → Option ℕ
 moved_place start None = None
 moved_place start (Some place) = Some (start + place)
 
--- how many bytes of a text stand before a value at its front: a `[`, or nothing
-abbrev pub bracket_length : List ℕ → ℕ
-bracket_length text = if slice_index text 0 == left_bracket then 1 else 0
+-- how many bytes of a text stand before a value at its front: a byte order mark, a `[`, both, or
+-- nothing
+abbrev pub length_before_value : List ℕ → ℕ
+length_before_value text =
+    mark_length text
+    + (if slice_index text (mark_length text) == left_bracket then 1 else 0)
 
 -- the byte at a place is a digit
 abbrev pub digit_at : List ℕ → ℕ → Bool
 digit_at text place = is_ascii_digit (slice_index text place)
 
 -- a text claims to be a date or a date-time: it begins with four digits and a hyphen
-unfoldable pub claims : List ℕ → Bool
-claims text =
+unfoldable pub claims_date : List ℕ → Bool
+claims_date text =
     digit_at text 0 && digit_at text 1 && digit_at text 2 && digit_at text 3
     && (slice_index text 4 == hyphen)
 
--- a text begins with a word
-abbrev pub begins_with : List ℕ → List ℕ → Bool
-begins_with word text = starts_with nat_eq text word
+-- a text claims to be a value: a timestamp has at least one digit less than those of today have
+abbrev pub claims : Form → List ℕ → Bool
+claims Form.DateTime text = claims_date text
+claims Form.Strict text = claims_date text
+claims Form.Date text = claims_date text
+claims (Form.Timestamp unit) text = nat_le (fewest_digits unit) (whole_digits text)
 
--- a text begins with a word, and what follows it claims to be a date or a date-time
-abbrev pub begins_claim : List ℕ → List ℕ → Bool
-begins_claim word text = begins_with word text && claims (drop (length word) text)
+-- a field claims to be a value: a number of any size is a timestamp
+abbrev pub field_claims : Form → List ℕ → Bool
+field_claims Form.DateTime text = claims_date text
+field_claims Form.Strict text = claims_date text
+field_claims Form.Date text = claims_date text
+field_claims (Form.Timestamp unit) text = nat_lt 0 (whole_digits text)
 
--- the byte after the first place of a word in a text at which what follows claims to be a value
-unfoldable pub claim_after : List ℕ → List ℕ → Option ℕ
-claim_after word [] = None
-claim_after word (byte ∷ bytes) =
-    if begins_claim word (byte ∷ bytes) then Some (length word)
-    else moved_place 1 (claim_after word bytes)
+-- a text claims to be a duration: it begins with a digit or a `P`, after its sign
+abbrev pub claims_duration : List ℕ → Bool
+claims_duration text =
+    digit_at text (sign_size text) || (slice_index text (sign_size text) == capital_p)
+
+-- a text claims to be what is wanted
+abbrev pub claims_wanted : Wanted → List ℕ → Bool
+claims_wanted (Wanted.Value form) text = claims form text
+claims_wanted Wanted.Duration text = claims_duration text
+
+-- a text begins with a word, and what follows it claims to be what is wanted
+abbrev pub begins_claim : Wanted → List ℕ → List ℕ → Bool
+begins_claim wanted word text =
+    begins_with word text && claims_wanted wanted (drop (length word) text)
+
+-- the byte after the first place of a word in a text at which what follows claims to be what is
+-- wanted
+unfoldable pub claim_after : Wanted → List ℕ → List ℕ → Option ℕ
+claim_after wanted word [] = None
+claim_after wanted word (byte ∷ bytes) =
+    if begins_claim wanted word (byte ∷ bytes) then Some (length word)
+    else moved_place 1 (claim_after wanted word bytes)
 
 -- What value stands there.
 
@@ -167,12 +233,12 @@ claim_after word (byte ∷ bytes) =
 abbrev pub is_longer : List ℕ → Bool
 is_longer head = nat_lt longest_line (length head)
 
--- how many bytes of a longer line may stand before the end of its value: what is looked at has room
--- behind it for all that decides about its end
+-- how many bytes of a longer line may stand before the end of its value: the sixteen bytes after
+-- these are enough to decide where the value ends
 abbrev pub value_max : ℕ
 value_max = 4080
 
--- a place is behind where the value of a longer line may end
+-- a place is after the last one at which the value of a longer line may end
 abbrev pub is_cut : List ℕ → ℕ → Bool
 is_cut head place = is_longer head && nat_lt value_max place
 
@@ -182,26 +248,64 @@ assumed offset value =
     if is_some value.time.offset then value
     else result_unwrap_or (date_time_with_offset offset value) value
 
+-- a colon may follow a timestamp, though not another value
+abbrev pub is_number_before_colon : Form → List ℕ → Bool
+is_number_before_colon (Form.Timestamp unit) rest = slice_index rest 0 == colon
+is_number_before_colon Form.DateTime rest = false
+is_number_before_colon Form.Strict rest = false
+is_number_before_colon Form.Date rest = false
+
+-- a value can end before these bytes
+abbrev pub can_end : Form → List ℕ → Bool
+can_end form rest = is_boundary rest || is_number_before_colon form rest
+
 -- a value that was parsed from one byte of a line up to another, where it has to end
-abbrev pub ended_at : Option ℤ → List ℕ → DateAndTime → ℕ → Result (DateAndTime × ℕ) Bad
-ended_at offset head value to =
-    if is_boundary (drop to head) then Ok (assumed offset value, to)
+abbrev pub ended_at : Reader → List ℕ → DateAndTime → ℕ → Result (DateAndTime × ℕ) Bad
+ended_at reader head value to =
+    if can_end reader.form (drop to head) then Ok (assumed reader.offset value, to)
     else Err (record { place = to; why = Why.End })
 
+-- no clock begins in what follows a date
+abbrev pub is_without_clock : List ℕ → Bool
+is_without_clock rest =
+    not (digit_at rest 1)
+    && ((slice_index rest 0 == capital_t) || (slice_index rest 0 == small_t) || is_boundary rest)
+
+-- a text has a date where a date-time is wanted, by where it was refused: no clock begins after it
+abbrev pub lacks_clock : Form → List ℕ → ℕ → Bool
+lacks_clock Form.DateTime text place = nat_le 10 place && is_without_clock (drop 10 text)
+lacks_clock Form.Strict text place = false
+lacks_clock Form.Date text place = false
+lacks_clock (Form.Timestamp unit) text place = false
+
+-- what is bad about a text that was refused and begins at a byte of a line
+abbrev pub refused_at : Form → List ℕ → Refused → ℕ → Bad
+refused_at form text refused from =
+    if lacks_clock form text refused.place
+    then record { place = from + 10; why = Why.Clock }
+    else record { place = from + refused.place; why = Why.Parse refused.fault }
+
+-- what was expected of a line without a value
+abbrev pub why_undated : Form → Why
+why_undated Form.DateTime = Why.Parse ParseError.TooShort
+why_undated Form.Strict = Why.Parse ParseError.TooShort
+why_undated Form.Date = Why.Parse ParseError.TooShort
+why_undated (Form.Timestamp unit) = Why.Timestamp
+
 -- what was parsed at a byte of a line; on a longer line it may not reach too far
-abbrev pub parsed_at : Option ℤ → List ℕ → ℕ → Result (DateAndTime × ℕ) Refused
+abbrev pub parsed_at : Reader → List ℕ → ℕ → Result (DateAndTime × ℕ) Refused
     → Result (DateAndTime × ℕ) Bad
-parsed_at offset head start (Ok front) =
+parsed_at reader head start (Ok front) =
     if is_cut head (start + front.1) then Err (record { place = start; why = Why.Within })
-    else ended_at offset head front.0 (start + front.1)
-parsed_at offset head start (Err refused) =
+    else ended_at reader head front.0 (start + front.1)
+parsed_at reader head start (Err refused) =
     if is_cut head (start + refused.place) then Err (record { place = start; why = Why.Within })
-    else Err (record { place = start + refused.place; why = Why.Parse refused.fault })
+    else Err (refused_at reader.form (drop start (seen head)) refused start)
 
 -- the value that begins at a byte of a line, and the byte up to which it stands
 unfoldable pub value_at : Reader → List ℕ → ℕ → Result (DateAndTime × ℕ) Bad
 value_at reader head start =
-    parsed_at reader.offset head start
+    parsed_at reader head start
     (front_of reader.form reader.behavior (drop start (seen head)))
 
 -- the microsecond of a value: in UTC if it has an offset, otherwise as its clock shows it
@@ -233,16 +337,16 @@ abbrev pub part : List ℕ → ℕ → ℕ → List ℕ
 part head from to = take (to - from) (drop from head)
 
 -- a value that was parsed from one byte of a line up to another
-abbrev pub parsed_between : Option ℤ → ℕ → ℕ → Result DateAndTime Refused
+abbrev pub parsed_between : Reader → List ℕ → ℕ → ℕ → Result DateAndTime Refused
     → Result (DateAndTime × ℕ) Bad
-parsed_between offset from to (Ok value) = Ok (assumed offset value, to)
-parsed_between offset from to (Err refused) =
-    Err (record { place = from + refused.place; why = Why.Parse refused.fault })
+parsed_between reader head from to (Ok value) = Ok (assumed reader.offset value, to)
+parsed_between reader head from to (Err refused) =
+    Err (refused_at reader.form (part head from to) refused from)
 
 -- the value that a part of a line is, and the byte up to which it stands
 unfoldable pub value_between : Reader → List ℕ → ℕ → ℕ → Result (DateAndTime × ℕ) Bad
 value_between reader head from to =
-    parsed_between reader.offset from to (whole_of reader.form reader.behavior (part head from to))
+    parsed_between reader head from to (whole_of reader.form reader.behavior (part head from to))
 
 -- the value of a field; what stands after the quote that closes it is bad
 abbrev pub alone : {A : Type 0} → Field → Result A Bad → Result A Bad
@@ -262,7 +366,7 @@ undated_field field =
 -- what is read of a field that ends before the cut of a longer line
 abbrev pub read_whole : Reader → List ℕ → Field → Reading
 read_whole reader head field =
-    if claims (part head field.from field.to)
+    if field_claims reader.form (part head field.from field.to)
     then found_from field.from (alone field (value_between reader head field.from field.to))
     else undated_field field
 
@@ -283,10 +387,10 @@ read_field reader head (Some field) =
     if is_cut head field.end then not_within field.from else read_whole reader head field
 
 -- the byte at which a value is claimed at the front of a line, or what is read of the line
-abbrev pub front_claim : List ℕ → Result ℕ Reading
-front_claim head =
-    let start = bracket_length (seen head) in
-    if claims (drop start (seen head)) then Ok start else Err (Reading.Undated start)
+abbrev pub front_claim : Form → List ℕ → Result ℕ Reading
+front_claim form head =
+    let start = length_before_value (seen head) in
+    if claims form (drop start (seen head)) then Ok start else Err (Reading.Undated start)
 
 -- what is read of a line in which no value is claimed after the word: a longer line may have it
 -- after the cut
@@ -299,8 +403,9 @@ abbrev pub claimed_or : Reading → Option ℕ → Result ℕ Reading
 claimed_or reading None = Err reading
 claimed_or reading (Some start) = Ok start
 
-abbrev pub after_claim : List ℕ → List ℕ → Result ℕ Reading
-after_claim word head = claimed_or (without_claim head) (claim_after word (seen head))
+abbrev pub after_claim : Form → List ℕ → List ℕ → Result ℕ Reading
+after_claim form word head =
+    claimed_or (without_claim head) (claim_after (Wanted.Value form) word (seen head))
 
 -- what is read of a line by the byte at which a value is claimed
 abbrev pub read_claim : Reader → List ℕ → Result ℕ Reading → Reading
@@ -309,8 +414,9 @@ read_claim reader head (Err reading) = reading
 
 -- what is read of a line, by where its value begins
 abbrev pub read_at : Reader → List ℕ → Place → Reading
-read_at reader head Place.Front = read_claim reader head (front_claim head)
-read_at reader head (Place.After word) = read_claim reader head (after_claim word.now head)
+read_at reader head Place.Front = read_claim reader head (front_claim reader.form head)
+read_at reader head (Place.After word) =
+    read_claim reader head (after_claim reader.form word.now head)
 read_at reader head (Place.Field which) =
     read_field reader head (nth_field which (fields_of head))
 

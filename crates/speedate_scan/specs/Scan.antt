@@ -1,9 +1,14 @@
 -- What each line is to a command, and what is counted of the lines.
-use Rattle.std.specs.Prelude.{ℕ, ◌==◌, ◌&&◌, Bool, true, false, not, List, slice_set, nat_lt, Option, is_some, Result, if◌then◌else◌}
+use Rattle.std.specs.Prelude.{ℕ, ◌+◌, ◌==◌, ◌&&◌, ◌||◌, Bool, true, false, not, List, drop, slice_index, slice_set, nat_lt, Option, Some, None, is_some, Result, if◌then◌else◌}
+use Rattle.std.specs.Char.{is_ascii_digit}
+use Rattle.std.specs.List.{position}
+use Rattle.speedate_base.specs.Digits.{is_decimal_mark}
+use Rattle.speedate.specs.Ascii.{colon, space}
 use Rattle.speedate.specs.Base.{ParseError}
 use Rattle.speedate.specs.DateTime.{DateAndTime}
 use Rattle.speedate_stream.specs.Watch.{one_more}
-use Rattle.speedate_scan.specs.Reading.{Bad, Found, IsParsed, IsWithin, Reading, Why, read}
+use Rattle.speedate_scan.specs.Reading.{Bad, Form, Found, IsParsed, IsWithin, Reading, Why, part}
+use Rattle.speedate_scan.specs.Reading.{read, why_undated}
 pub use Rattle.speedate_scan.specs.declared.scan.UndatedLines.{UndatedLines}
 pub use Rattle.speedate_scan.specs.declared.scan.BadLines.{BadLines}
 pub use Rattle.speedate_scan.specs.declared.scan.Offsets.{Offsets}
@@ -31,32 +36,55 @@ settled Offsets.AsFirst found = Offsets.Only (is_some found.offset)
 settled (Offsets.Only has_offset) found = Offsets.Only (is_some found.offset)
 settled (Offsets.AsBounds has_offset) found = Offsets.Only (is_some found.offset)
 
+-- a byte of a clock: a digit, a colon or a decimal mark
+abbrev pub is_clock_byte : ℕ → Bool
+is_clock_byte byte = is_ascii_digit byte || (byte == colon) || is_decimal_mark byte
+
+-- a place of a text, or the one after it if a blank is there
+abbrev pub after_one_blank : List ℕ → ℕ → ℕ
+after_one_blank text place = if slice_index text place == space then place + 1 else place
+
+-- where the offset of a value begins, by the place of the first byte after its date and its
+-- separator that is none of its clock; a timestamp has no such byte, and is in UTC as a whole
+abbrev pub offset_from : List ℕ → Option ℕ → ℕ
+offset_from text None = 0
+offset_from text (Some size) = after_one_blank text (11 + size)
+
+-- where the offset of a value begins in its text
+abbrev pub offset_place : List ℕ → ℕ
+offset_place text =
+    offset_from text (position (λ byte. not (is_clock_byte byte)) (drop 11 text))
+
 -- what is bad about a value that does not fit: its offset, or that there is none at its end
-abbrev pub unfit : Found → Bad
-unfit found =
-    if is_some found.offset then record { place = found.from; why = Why.NoOffset }
+abbrev pub unfit : List ℕ → Found → Bad
+unfit head found =
+    if is_some found.offset
+    then record {
+      place = found.from + offset_place (part head found.from found.to);
+      why = Why.NoOffset;
+    }
     else record { place = found.to; why = Why.Parse ParseError.TzRequired }
 
 -- a line whose value does not fit: if it is the first one, it does not fit the bounds
-abbrev pub unfit_line : Offsets → Found → Line
-unfit_line Offsets.Any found = Line.Bad (unfit found)
-unfit_line Offsets.AsFirst found = Line.Bad (unfit found)
-unfit_line (Offsets.Only has_offset) found = Line.Bad (unfit found)
-unfit_line (Offsets.AsBounds has_offset) found = Line.Unfit
+abbrev pub unfit_line : Offsets → List ℕ → Found → Line
+unfit_line Offsets.Any head found = Line.Bad (unfit head found)
+unfit_line Offsets.AsFirst head found = Line.Bad (unfit head found)
+unfit_line (Offsets.Only has_offset) head found = Line.Bad (unfit head found)
+unfit_line (Offsets.AsBounds has_offset) head found = Line.Unfit
 
 -- a line without a value, which would begin at this byte
-abbrev pub undated_line : UndatedLines → ℕ → Line
-undated_line UndatedLines.Bad place =
-    Line.Bad (record { place = place; why = Why.Parse ParseError.TooShort })
-undated_line UndatedLines.Join place = Line.Undated
-undated_line UndatedLines.Drop place = Line.Undated
+abbrev pub undated_line : UndatedLines → Form → ℕ → Line
+undated_line UndatedLines.Bad form place =
+    Line.Bad (record { place = place; why = why_undated form })
+undated_line UndatedLines.Join form place = Line.Undated
+undated_line UndatedLines.Drop form place = Line.Undated
 
 -- what a line is by what is read of it
-abbrev pub judged : Scan → Reading → Line
-judged scan (Reading.Value found) =
-    if fits scan.offsets found then Line.Value found else unfit_line scan.offsets found
-judged scan (Reading.Bad bad) = Line.Bad bad
-judged scan (Reading.Undated place) = undated_line scan.undated_lines place
+abbrev pub judged : Scan → List ℕ → Reading → Line
+judged scan head (Reading.Value found) =
+    if fits scan.offsets found then Line.Value found else unfit_line scan.offsets head found
+judged scan head (Reading.Bad bad) = Line.Bad bad
+judged scan head (Reading.Undated place) = undated_line scan.undated_lines scan.reader.form place
 
 -- a run has ended before its input
 abbrev pub is_stopped : Stop → Bool
@@ -69,7 +97,7 @@ unfoldable pub line_of : Scan → List ℕ → Line
 line_of scan head =
     if is_stopped scan.stop then Line.Late
     else if scan.has_header && (scan.number == 0) then Line.Header
-    else judged scan (read scan.reader head)
+    else judged scan head (read scan.reader head)
 
 -- the value of a line lies within it
 abbrev pub IsFoundWithin : Line → List ℕ → Type 0

@@ -1,12 +1,12 @@
 -- The zone after the clock of a value, and where a value ends.
-use Rattle.std.specs.Prelude.{ℕ, ◌+◌, ◌*◌, ◌==◌, ◌&&◌, ◌||◌, not, Bool, true, List, [], ◌∷◌, drop, slice_index, nat_lt, Option, Some, None, is_some, Result, Ok, ℤ, pos, if◌then◌else◌}
+use Rattle.std.specs.Prelude.{ℕ, ◌+◌, ◌*◌, ◌==◌, ◌&&◌, ◌||◌, not, Bool, true, List, [], ◌∷◌, codes, drop, slice_index, nat_eq, nat_le, Option, Some, None, is_some, Result, Ok, ℤ, pos, if◌then◌else◌}
 use Rattle.std.specs.Char.{is_ascii_alphanumeric, is_ascii_digit}
+use Rattle.std.specs.List.{starts_with}
 use Rattle.std.specs.Result.{result_unwrap_or}
 use Rattle.speedate_base.specs.Ascii.{capital_z, colon, full_stop, hyphen, plus_sign, space}
 use Rattle.speedate_base.specs.Digits.{two_digit_value, two_digits_at}
 use Rattle.speedate_base.specs.Numbers.{with_sign}
 use Rattle.speedate_base.specs.Requirement.{◌at_byte◌, ◌else_fault◌, first_refusal_or, shifted}
-use Rattle.speedate_base.specs.Timestamp.{seconds_per_day}
 use Rattle.speedate_base.specs.declared.refusal.Refused.{Refused}
 use Rattle.speedate.specs.Base.{ParseError}
 use Rattle.speedate.specs.Refused.{placed}
@@ -35,13 +35,12 @@ no_zone = (None, 0)
 abbrev pub utc_zone : ℕ → Option ℤ × ℕ
 utc_zone size = (Some (pos 0), size)
 
--- the zone `HH`, by the bytes after its sign, which are at `start` of the whole text
-abbrev pub hour_zone : ℕ → Bool → ℕ → List ℕ → Result (Option ℤ × ℕ) Refused
-hour_zone start west sign numbers =
-    let size = 3600 * two_digit_value numbers 0 in
+-- the zone of an hour, which is at `start` of the whole text, after a sign of so many bytes
+abbrev pub hour_zone : ℕ → Bool → ℕ → ℕ → Result (Option ℤ × ℕ) Refused
+hour_zone start west sign hour =
     first_refusal_or (shifted start placed)
-    ((nat_lt size seconds_per_day else_fault ParseError.OutOfRangeTz at_byte 0) ∷ [])
-    (Ok (Some (with_sign west size), sign + 2))
+    ((nat_le hour 23 else_fault ParseError.OutOfRangeTz at_byte 0) ∷ [])
+    (Ok (Some (with_sign west (3600 * hour)), sign + 2))
 
 -- an hour and a minute stand after a sign: `HH:MM` or `HHMM`
 abbrev pub has_minute : List ℕ → Bool
@@ -52,21 +51,23 @@ has_minute numbers =
 unfoldable pub signed_zone : ℕ → Bool → ℕ → List ℕ → Result (Option ℤ × ℕ) Refused
 signed_zone start west sign numbers =
     if has_minute numbers then signed_front_or (shifted start placed) west sign numbers
-    else if two_digits_at numbers 0 then hour_zone start west sign numbers
+    else if two_digits_at numbers 0 then hour_zone start west sign (two_digit_value numbers 0)
     else Ok no_zone
 
 -- The zone after one blank: `UTC`, `GMT`, `Z`, or a sign with `HH:MM` or `HHMM`.
 
+-- a text begins with a word
+abbrev pub begins_with : List ℕ → List ℕ → Bool
+begins_with word text = starts_with nat_eq text word
+
 -- a text begins with a name of UTC
 abbrev pub has_utc_name : List ℕ → Bool
-has_utc_name text =
-    ((slice_index text 0 == 85) && (slice_index text 1 == 84) && (slice_index text 2 == 67))
-    || ((slice_index text 0 == 71) && (slice_index text 1 == 77) && (slice_index text 2 == 84))
+has_utc_name text = begins_with (codes "UTC") text || begins_with (codes "GMT") text
 
 -- the zone by the bytes after its sign, if it is `HH:MM` or `HHMM` and an offset
 unfoldable pub minute_zone : Bool → List ℕ → Option ℤ × ℕ
 minute_zone west numbers =
-    if has_minute numbers then result_unwrap_or (signed_zone 0 west 1 numbers) no_zone else no_zone
+    if has_minute numbers then result_unwrap_or (signed_zone 1 west 1 numbers) no_zone else no_zone
 
 -- the zone at the front of what follows the blank
 abbrev pub apart : List ℕ → Option ℤ × ℕ
@@ -77,10 +78,18 @@ apart text =
     then minute_zone (slice_index text 0 == hyphen) (drop 1 text)
     else no_zone
 
+-- `G`
+abbrev pub capital_g : ℕ
+capital_g = 71
+
+-- `U`
+abbrev pub capital_u : ℕ
+capital_u = 85
+
 -- the first byte of a zone that comes after a blank
 abbrev pub may_begin_zone : ℕ → Bool
 may_begin_zone byte =
-    (byte == plus_sign) || (byte == hyphen) || (byte == 71) || (byte == 85) || (byte == capital_z)
+    is_plus_or_minus byte || (byte == capital_g) || (byte == capital_u) || (byte == capital_z)
 
 -- a zone after a blank, by what follows it, which has to be a boundary
 abbrev pub after_blank : Option ℤ × ℕ → List ℕ → Option ℤ × ℕ

@@ -5,19 +5,17 @@ ghost use Rattle.std.specs.List.{position};
 ghost use Rattle.speedate.specs.Ascii.{capital_m, capital_t, capital_y, colon};
 ghost use Rattle.speedate.specs.Duration.{duration_numbers};
 ghost use Rattle.speedate.specs.Requirement.{result_map};
-ghost use Rattle.speedate_scan.specs.Amount.{amount_of, before_time, duration_in, duration_place, duration_whole};
+ghost use Rattle.speedate_scan.specs.Amount.{amount_of, before_time, duration_in, duration_whole};
 ghost use Rattle.speedate_scan.specs.Amount.{clock_after_minus, exact_between, field_duration, inexact};
 ghost use Rattle.speedate_scan.specs.Amount.{is_day_letter, is_iso, judged_amount, seventh_digit};
 ghost use Rattle.speedate_base.specs.Digits.{is_decimal_mark};
-ghost use Rattle.speedate_scan.specs.Amount.{read_duration, whole_line, years_or_months};
+ghost use Rattle.speedate_scan.specs.Amount.{read_duration, years_or_months};
 ghost use Rattle.speedate_scan.specs.Field.{IsFieldWithin};
 ghost use Rattle.speedate_scan.specs.Reading.{IsReadWithin, alone, fields_of};
 
 use crate::field::{Field, byte_at};
 use crate::form::relaxed;
-use crate::reading::{
-    Bad, Place, Reader, Reading, Why, fields_of, is_cut, not_within, undated_field, without_field,
-};
+use crate::reading::{Bad, Reader, Reading, Why, is_cut, not_within, undated_field, without_field};
 use crate::scan::{Line, Scan};
 use speedate::{Duration, MicrosecondsPrecisionOverflowBehavior, ParseError, Refused};
 use speedate_base::numbers::{is_decimal_mark, sign};
@@ -180,7 +178,7 @@ fn inexact(text: &[u8], from: usize, behavior: MicrosecondsPrecisionOverflowBeha
 
 /// The duration that a part of a line is, by its head, if it is exact.
 #[tactic(auto, unfolding(crate::specs::Amount::exact_between))]
-fn exact_between(
+pub fn exact_between(
     head: &[u8],
     from: usize,
     to: usize,
@@ -274,31 +272,7 @@ fn duration_in(
     }
 }
 
-/// All of a line, by its head, as a field.
-fn whole_line(head: &[u8]) -> Field
-    ensures field { result ≡ whole_line head.now }
-    ensures within { IsFieldWithin result (fields_of head.now) }
-{
-    let end = fields_of(head).len();
-    Field {
-        from: 0,
-        to: end,
-        end,
-    }
-}
-
 impl Reader<'_> {
-    /// Where the text of the duration of a line is, by its head: it is a field, or else the whole line.
-    fn duration_place(&self, head: &[u8]) -> Option<Field>
-        ensures place { result ≡ duration_place self.now.place head.now }
-        ensures within { IfSome result (λ field. IsFieldWithin field (fields_of head.now)) }
-    {
-        match self.place {
-            Place::Field(which) => which.find(fields_of(head)),
-            _ => Some(whole_line(head)),
-        }
-    }
-
     /// The duration of a line, by its head, or what is read of a line that has none.
     #[tactic(auto, unfolding(crate::specs::Amount::read_duration))]
     pub fn read_duration(&self, head: &[u8]) -> Result<Duration, Reading>
@@ -328,7 +302,7 @@ impl Scan<'_> {
     fn judged_amount(&self, read: Result<Duration, Reading>, head: &[u8]) -> Result<Duration, Line>
         requires within { IfErr read (λ reading. IsReadWithin reading head.now) }
         ensures judged { result_map duration_numbers result
-            ≡ judged_amount self.now (result_map duration_numbers read) }
+            ≡ judged_amount self.now head.now (result_map duration_numbers read) }
     {
         match read {
             Ok(duration) => Ok(duration),

@@ -3,7 +3,7 @@
 ghost use Rattle.std.specs.Prelude.{◌≡◌, ◌+◌, ◌<◌, ◌≤◌, ◌==◌, IfSome, IsTrue, length, nat_lt, slice_index};
 ghost use Rattle.std.specs.List.{position};
 ghost use Rattle.speedate_scan.specs.Field.{IsFieldWithin, closing_quote, ended, field_at, goes_on};
-ghost use Rattle.speedate_scan.specs.Field.{next_separator, nth_field};
+ghost use Rattle.speedate_scan.specs.Field.{mark_length, next_separator, nth_field};
 
 /// The byte before and after a field that is quoted.
 pub const QUOTE: u8 = b'"';
@@ -36,7 +36,7 @@ impl NthField {
         ensures field { result ≡ nth_field self.now text.now }
         ensures within { IfSome result (λ field. IsFieldWithin field text.now) }
     {
-        let mut start = 0;
+        let mut start = mark_length(text);
         let mut others = self.number.saturating_sub(1);
         while others > 0 {
             let end = field_at(text, start, self.separator).end;
@@ -57,6 +57,21 @@ impl Field {
         ensures more { result ≡ goes_on self.now }
     {
         self.end - self.to > 1
+    }
+}
+
+/// The bytes of U+FEFF, which some programs write at the beginning of a file.
+pub const BYTE_ORDER_MARK: [u8; 3] = [0xEF, 0xBB, 0xBF];
+
+/// How many bytes of a text its byte order mark takes, which belongs to no value: 3, or 0 without one.
+pub fn mark_length(text: &[u8]) -> usize
+    ensures length { result ≡ mark_length text.now }
+    ensures within { result ≤ length text.now }
+{
+    if text.starts_with(&BYTE_ORDER_MARK) {
+        3
+    } else {
+        0
     }
 }
 

@@ -1,29 +1,33 @@
 //! What values are, and how a text is parsed as one.
 
-ghost use Rattle.std.specs.Prelude.{◌≡◌, ◌+◌, ◌≤◌, IfErr, IfOk, IfSome, IsTrue, Ok, length, slice_index};
+ghost use Rattle.std.specs.Prelude.{◌≡◌, ◌+◌, ◌≤◌, IfErr, IfOk, IfSome, IsTrue, Ok, Some, length, pos, slice_index};
 ghost use Rattle.std.specs.Option.{ForSome, unwrap_or};
 ghost use Rattle.speedate_base.specs.Offset.{IsOffset};
 ghost use Rattle.speedate.specs.Refused.{placed, refused_place};
 ghost use Rattle.speedate_civil.specs.Time.{clock_parts, clock_with_offset, end_fault};
-ghost use Rattle.speedate_civil.specs.DateTime.{date_time_front_or, is_separator};
+ghost use Rattle.speedate_civil.specs.DateTime.{date_time_front_or, date_time_or_timestamp};
+ghost use Rattle.speedate_civil.specs.DateTime.{date_time_or_timestamp_or, is_separator};
 ghost use Rattle.speedate_scan.specs.Reading.{date_and_clock, library_front, with_late_zone};
 ghost use Rattle.speedate.specs.Base.{Behavior, IsoOrder};
-ghost use Rattle.speedate.specs.Config.{time_choices};
+ghost use Rattle.speedate.specs.Config.{choices, time_choices};
 ghost use Rattle.speedate.specs.Requirement.{result_map, with_size};
 ghost use Rattle.speedate.specs.Date.{ymd};
 ghost use Rattle.speedate.specs.DateTime.{date_and_time};
 ghost use Rattle.speedate_scan.specs.Reading.{front_of, midnight_front, midnight_of, midnight_whole};
 ghost use Rattle.speedate_scan.specs.Reading.{relaxed_front, relaxed_whole, strict_front};
-ghost use Rattle.speedate_scan.specs.Reading.{strict_whole, whole_of};
+ghost use Rattle.speedate_scan.specs.Reading.{strict_whole, timestamp_front, timestamp_of};
+ghost use Rattle.speedate_scan.specs.Reading.{past_64_bits, timestamp_whole, whole_front, whole_of};
+ghost use Rattle.speedate_scan.specs.Reading.{with_place};
 
+use crate::timestamp::{has_number, number_length};
 use crate::zone::{late_zone, zone_front};
 use speedate::{
-    Date, DateTime, IsoOrder, MicrosecondsPrecisionOverflowBehavior, ParseError, Refused, Time,
-    TimeConfig,
+    Date, DateTime, DateTimeConfig, IsoOrder, MicrosecondsPrecisionOverflowBehavior, ParseError,
+    Refused, Time, TimeConfig, TimestampUnit,
 };
 use speedate_base::numbers::byte_at;
-use speedate_civil::datetime::full_front;
-use speedate_civil::time::PureTime;
+use speedate_civil::datetime::{full_front, has_separator};
+use speedate_civil::time::{PureTime, end_fault};
 
 /// What a value is.
 #[derive(Clone, Copy, Debug, PartialEq, Eq)]
@@ -34,6 +38,8 @@ pub enum Form {
     Strict,
     /// A date, whose value is its midnight.
     Date,
+    /// A Unix timestamp in a unit, whose value is its date-time in UTC.
+    Timestamp(TimestampUnit),
 }
 
 impl Form {
@@ -77,6 +83,7 @@ impl Form {
             Form::DateTime => relaxed_front(text, behavior),
             Form::Strict => strict_front(text, behavior),
             Form::Date => midnight_front(text),
+            Form::Timestamp(unit) => timestamp_front(text, unit, behavior),
         }
     }
 
@@ -93,6 +100,7 @@ impl Form {
             Form::DateTime => relaxed_whole(text, behavior),
             Form::Strict => strict_whole(text, behavior),
             Form::Date => midnight_whole(text),
+            Form::Timestamp(unit) => timestamp_whole(text, unit, behavior),
         }
     }
 }
@@ -166,14 +174,6 @@ fn date_and_clock(
         Ok(clock) => Ok((date, clock)),
         Err(fault) => Err(fault),
     }
-}
-
-/// Whether a byte that may stand between a date and a time follows the ten bytes of a date.
-fn has_separator(text: &[u8]) -> bool
-    ensures separator { result ≡ is_separator (slice_index text.now 10) }
-    ensures there { IsTrue result → 11 ≤ length text.now }
-{
-    matches!(byte_at(text, 10), b'T' | b't' | b' ' | b'_')
 }
 
 /// The date-time at the front of a text, and how many bytes it takes.
@@ -259,10 +259,19 @@ fn relaxed_whole(
     ensures whole { result_map date_and_time result ≡ relaxed_whole behavior text.now }
     ensures within { IfErr result (λ refused. refused.place ≤ length text.now) }
 {
-    let (value, size) = match relaxed_front(text, behavior) {
-        Ok(front) => front,
-        Err(refused) => return Err(refused),
-    };
+    match relaxed_front(text, behavior) {
+        Ok((value, size)) => whole_front(text, value, size),
+        Err(refused) => Err(refused),
+    }
+}
+
+/// The value at the front of a text, which takes so many bytes, if nothing follows it.
+fn whole_front(text: &[u8], value: DateTime, size: usize) -> Result<DateTime, Refused>
+    requires size { size ≤ length text.now }
+    ensures whole { result_map date_and_time result
+        ≡ whole_front text.now (date_and_time value, size) }
+    ensures within { IfErr result (λ refused. refused.place ≤ length text.now) }
+{
     if size != text.len() {
         let fault = end_fault(value.time.tz_offset);
         return Err(Refused { fault, place: size });
@@ -270,14 +279,105 @@ fn relaxed_whole(
     Ok(value)
 }
 
-/// The error of further bytes after a value with this offset, or after one without.
-fn end_fault(offset: Option<i32>) -> ParseError
-    ensures fault { result ≡ end_fault offset }
+/// How the library reads a text as a Unix timestamp in UTC.
+fn timestamps(
+    unit: TimestampUnit,
+    behavior: MicrosecondsPrecisionOverflowBehavior,
+) -> DateTimeConfig
+    ensures unit { (choices result).unit ≡ unit }
+    ensures behavior { (choices result).behavior ≡ behavior }
+    ensures offset { (choices result).offset ≡ Some (pos 0) }
 {
-    if offset.is_some() {
-        ParseError::ExtraCharacters
+    DateTimeConfig {
+        timestamp_unit: unit,
+        time_config: TimeConfig {
+            microseconds_precision_overflow_behavior: behavior,
+            unix_timestamp_offset: Some(0),
+            iso_order: IsoOrder::Lax,
+        },
+    }
+}
+
+/// The date-time in UTC of the Unix timestamp that a number is.
+#[tactic(auto, unfolding(crate::specs::Reading::timestamp_of))]
+fn timestamp_of(
+    text: &[u8],
+    unit: TimestampUnit,
+    behavior: MicrosecondsPrecisionOverflowBehavior,
+) -> Result<DateTime, Refused>
+    ensures value { result_map date_and_time result ≡ timestamp_of unit behavior text.now }
+    ensures within { IfErr result (λ refused. refused.place ≤ length text.now) }
+{
+    match library_timestamp(text, unit, behavior) {
+        Ok(value) => Ok(value),
+        Err(refused) => Err(if has_number(text) {
+            refused
+        } else {
+            past_64_bits(text)
+        }),
+    }
+}
+
+/// The refusal of a number that the library does not read, since it has more than 64 bits.
+#[cold]
+fn past_64_bits(text: &[u8]) -> Refused
+    ensures refused { result ≡ past_64_bits text.now }
+    ensures place { result.place ≡ 0 }
+{
+    let fault = if byte_at(text, 0) == b'-' {
+        ParseError::DateTooSmall
     } else {
-        ParseError::InvalidCharTzSign
+        ParseError::DateTooLarge
+    };
+    Refused { fault, place: 0 }
+}
+
+/// What the library reads of a text that is a number.
+fn library_timestamp(
+    text: &[u8],
+    unit: TimestampUnit,
+    behavior: MicrosecondsPrecisionOverflowBehavior,
+) -> Result<DateTime, Refused>
+    ensures value { result_map date_and_time result
+        ≡ with_place (date_time_or_timestamp unit behavior (Some (pos 0)) text.now)
+        (refused_place (date_time_or_timestamp_or placed unit behavior (Some (pos 0)) text.now)) }
+    ensures within { IfErr result (λ refused. refused.place ≤ length text.now) }
+{
+    DateTime::parse_or_place(text, &timestamps(unit, behavior))
+}
+
+/// The date-time in UTC of the Unix timestamp at the front of a text, and how many bytes it takes.
+#[tactic(auto, unfolding(crate::specs::Reading::timestamp_front))]
+fn timestamp_front(
+    text: &[u8],
+    unit: TimestampUnit,
+    behavior: MicrosecondsPrecisionOverflowBehavior,
+) -> Result<(DateTime, usize), Refused>
+    ensures front { result_map (with_size date_and_time) result
+        ≡ timestamp_front unit behavior text.now }
+    ensures size { IfOk result (λ front. front.1 ≤ length text.now) }
+    ensures within { IfErr result (λ refused. refused.place ≤ length text.now) }
+{
+    let size = number_length(text, unit);
+    match timestamp_of(&text[..size], unit, behavior) {
+        Ok(value) => Ok((value, size)),
+        Err(refused) => Err(refused),
+    }
+}
+
+/// The date-time in UTC of the Unix timestamp that a text is, without a sign but a minus.
+#[tactic(auto, unfolding(crate::specs::Reading::timestamp_whole))]
+fn timestamp_whole(
+    text: &[u8],
+    unit: TimestampUnit,
+    behavior: MicrosecondsPrecisionOverflowBehavior,
+) -> Result<DateTime, Refused>
+    ensures whole { result_map date_and_time result ≡ timestamp_whole unit behavior text.now }
+    ensures within { IfErr result (λ refused. refused.place ≤ length text.now) }
+{
+    match timestamp_front(text, unit, behavior) {
+        Ok((value, size)) => whole_front(text, value, size),
+        Err(refused) => Err(refused),
     }
 }
 

@@ -101,6 +101,8 @@ impl Why {
             Why::Parse(fault) => fault.expected(kind),
             Why::Within => "a value within the first 4,080 bytes",
             Why::End => "the end of the value",
+            Why::Timestamp => "a Unix timestamp, as --kind says",
+            Why::Clock => "a time, as in 2026-11-22T06:10, or --kind date",
             Why::NoOffset => "no offset",
             Why::NoYearsOrMonths => "a duration without years and months",
             Why::NoClock => "no clock after days with a minus",
@@ -120,6 +122,7 @@ impl Form {
             Form::DateTime => CallKind::DateTime,
             Form::Strict => CallKind::DateTimeStrict,
             Form::Date => CallKind::Date,
+            Form::Timestamp(_) => CallKind::DateTime,
         }
     }
 }

@@ -5,29 +5,26 @@ ghost use Rattle.std.specs.Option.{option_map};
 ghost use Rattle.speedate.specs.Requirement.{result_map, with_size};
 ghost use Rattle.speedate.specs.DateTime.{date_and_time};
 ghost use Rattle.speedate_scan.specs.Field.{IsFieldWithin};
-ghost use Rattle.speedate_scan.specs.Reading.{IsParsed, IsReadWithin, found_from};
-ghost use Rattle.speedate_scan.specs.Reading.{alone, assumed, begins_with, bracket_length, claims};
-ghost use Rattle.speedate_scan.specs.Reading.{IsWithoutValue, after_claim, begins_claim, claim_after};
-ghost use Rattle.speedate_scan.specs.Reading.{fields_of, found_at, front_claim, read_claim};
-ghost use Rattle.speedate_scan.specs.Reading.{instant_of, is_cut, is_longer, not_within, part, read};
-ghost use Rattle.speedate_scan.specs.Reading.{read_field, read_whole, seen, undated_field, value_at};
-ghost use Rattle.speedate_scan.specs.Reading.{without_claim};
-ghost use Rattle.speedate_scan.specs.Reading.{value_between, value_of, without_field};
+ghost use Rattle.speedate_scan.specs.Reading.{IsParsed, IsReadWithin, IsWithoutValue, alone, assumed};
+ghost use Rattle.speedate_scan.specs.Reading.{can_end, fields_of, found_at, found_from, instant_of};
+ghost use Rattle.speedate_scan.specs.Reading.{is_cut, is_longer, is_without_clock, lacks_clock};
+ghost use Rattle.speedate_scan.specs.Reading.{not_within, part, read, read_claim, read_field};
+ghost use Rattle.speedate_scan.specs.Reading.{read_whole, refused_at, seen, undated_field, value_at};
+ghost use Rattle.speedate_scan.specs.Reading.{value_between, value_of, why_undated, without_field};
 
+use crate::claim::{after_claim, field_claims, front_claim};
 use crate::field::{Field, NthField, byte_at};
 use crate::form::Form;
 use crate::zone::is_boundary;
-use speedate::{DateTime, MicrosecondsPrecisionOverflowBehavior, ParseError};
-use speedate_base::numbers::{eight_bytes, fit_length};
+use speedate::{DateTime, MicrosecondsPrecisionOverflowBehavior, ParseError, Refused};
 use speedate_stream::LINE_MAX;
-use std::simd::prelude::*;
 
 /// Where the value of a line begins.
 #[derive(Clone, Copy)]
 pub enum Place<'a> {
-    /// At the front, after one `[` if there is one.
+    /// At the front, after a byte order mark and one `[` if they are there.
     Front,
-    /// After the first place at which this text stands.
+    /// After the first place of this text that a value follows.
     After(&'a [u8]),
     /// It is this field of the line, wholly.
     Field(NthField),
@@ -55,6 +52,10 @@ pub enum Why {
     Within,
     /// The end of the value.
     End,
+    /// A clock after the date, unless values are dates.
+    Clock,
+    /// A Unix timestamp.
+    Timestamp,
     /// A value without an offset.
     NoOffset,
     /// A duration that does not say years or months.
@@ -99,58 +100,47 @@ pub enum Reading {
     Undated(usize),
 }
 
-/// How many bytes of a text stand before a value at its front: a `[`, or nothing.
-fn bracket_length(text: &[u8]) -> usize
-    ensures length { result ≡ bracket_length text.now }
-    ensures within { result ≤ length text.now }
+/// Whether a value of this form can end before a text: a timestamp before a colon, too.
+#[inline(always)]
+fn can_end(form: Form, rest: &[u8]) -> bool
+    ensures ends { result ≡ can_end form rest.now }
 {
-    if byte_at(text, 0) == b'[' { 1 } else { 0 }
+    is_boundary(rest) || (matches!(form, Form::Timestamp(_)) && byte_at(rest, 0) == b':')
 }
 
-/// Whether a word begins a text.
-#[inline(always)]
-fn begins_with(word: &[u8], text: &[u8]) -> bool
-    ensures begins { result ≡ begins_with word.now text.now }
-    ensures there { IsTrue result → length word.now ≤ length text.now }
+/// Whether a text has a date where a date-time is wanted, by where it was refused: no clock begins after it.
+fn lacks_clock(form: Form, text: &[u8], place: usize) -> bool
+    requires within { place ≤ length text.now }
+    ensures lacks { result ≡ lacks_clock form text.now place }
 {
-    // Most texts differ from the word in their first byte.
-    match (word, text) {
-        ([first, ..], [byte, ..]) if first != byte => false,
-        _ => text.starts_with(word),
+    matches!(form, Form::DateTime) && place >= 10 && is_without_clock(&text[10..])
+}
+
+/// Whether no clock begins in what follows a date.
+fn is_without_clock(rest: &[u8]) -> bool
+    ensures without { result ≡ is_without_clock rest.now }
+{
+    !byte_at(rest, 1).is_ascii_digit()
+        && (matches!(byte_at(rest, 0), b'T' | b't') || is_boundary(rest))
+}
+
+/// What is bad about a text that was refused and begins at a byte of a line. Where no clock follows a date, the
+/// error lies after the date.
+fn refused_at(form: Form, text: &[u8], refused: Refused, from: usize) -> Bad
+    requires within { refused.place ≤ length text.now }
+    requires room { from + length text.now ≤ usize.MAX }
+    ensures bad { result ≡ refused_at form text.now refused from }
+{
+    if lacks_clock(form, text, refused.place) {
+        return Bad {
+            place: from + 10,
+            why: Why::Clock,
+        };
     }
-}
-
-/// Whether a text claims to be a date or a date-time: it begins with four digits and a hyphen.
-#[inline(always)]
-#[tactic(auto, using(crate::proofs::ReadingLemmas::claims_by_length))]
-fn claims(text: &[u8]) -> bool
-    ensures claims { result ≡ claims text.now }
-{
-    fit_length(eight_bytes(text, 0), u8x8::from_array(*b"0000-00-")) >= 5
-}
-
-/// Whether a word begins a text, and what follows it claims to be a date or a date-time.
-#[inline(always)]
-fn begins_claim(word: &[u8], text: &[u8]) -> bool
-    ensures begins { result ≡ begins_claim word.now text.now }
-    ensures there { IsTrue result → length word.now ≤ length text.now }
-{
-    begins_with(word, text) && claims(&text[word.len()..])
-}
-
-/// The byte after the first place of a word in a text at which what follows claims to be a value.
-fn claim_after(word: &[u8], text: &[u8]) -> Option<usize>
-    ensures end { result ≡ claim_after word.now text.now }
-    ensures within { IfSome result (λ end. end ≤ length text.now) }
-{
-    let mut place = 0;
-    while place < text.len() {
-        if begins_claim(word, &text[place..]) {
-            return Some(place + word.len());
-        }
-        place += 1;
+    Bad {
+        place: from + refused.place,
+        why: Why::Parse(refused.fault),
     }
-    None
 }
 
 /// What is looked at of a line: its first 4,096 bytes.
@@ -167,17 +157,17 @@ pub fn seen(head: &[u8]) -> &[u8]
 }
 
 /// Whether a line is longer than what is looked at.
-fn is_longer(head: &[u8]) -> bool
+pub fn is_longer(head: &[u8]) -> bool
     ensures longer { result ≡ is_longer head.now }
 {
     head.len() > LINE_MAX
 }
 
-/// How many bytes of a longer line may stand before the end of its value. What is looked at has room behind it for a
-/// zone and for what ends a value.
+/// How many bytes of a longer line may stand before the end of its value. The sixteen bytes after these, which are
+/// looked at too, are enough for a zone and for what ends a value.
 const VALUE_MAX: usize = LINE_MAX - 16;
 
-/// Whether a place is behind where the value of a line that is longer than what is looked at may end.
+/// Whether a place is after the last one at which the value of a longer line may end.
 pub fn is_cut(head: &[u8], place: usize) -> bool
     ensures cut { result ≡ is_cut head.now place }
 {
@@ -254,19 +244,6 @@ pub fn without_field(head: &[u8]) -> Reading
     Reading::Undated(fields_of(head).len())
 }
 
-/// What is read of a line in which no value is claimed after the word, by its head.
-fn without_claim(head: &[u8]) -> Reading
-    ensures read { result ≡ without_claim head.now }
-    ensures within { IsReadWithin result head.now }
-    ensures bare { IsWithoutValue result }
-{
-    if is_longer(head) {
-        not_within(LINE_MAX)
-    } else {
-        Reading::Undated(head.len())
-    }
-}
-
 /// What is read of a field without a value: what stands after the quote that closes it is bad.
 pub fn undated_field(field: &Field) -> Reading
     requires ends { field.now.to ≤ field.now.end }
@@ -282,36 +259,6 @@ pub fn undated_field(field: &Field) -> Reading
     Reading::Undated(field.from)
 }
 
-/// The byte at which a value is claimed at the front of a line, by its head, or what is read of the line.
-#[inline(always)]
-fn front_claim(head: &[u8]) -> Result<usize, Reading>
-    ensures claim { result ≡ front_claim head.now }
-    ensures start { IfOk result (λ start. start ≤ length (seen head.now)) }
-    ensures reading { IfErr result (λ reading. IsReadWithin reading head.now) }
-    ensures bare { IfErr result IsWithoutValue }
-{
-    let start = bracket_length(seen(head));
-    if claims(&seen(head)[start..]) {
-        Ok(start)
-    } else {
-        Err(Reading::Undated(start))
-    }
-}
-
-/// The byte at which a value is claimed after a word of a line, by its head, or what is read of the line.
-#[inline(always)]
-fn after_claim(word: &[u8], head: &[u8]) -> Result<usize, Reading>
-    ensures claim { result ≡ after_claim word.now head.now }
-    ensures start { IfOk result (λ start. start ≤ length (seen head.now)) }
-    ensures reading { IfErr result (λ reading. IsReadWithin reading head.now) }
-    ensures bare { IfErr result IsWithoutValue }
-{
-    match claim_after(word, seen(head)) {
-        Some(start) => Ok(start),
-        None => Err(without_claim(head)),
-    }
-}
-
 /// What is read of a line in which a value was parsed from a byte on, or refused.
 #[inline(always)]
 fn read_as(parsed: Result<(DateTime, usize), Bad>, from: usize) -> (Reading, Option<DateTime>)
@@ -322,6 +269,16 @@ fn read_as(parsed: Result<(DateTime, usize), Bad>, from: usize) -> (Reading, Opt
     match parsed {
         Ok((value, to)) => (Reading::Value(found_at(&value, from, to)), Some(value)),
         Err(bad) => (Reading::Bad(bad), None),
+    }
+}
+
+/// What was expected of a line without a value.
+pub fn why_undated(form: Form) -> Why
+    ensures why { result ≡ why_undated form }
+{
+    match form {
+        Form::Timestamp(_) => Why::Timestamp,
+        Form::DateTime | Form::Strict | Form::Date => Why::Parse(ParseError::TooShort),
     }
 }
 
@@ -344,8 +301,8 @@ impl Reader<'_> {
             (option_map date_and_time result.1) }
     {
         let claim = match self.place {
-            Place::Front => front_claim(head),
-            Place::After(word) => after_claim(word, head),
+            Place::Front => front_claim(self.form, head),
+            Place::After(word) => after_claim(self.form, word, head),
             // Taken apart for the same reason as in [`Form::front`].
             Place::Field(which) => {
                 let (reading, value) = self.parse_field(head, which.find(fields_of(head)));
@@ -403,7 +360,7 @@ impl Reader<'_> {
         ensures value { IsParsed (λ found. value_between self.now head.now found.from found.to)
             result.0 (option_map date_and_time result.1) }
     {
-        if !claims(&head[field.from..field.to]) {
+        if !field_claims(self.form, &head[field.from..field.to]) {
             return (undated_field(field), None);
         }
         read_as(self.value_alone(head, field), field.from)
@@ -444,10 +401,7 @@ impl Reader<'_> {
     {
         match self.form.whole(&head[from..to], self.behavior) {
             Ok(value) => Ok((assume(self.offset, value), to)),
-            Err(refused) => Err(Bad {
-                place: from + refused.place,
-                why: Why::Parse(refused.fault),
-            }),
+            Err(refused) => Err(refused_at(self.form, &head[from..to], refused, from)),
         }
     }
 
@@ -470,7 +424,7 @@ impl Reader<'_> {
                     });
                 }
                 let to = start + size;
-                if !is_boundary(&head[to..]) {
+                if !can_end(self.form, &head[to..]) {
                     return Err(Bad {
                         place: to,
                         why: Why::End,
@@ -485,10 +439,7 @@ impl Reader<'_> {
                         why: Why::Within,
                     });
                 }
-                Err(Bad {
-                    place: start + refused.place,
-                    why: Why::Parse(refused.fault),
-                })
+                Err(refused_at(self.form, &seen(head)[start..], refused, start))
             }
         }
     }

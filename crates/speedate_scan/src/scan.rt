@@ -1,16 +1,18 @@
 //! What each line is to a command, and what is counted of the lines.
 
-ghost use Rattle.std.specs.Prelude.{◌≡◌, ◌+◌, ◌++◌, ◌≤◌, length, is_some};
+ghost use Rattle.std.specs.Prelude.{◌≡◌, ◌+◌, ◌++◌, ◌≤◌, ◌<◌, IfSome, length, is_some, not};
+ghost use Rattle.std.specs.List.{position};
 ghost use Rattle.std.specs.Option.{option_map};
 ghost use Rattle.speedate.specs.DateTime.{date_and_time};
 ghost use Rattle.speedate_stream.specs.Watch.{one_more};
-ghost use Rattle.speedate_scan.specs.Reading.{IsReadWithin, value_of};
+ghost use Rattle.speedate_scan.specs.Reading.{IsReadWithin, IsWithin, value_of};
 ghost use Rattle.speedate_scan.specs.Scan.{IsFoundWithin, IsLineParsed, has_offsets, is_counted, keeps};
 ghost use Rattle.speedate_scan.specs.Scan.{counted, fits, is_stopped, is_value, judged, line_of};
-ghost use Rattle.speedate_scan.specs.Scan.{noted, passed, settled, unfit};
+ghost use Rattle.speedate_scan.specs.Scan.{is_clock_byte, noted, offset_place, passed, settled, unfit};
 
-use crate::reading::{Bad, Found, Reader, Reading, Why};
+use crate::reading::{Bad, Found, Reader, Reading, Why, why_undated};
 use speedate::{DateTime, ParseError};
+use speedate_base::numbers::is_decimal_mark;
 
 /// How many bad values are reported one by one.
 pub const REPORTS_MAX: usize = 10;
@@ -155,13 +157,53 @@ impl Offsets {
     }
 }
 
+/// Whether a byte is one of a clock: a digit, a colon or a decimal mark.
+fn is_clock_byte(byte: u8) -> bool
+    ensures clock { result ≡ is_clock_byte byte }
+{
+    byte.is_ascii_digit() || byte == b':' || is_decimal_mark(byte)
+}
+
+/// How many bytes of a clock begin a text, if others follow.
+fn clock_size(text: &[u8]) -> Option<usize>
+    ensures size { result ≡ position (λ byte. not (is_clock_byte byte)) text.now }
+    ensures within { IfSome result (λ size. size < length text.now) }
+{
+    text.iter().position(|&byte| !is_clock_byte(byte))
+}
+
+/// Where the offset of a value begins in its text: 20 in `b"2026-11-22T06:10:00 +0100"`. A Unix timestamp is in UTC
+/// as a whole.
+#[tactic(auto, using(crate::proofs::ScanLemmas::no_offset_in))]
+fn offset_place(text: &[u8]) -> usize
+    ensures place { result ≡ offset_place text.now }
+    ensures within { result ≤ length text.now }
+{
+    if text.len() < 11 {
+        return 0;
+    }
+    let Some(size) = clock_size(&text[11..]) else {
+        return 0;
+    };
+    let place = 11 + size;
+    if text[place] == b' ' {
+        place + 1
+    } else {
+        place
+    }
+}
+
 /// What is bad about a value that does not fit: that it has no offset, or that it has one.
-fn unfit(found: &Found) -> Bad
-    ensures unfit { result ≡ unfit found.now }
+#[cold]
+#[inline(never)]
+fn unfit(found: &Found, head: &[u8]) -> Bad
+    requires within { IsWithin found.now head.now }
+    ensures unfit { result ≡ unfit head.now found.now }
 {
     if found.offset.is_some() {
+        let place = found.from + offset_place(&head[found.from..found.to]);
         Bad {
-            place: found.from,
+            place,
             why: Why::NoOffset,
         }
     } else {
@@ -242,7 +284,7 @@ impl Scan<'_> {
     #[inline(always)]
     pub fn judged(&self, reading: Reading, head: &[u8]) -> Line
         requires within { IsReadWithin reading head.now }
-        ensures judged { result ≡ judged self.now reading }
+        ensures judged { result ≡ judged self.now head.now reading }
         ensures within { IsFoundWithin result head.now }
     {
         match reading {
@@ -252,13 +294,13 @@ impl Scan<'_> {
                 }
                 match self.offsets {
                     Offsets::AsBounds(_) => Line::Unfit,
-                    _ => Line::Bad(unfit(&found)),
+                    _ => Line::Bad(unfit(&found, head)),
                 }
             }
             Reading::Bad(bad) => Line::Bad(bad),
             Reading::Undated(place) => {
                 if self.undated_lines == UndatedLines::Bad {
-                    let why = Why::Parse(ParseError::TooShort);
+                    let why = why_undated(self.reader.form);
                     Line::Bad(Bad { place, why })
                 } else {
                     Line::Undated

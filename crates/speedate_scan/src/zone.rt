@@ -3,17 +3,15 @@
 ghost use Rattle.std.specs.Prelude.{◌≡◌, ◌+◌, ◌<◌, ◌≤◌, IfErr, IfOk, IfSome, IsTrue, None, Some, drop, length, slice_index, if◌then◌else◌};
 ghost use Rattle.std.specs.Option.{ForSome};
 ghost use Rattle.speedate_base.specs.Digits.{two_digit_value, two_digits_at};
-ghost use Rattle.speedate_base.specs.Numbers.{with_sign};
 ghost use Rattle.speedate_base.specs.Offset.{IsOffset};
-ghost use Rattle.speedate_base.specs.Timestamp.{seconds_per_day};
 ghost use Rattle.speedate_civil.specs.Time.{has_minus_sign, is_plus_or_minus, is_utc};
 ghost use Rattle.speedate_scan.specs.Zone.{apart, has_utc_name, is_boundary, joins};
 ghost use Rattle.speedate_scan.specs.Zone.{late_zone, minute_zone, signed_zone, zone_after_blank};
-ghost use Rattle.speedate_scan.specs.Zone.{has_minute, may_begin_zone, zone_front};
+ghost use Rattle.speedate_scan.specs.Zone.{has_minute, hour_zone, may_begin_zone, zone_front};
 
 use speedate::{ParseError, Refused};
 use speedate_base::numbers::byte_at;
-use speedate_base::util::SECONDS_PER_DAY;
+use speedate_civil::time::{has_minus_sign, is_plus_or_minus, signed_offset, with_sign};
 
 /// Whether a byte joins a digit after it to what comes before it.
 #[inline(always)]
@@ -65,82 +63,74 @@ fn digits_at(text: &[u8], place: usize) -> Option<u8>
     Some(10 * (tens - b'0') + (ones - b'0'))
 }
 
-/// A size with its sign.
-fn with_sign(west: bool, size: u32) -> i32
-    requires { size < seconds_per_day }
-    ensures value { result ≡ with_sign west size }
-    ensures range { IsOffset result }
-{
-    if west { -(size as i32) } else { size as i32 }
-}
-
-/// The zone by the bytes after its sign, which are at `start` of the whole text: `HH:MM`, `HHMM` or `HH`. It is
-/// 3,600, and three bytes with the sign, for `b"01"` east of UTC.
+/// The zone by the bytes after its sign, which takes the first `sign` bytes of a text that begins at `start` of the
+/// whole: `HH:MM`, `HHMM` or `HH`. It is 3,600, and three bytes, for `b"+01"` and 1, east of UTC.
 #[tactic(auto, unfolding(crate::specs::Zone::signed_zone))]
 fn signed_zone(
-    numbers: &[u8],
+    rest: &[u8],
     west: bool,
     sign: usize,
     start: usize,
 ) -> Result<(Option<i32>, usize), Refused>
     requires start { start + 8 ≤ usize.MAX }
-    requires sign { sign ≤ 3 }
-    ensures zone { result ≡ signed_zone start west sign numbers.now }
+    requires sign { sign ≤ length rest.now }
+    requires short { sign ≤ 3 }
+    ensures zone { result ≡ signed_zone (start + sign) west sign (drop sign rest.now) }
     ensures range { IfOk result (λ zone. ForSome zone.0 IsOffset) }
-    ensures size { IfOk result (λ zone. zone.1 ≤ sign + length numbers.now) }
-    ensures place { IfErr result (λ refused. refused.place ≤ start + length numbers.now) }
+    ensures size { IfOk result (λ zone. zone.1 ≤ length rest.now) }
+    ensures place { IfErr result (λ refused. refused.place ≤ start + length rest.now) }
 {
-    let Some(hour) = digits_at(numbers, 0) else {
-        return Ok((None, 0));
-    };
-    let place = if byte_at(numbers, 2) == b':' { 3 } else { 2 };
-    let Some(minute) = digits_at(numbers, place) else {
-        let size = 3600 * u32::from(hour);
-        if size >= SECONDS_PER_DAY {
-            return Err(Refused {
-                fault: ParseError::OutOfRangeTz,
-                place: start,
-            });
-        }
-        return Ok((Some(with_sign(west, size)), sign + 2));
-    };
-    if minute > 59 {
-        return Err(Refused {
-            fault: ParseError::OutOfRangeTzMinute,
-            place: start + place,
-        });
+    let numbers = &rest[sign..];
+    if has_minute(numbers) {
+        return signed_offset(west, sign, rest, sign, start + sign);
     }
-    let size = 3600 * u32::from(hour) + 60 * u32::from(minute);
-    if size >= SECONDS_PER_DAY {
+    match digits_at(numbers, 0) {
+        Some(hour) => hour_zone(hour, west, sign, start + sign),
+        None => Ok((None, 0)),
+    }
+}
+
+/// The zone of an hour, which is at `start` of the whole text, after a sign of so many bytes.
+fn hour_zone(
+    hour: u8,
+    west: bool,
+    sign: usize,
+    start: usize,
+) -> Result<(Option<i32>, usize), Refused>
+    requires short { sign ≤ 3 }
+    ensures zone { result ≡ hour_zone start west sign hour }
+    ensures range { IfOk result (λ zone. ForSome zone.0 IsOffset) }
+    ensures size { IfOk result (λ zone. zone.1 ≡ sign + 2) }
+    ensures place { IfErr result (λ refused. refused.place ≡ start) }
+{
+    if hour > 23 {
         return Err(Refused {
             fault: ParseError::OutOfRangeTz,
             place: start,
         });
     }
-    Ok((Some(with_sign(west, size)), sign + (place + 2)))
+    Ok((Some(with_sign(west, 3600 * u32::from(hour))), sign + 2))
 }
 
 /// Whether a text begins with `UTC` or `GMT`.
 fn has_utc_name(text: &[u8]) -> bool
     ensures name { result ≡ has_utc_name text.now }
 {
-    matches!(
-        (byte_at(text, 0), byte_at(text, 1), byte_at(text, 2)),
-        (b'U', b'T', b'C') | (b'G', b'M', b'T')
-    )
+    text.starts_with(b"UTC") || text.starts_with(b"GMT")
 }
 
-/// The zone by the bytes after its sign, if it is `HH:MM` or `HHMM` and an offset.
+/// The zone of a text that begins with its sign, if it is `HH:MM` or `HHMM` and an offset.
 #[tactic(auto, unfolding(crate::specs::Zone::minute_zone))]
-fn minute_zone(numbers: &[u8], west: bool) -> (Option<i32>, usize)
-    ensures zone { result ≡ minute_zone west numbers.now }
+fn minute_zone(text: &[u8], west: bool) -> (Option<i32>, usize)
+    requires sign { 1 ≤ length text.now }
+    ensures zone { result ≡ minute_zone west (drop 1 text.now) }
     ensures range { ForSome result.0 IsOffset }
-    ensures size { IfSome result.0 (λ offset. result.1 ≤ 1 + length numbers.now) }
+    ensures size { IfSome result.0 (λ offset. result.1 ≤ length text.now) }
 {
-    if !has_minute(numbers) {
+    if !has_minute(&text[1..]) {
         return (None, 0);
     }
-    match signed_zone(numbers, west, 1, 0) {
+    match signed_zone(text, west, 1, 0) {
         Ok(zone) => zone,
         Err(_) => (None, 0),
     }
@@ -152,14 +142,6 @@ fn has_minute(numbers: &[u8]) -> bool
 {
     let place = if byte_at(numbers, 2) == b':' { 3 } else { 2 };
     digits_at(numbers, 0).is_some() && digits_at(numbers, place).is_some()
-}
-
-/// Whether a byte is `+` or `-`.
-#[inline(always)]
-fn is_plus_or_minus(byte: u8) -> bool
-    ensures sign { result ≡ is_plus_or_minus byte }
-{
-    byte == b'+' || byte == b'-'
 }
 
 /// The zone at the front of what follows a blank, whatever comes after it.
@@ -176,7 +158,7 @@ fn apart(text: &[u8]) -> (Option<i32>, usize)
         return (Some(0), 1);
     }
     if is_plus_or_minus(first) {
-        return minute_zone(&text[1..], first == b'-');
+        return minute_zone(text, first == b'-');
     }
     (None, 0)
 }
@@ -250,18 +232,10 @@ pub fn zone_front(rest: &[u8], start: usize) -> Result<(Option<i32>, usize), Ref
         return Ok((Some(0), 1));
     }
     if is_plus_or_minus(first) {
-        return signed_zone(&rest[1..], first == b'-', 1, start + 1);
+        return signed_zone(rest, first == b'-', 1, start);
     }
-    if has_minus_sign(rest) {
-        return signed_zone(&rest[3..], true, 3, start + 3);
+    if has_minus_sign(rest, 0) {
+        return signed_zone(rest, true, 3, start);
     }
     Ok(late_zone(rest))
-}
-
-/// Whether a text begins with U+2212, the minus sign, in three bytes.
-fn has_minus_sign(text: &[u8]) -> bool
-    ensures sign { result ≡ has_minus_sign text.now }
-    ensures there { IsTrue result → 3 ≤ length text.now }
-{
-    byte_at(text, 0) == 0xe2 && byte_at(text, 1) == 0x88 && byte_at(text, 2) == 0x92
 }

@@ -12,7 +12,7 @@ ghost use Rattle.speedate_sort.specs.Sort.{key_after, key_of};
 ghost use Rattle.speedate_stream.specs.Run.{AppendsBeginning, OnlyWrites};
 
 use crate::sort::{Keys, Unread};
-use speedate_scan::scan::Offsets;
+use speedate_scan::scan::{Offsets, Scan};
 use speedate_stream::run::{head, pass, send};
 use speedate_stream::{Failed, Pending, Watched};
 use std::alloc::{AllocError, Global};
@@ -56,6 +56,12 @@ pub struct Halted {
     pub index: usize,
     /// Why its lines ended.
     pub halt: Halt,
+}
+
+/// What is told of bad values as soon as they are read.
+pub trait Reporter {
+    /// Tells the values of a source that are bad after so many others, by what is known of its lines.
+    fn report(&mut self, scan: &Scan<'_>, told: u64);
 }
 
 /// A file of which one line is in memory.
@@ -140,8 +146,8 @@ impl<R: BufRead> Source<'_, R> {
     ///
     /// The lines of the source end before its input if a read fails or memory runs out, after a bad
     /// value if that is to end the run, at a value that is less than the one before it, and at one
-    /// that is unlike those of the others.
-    pub fn next(&mut self, offsets: &mut Offsets) -> Result<(), Halt>
+    /// that is unlike those of the others. Bad values up to there are told.
+    pub fn next<P: Reporter>(&mut self, offsets: &mut Offsets, reporter: &mut P) -> Result<(), Halt>
         ensures moves { OnOk result (IsSome (R.remaining self.old.input) →
             Moves (R.remaining self.old.input) (R.remaining self.new.input)
             self.old.keys self.new.keys self.new.line.items) }
@@ -157,7 +163,12 @@ impl<R: BufRead> Source<'_, R> {
         ensures alike { OnOk result (are_unlike offsets.old self.new.keys.scan.offsets ≡ false) }
         ensures settled { StaysSettled offsets.old offsets.new }
     {
-        match self.advance() {
+        let told = self.keys.scan.bad;
+        let advanced = self.advance();
+        if self.keys.scan.bad != told {
+            reporter.report(&self.keys.scan, told);
+        }
+        match advanced {
             Ok(()) => {}
             Err(halt) => return Err(halt),
         }
@@ -254,11 +265,12 @@ fn is_unlike(first: Offsets, second: Offsets) -> bool
 }
 
 /// Prints the line of a source, and reads up to the next one that is not left out.
-fn step<R: BufRead, W: Write>(
+fn step<R: BufRead, W: Write, P: Reporter>(
     source: &mut Source<'_, R>,
     offsets: &mut Offsets,
     pending: &mut Pending,
     output: &mut Watched<W>,
+    reporter: &mut P,
 ) -> Result<Option<Halt>, Failed>
     ensures printed { OnlyWrites W.contents output.old output.new result pending.new.items
         (pending.old.items ++ source.old.line.items) }
@@ -272,18 +284,19 @@ fn step<R: BufRead, W: Write>(
     ensures settled { StaysSettled offsets.old offsets.new }
 {
     pass(&source.line, pending, output)?;
-    Ok(match source.next(offsets) {
+    Ok(match source.next(offsets, reporter) {
         Ok(()) => None,
         Err(halt) => Some(halt),
     })
 }
 
 /// Prints the lines of sources in the order of their values, up to the first line that is out of order.
-fn merge_lines<R: BufRead, W: Write>(
+fn merge_lines<R: BufRead, W: Write, P: Reporter>(
     sources: &mut [Source<'_, R>],
     offsets: &mut Offsets,
     pending: &mut Pending,
     output: &mut Watched<W>,
+    reporter: &mut P,
 ) -> Result<Option<Halted>, Failed>
     ensures merged { IfOk result (λ halted. AreKnown R.remaining sources.old →
         Merges (files_left R.remaining sources.old)
@@ -301,7 +314,7 @@ fn merge_lines<R: BufRead, W: Write>(
         let Some(best) = choose(sources) else {
             return Ok(None);
         };
-        if let Some(halt) = step(&mut sources[best.index], offsets, pending, output)? {
+        if let Some(halt) = step(&mut sources[best.index], offsets, pending, output, reporter)? {
             return Ok(Some(Halted {
                 index: best.index,
                 halt,
@@ -318,12 +331,13 @@ fn merge_lines<R: BufRead, W: Write>(
 /// sources have them, one source after the other. `Source::next` must have read the first line of each.
 ///
 /// The first line that is out of order ends the merge, and so does a read that fails: what was printed
-/// before is a beginning of what is printed of the lines up to there. Fails with `Failed` if a write or
-/// the flush fails.
-pub fn merge<R: BufRead, W: Write>(
+/// before is a beginning of what is printed of the lines up to there. Bad values are told as soon as they
+/// are read. Fails with `Failed` if a write or the flush fails.
+pub fn merge<R: BufRead, W: Write, P: Reporter>(
     sources: &mut [Source<'_, R>],
     mut offsets: Offsets,
     output: &mut Watched<W>,
+    reporter: &mut P,
 ) -> Result<Option<Halted>, Failed>
     // The lines of each source are in order, and what was written are the lines in the order of their
     // values.
@@ -344,7 +358,7 @@ pub fn merge<R: BufRead, W: Write>(
     ensures failed { output.new.failed ≡ (output.old.failed || is_err result) }
 {
     let mut pending = Pending::new();
-    let halted = merge_lines(sources, &mut offsets, &mut pending, output)?;
+    let halted = merge_lines(sources, &mut offsets, &mut pending, output, reporter)?;
     send(&mut pending, output)?;
     output.flush()?;
     Ok(halted)

@@ -340,7 +340,7 @@ fn time_after_date<E: Refusal>(
 
 /// Whether a separator follows the ten bytes of a date: `T`, `t`, a space or `_`.
 #[inline(always)]
-pub(super) fn has_separator(bytes: &[u8]) -> bool
+pub fn has_separator(bytes: &[u8]) -> bool
     ensures value { result ≡ is_separator (slice_index bytes.now 10) }
     ensures there { IsTrue result → 11 ≤ length bytes.now }
 {

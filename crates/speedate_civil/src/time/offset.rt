@@ -175,7 +175,7 @@ pub fn end_fault(offset: Option<i32>) -> ParseError
 
 /// Whether a byte is `+` or `-`, the neighbours of `,`: one test, and so one branch, finds both.
 #[inline(always)]
-pub(super) fn is_plus_or_minus(byte: u8) -> bool
+pub fn is_plus_or_minus(byte: u8) -> bool
     ensures value { result ≡ is_plus_or_minus byte }
 {
     byte.abs_diff(b',') == 1
@@ -183,7 +183,7 @@ pub(super) fn is_plus_or_minus(byte: u8) -> bool
 
 /// Whether the three bytes of U+2212, the minus sign, begin at `place`.
 #[inline(always)]
-pub(super) fn has_minus_sign(bytes: &[u8], place: usize) -> bool
+pub fn has_minus_sign(bytes: &[u8], place: usize) -> bool
     requires { place ≤ length bytes.now }
     ensures value { result ≡ has_minus_sign (drop place bytes.now) }
     ensures there { IsTrue result → place + 3 ≤ length bytes.now }
@@ -204,7 +204,7 @@ pub(super) fn is_utc(byte: u8) -> bool
 /// The offset whose hour begins at `place`, and at `start` of the whole text, west of UTC or east of it, and
 /// how many bytes it takes with its sign, which has `sign` bytes.
 #[inline(always)]
-pub(super) fn signed_offset<E: Refusal>(
+pub fn signed_offset<E: Refusal>(
     west: bool,
     sign: usize,
     bytes: &[u8],
@@ -278,8 +278,8 @@ fn hour_then_minute<E: Refusal>(front: u8x8, start: usize) -> Result<((u8, u8), 
     Ok(((hour, minute), 4))
 }
 
-/// An offset of this size, with its sign.
-fn with_sign(west: bool, size: u32) -> i32
+/// An offset of this size in seconds, with its sign: -3,600 west of UTC for 3,600.
+pub fn with_sign(west: bool, size: u32) -> i32
     requires { size < seconds_per_day }
     ensures value { result ≡ with_sign west size }
     ensures range { IsOffset result }

@@ -5,8 +5,8 @@ use super::sorted::Breaking;
 use super::words_of;
 use speedate_options::commands::first_merge;
 use speedate_options::program::program;
-use speedate_scan::scan::Offsets;
-use speedate_sort::merge::{Before, Halt, Halted, Source as FileSource, merge};
+use speedate_scan::scan::{Offsets, Scan};
+use speedate_sort::merge::{Before, Halt, Halted, Reporter, Source as FileSource, merge};
 use speedate_sort::sort::{Keys, Unread};
 use speedate_stream::{Failed, Watched};
 use std::alloc::AllocError;
@@ -122,6 +122,19 @@ x\n\
 struct Ended {
     halted: Result<Option<Halted>, Failed>,
     taken: Vec<u8>,
+    told: u64,
+}
+
+/// Counts the bad values that are told.
+#[derive(Drop)]
+struct Told {
+    count: u64,
+}
+
+impl Reporter for Told {
+    fn report(&mut self, scan: &Scan<'_>, told: u64) {
+        self.count = self.count.saturating_add(scan.bad.saturating_sub(told));
+    }
 }
 
 /// A run of the command of a command line over two readers.
@@ -142,10 +155,11 @@ fn merged<R: AllocGlobal + Abort, I: Read + Drop>(
 }
 
 /// What a run leaves that a source ended before the merge.
-fn ended_at(index: usize, halt: Halt, sink: Sink) -> Ended {
+fn ended_at(index: usize, halt: Halt, sink: Sink, told: &Told) -> Ended {
     Ended {
         halted: Ok(Some(Halted { index, halt })),
         taken: sink.taken,
+        told: told.count,
     }
 }
 
@@ -162,19 +176,23 @@ fn merged_with<R: AllocGlobal + Abort, I: Read + Drop>(
     let mut first = FileSource::new(keys, first, rt.alloc());
     let mut second = FileSource::new(keys, second, rt.alloc());
     let mut offsets = Offsets::AsFirst;
-    if let Err(halt) = first.next(&mut offsets) {
-        return ended_at(0, halt, sink);
+    let mut told = Told { count: 0 };
+    if let Err(halt) = first.next(&mut offsets, &mut told) {
+        return ended_at(0, halt, sink, &told);
     }
-    if let Err(halt) = second.next(&mut offsets) {
-        return ended_at(1, halt, sink);
+    if let Err(halt) = second.next(&mut offsets, &mut told) {
+        return ended_at(1, halt, sink, &told);
     }
     let mut sources = Vec::new(rt.alloc());
     sources.push(first).ok().expect(rt, "merge");
     sources.push(second).ok().expect(rt, "merge");
     let mut output = Watched::new(sink);
-    let halted = merge(&mut sources, offsets, &mut output);
-    let taken = output.into_inner().taken;
-    Ended { halted, taken }
+    let halted = merge(&mut sources, offsets, &mut output, &mut told);
+    Ended {
+        halted,
+        taken: output.into_inner().taken,
+        told: told.count,
+    }
 }
 
 #[test]
@@ -191,6 +209,22 @@ fn merge_prints(rt: HostRuntime) -> Result<(), AllocError> {
             assert_eq!(rt; ended.halted, Ok(halted), "{words}");
             assert_eq!(rt; ended.taken.as_slice(), want.as_bytes(), "{words}");
         }
+    }
+    Ok(())
+}
+
+#[test]
+fn merge_tells_each_bad_value_once(rt: HostRuntime) -> Result<(), AllocError> {
+    let first = "2026-11-22T06:10Z a\n2026-11-22T06:60Z\n2026-11-22T06:11Z\n2026-11-22T06:61Z\n";
+    for (second, told) in [
+        ("", 2),
+        ("2026-11-22T06:12Z\n2026-02-30\n", 3),
+        ("2026-02-30\n", 3),
+    ] {
+        let first = Source::new(first.as_bytes(), usize::MAX);
+        let second = Source::new(second.as_bytes(), usize::MAX);
+        let ended = merged(&rt, "merge", first, second, Sink::new(rt.alloc(), 9))?;
+        assert_eq!(rt; ended.told, told);
     }
     Ok(())
 }

@@ -26,7 +26,7 @@ PT5M\n\
 00:30";
 
 /// Command lines, and what each prints of an input whose name is `app.log`.
-pub const COMMANDS: [(&str, &str, &str); 20] = [
+pub const COMMANDS: [(&str, &str, &str); 25] = [
     (
         "between .. ..",
         LOG,
@@ -75,11 +75,34 @@ trace\n\
 2026-11-22T06:30:00.500000Z d\n\
 ",
     ),
-    ("order", LOG, "app.log:3: PT1M before app.log:1\n"),
+    (
+        "check --order",
+        LOG,
+        "\
+app.log:3: PT1M before app.log:1\n\
+app.log:4:9: expected a day that the month has\n\
+",
+    ),
+    (
+        "check --gap PT21M",
+        LOG,
+        "\
+app.log:4:9: expected a day that the month has\n\
+app.log:5: PT21M0.5S after app.log:3\n\
+",
+    ),
+    (
+        "check --gap PT21M0.5S",
+        LOG,
+        "app.log:4:9: expected a day that the month has\n",
+    ),
     ("sum", DURATIONS, "P1DT2H35M41.5S\n"),
     ("sum", "", "PT0S\n"),
     ("sum", "-PT0S\nx\n", "PT0S\n"),
     ("sum", "400 days\n", "P400D\n"),
+    ("sum --to hours", DURATIONS, "26:35:41.500000\n"),
+    ("sum --to hours", "-PT0.5S\n-3 days\n", "-72:00:00.500000\n"),
+    ("sum --to hours", "999999999 days\n", "23999999976:00:00\n"),
     ("sum", "-364 days\n-PT25H\n", "-P365DT1H\n"),
     ("sum", "999999999 days\n24:00\n", ""),
     (
@@ -170,283 +193,6 @@ bad 0\n\
 out of order 0\n\
 earliest 2026-11-22T06:10:00Z\n\
 latest 2026-11-22T06:10:00Z\n\
-",
-    ),
-];
-
-/// The same with the options.
-pub const OPTIONS: [(&str, &str, &str); 34] = [
-    (
-        "between -n -H .. ..",
-        LOG,
-        "\
-app.log:1:2026-11-22T06:10:00Z a\n\
-app.log:2:trace\n\
-app.log:3:[2026-11-22T07:09:00+01:00] b\n\
-app.log:4:2026-02-30T00:00Z c\n\
-app.log:5:2026-11-22T06:30:00.5Z d\n\
-",
-    ),
-    (
-        "between --number --name --undated drop .. ..",
-        LOG,
-        "\
-app.log:1:2026-11-22T06:10:00Z a\n\
-app.log:3:[2026-11-22T07:09:00+01:00] b\n\
-app.log:4:2026-02-30T00:00Z c\n\
-app.log:5:2026-11-22T06:30:00.5Z d\n\
-",
-    ),
-    (
-        "convert -n",
-        LOG,
-        "\
-1:2026-11-22T06:10:00Z a\n\
-2:trace\n\
-3:[2026-11-22T07:09:00+01:00] b\n\
-4:2026-02-30T00:00Z c\n\
-5:2026-11-22T06:30:00.500000Z d\n\
-",
-    ),
-    (
-        "convert --to utc",
-        LOG,
-        "\
-2026-11-22T06:10:00Z a\n\
-trace\n\
-[2026-11-22T06:09:00Z] b\n\
-2026-02-30T00:00Z c\n\
-2026-11-22T06:30:00.500000Z d\n\
-",
-    ),
-    (
-        "convert --to +0530",
-        LOG,
-        "\
-2026-11-22T11:40:00+05:30 a\n\
-trace\n\
-[2026-11-22T11:39:00+05:30] b\n\
-2026-02-30T00:00Z c\n\
-2026-11-22T12:00:00.500000+05:30 d\n\
-",
-    ),
-    (
-        "convert --to text --bad keep",
-        LOG,
-        "\
-2026-11-22T06:10:00Z a\n\
-trace\n\
-[2026-11-22T07:09:00+01:00] b\n\
-2026-02-30T00:00Z c\n\
-2026-11-22T06:30:00.500000Z d\n\
-",
-    ),
-    (
-        "convert --undated drop -H",
-        LOG,
-        "\
-app.log:2026-11-22T06:10:00Z a\n\
-app.log:[2026-11-22T07:09:00+01:00] b\n\
-app.log:2026-02-30T00:00Z c\n\
-app.log:2026-11-22T06:30:00.500000Z d\n\
-",
-    ),
-    (
-        "check --after ts=",
-        "\
-hosts=3 ts=2026-11-22T06:10Z,ts=\n\
-ts=2026-13-22T06:10Z\n\
-ts\n\
-",
-        "app.log:2:9: expected month, 01 to 12\n",
-    ),
-    (
-        "check --undated bad",
-        LOG,
-        "\
-app.log:2:1: expected a date-time: YYYY-MM-DDTHH:MM or YYYY-MM-DDTHH:MM:SS\n\
-app.log:4:9: expected a day that the month has\n\
-",
-    ),
-    (
-        "check --bad stop --undated bad",
-        LOG,
-        "app.log:2:1: expected a date-time: YYYY-MM-DDTHH:MM or YYYY-MM-DDTHH:MM:SS\n",
-    ),
-    (
-        "check --strict",
-        "\
-2026-11-22T06:10Z\n\
-2026-11-22T06:10:00Z\n\
-",
-        "app.log:1:17: expected a colon, as in HH:MM:SS\n",
-    ),
-    (
-        "check --kind date",
-        "\
-2026-11-22,x\n\
-2026-11-31x\n\
-2026-11-22x\n\
-",
-        "\
-app.log:2:9: expected a day that the month has\n\
-app.log:3:11: expected the end of the value\n\
-",
-    ),
-    ("convert --kind date", "[2026-11-22]x\n", "[2026-11-22]x\n"),
-    (
-        "check",
-        CLOCKS,
-        "app.log:1:27: expected at most six digits of a second's fraction\n",
-    ),
-    ("check --digits truncate", CLOCKS, ""),
-    ("order", CLOCKS, ""),
-    ("order --digits refuse", CLOCKS, ""),
-    (
-        "between --offset +01:00 2026-11-22 2026-11-22T05:11Z",
-        CLOCKS,
-        "\
-2026-11-22 06:10:00,1234567 a\n\
-2026-11-22T06:10:00.123456 b\n\
-",
-    ),
-    (
-        "convert --offset -01 --to Z --digits truncate",
-        CLOCKS,
-        "\
-2026-11-22T07:10:00.123456Z a\n\
-2026-11-22T07:10:00.123456Z b\n\
-",
-    ),
-    (
-        "convert --header",
-        LOG,
-        "\
-2026-11-22T06:10:00Z a\n\
-trace\n\
-[2026-11-22T07:09:00+01:00] b\n\
-2026-02-30T00:00Z c\n\
-2026-11-22T06:30:00.500000Z d\n\
-",
-    ),
-    (
-        "check --header",
-        "\
-2026-02-30\n\
-2026-02-30\n\
-",
-        "app.log:2:9: expected a day that the month has\n",
-    ),
-    (
-        "summary --header",
-        LOG,
-        "\
-lines 5\n\
-values 2\n\
-undated 1\n\
-bad 1\n\
-out of order 0\n\
-earliest 2026-11-22T06:09:00Z\n\
-latest 2026-11-22T06:30:00.500000Z\n\
-longest gap PT21M0.5S before app.log:5\n\
-",
-    ),
-    (
-        "between --header 2027-01-01T00:00Z ..",
-        LOG,
-        "2026-11-22T06:10:00Z a\n",
-    ),
-    (
-        "summary --bad stop",
-        LOG,
-        "\
-lines 4\n\
-values 2\n\
-undated 1\n\
-bad 1\n\
-out of order 1\n\
-earliest 2026-11-22T06:09:00Z\n\
-latest 2026-11-22T06:10:00Z\n\
-",
-    ),
-    (
-        "summary --undated bad",
-        LOG,
-        "\
-lines 5\n\
-values 3\n\
-undated 0\n\
-bad 2\n\
-out of order 1\n\
-earliest 2026-11-22T06:09:00Z\n\
-latest 2026-11-22T06:30:00.500000Z\n\
-longest gap PT21M0.5S before app.log:5\n\
-",
-    ),
-    (
-        "summary --kind date",
-        "\
-2026-11-22\n\
-2026-11-24 x\n\
-",
-        "\
-lines 2\n\
-values 2\n\
-undated 0\n\
-bad 0\n\
-out of order 0\n\
-earliest 2026-11-22T00:00:00\n\
-latest 2026-11-24T00:00:00\n\
-longest gap P2D before app.log:2\n\
-",
-    ),
-    (
-        "summary --after =",
-        "a=2026-11-22T06:10Z\n",
-        "\
-lines 1\n\
-values 1\n\
-undated 0\n\
-bad 0\n\
-out of order 0\n\
-earliest 2026-11-22T06:10:00Z\n\
-latest 2026-11-22T06:10:00Z\n\
-",
-    ),
-    (
-        "sum --header --field 2 --separator ;",
-        "\
-job;took\n\
-a;PT1H\n\
-b;\"00:00:30\"\n\
-c;\n\
-d;\"PT1S\"x\n\
-",
-        "PT1H30S\n",
-    ),
-    ("sum --field 2 --undated drop", "a,PT1H\nb,\n", "PT1H\n"),
-    (
-        "sum --digits truncate",
-        "00:00:01.1234567\n",
-        "PT1.123456S\n",
-    ),
-    ("sum --digits refuse", "00:00:01.1234567\n", "PT0S\n"),
-    ("sum --bad stop", "PT1H\nP1M\nPT1H\n", ""),
-    (
-        "order --offset utc",
-        "\
-2026-11-22T06:10:00 a\n\
-2026-11-22T07:09:59+01:00 b\n\
-",
-        "app.log:2: PT1S before app.log:1\n",
-    ),
-    (
-        "between --bad stop .. ..",
-        LOG,
-        "\
-2026-11-22T06:10:00Z a\n\
-trace\n\
-[2026-11-22T07:09:00+01:00] b\n\
 ",
     ),
 ];
