@@ -22,12 +22,9 @@ import speedate
 CASES = {
     "frame": ("import pandas", "True", "True"),
     "pandas": ("import pandas", "True", "True"),
-    "numpy.frombuffer(column, \"datetime64[us]\")\nframe": (
+    "only for pandas before 2": (
         "import numpy, pandas", "frame['moment'].tolist()",
         "[pandas.Timestamp('2026-11-01T08:00Z'), pandas.NaT, pandas.Timestamp('2026-11-02T08:30Z')]"),
-    "2**63 // 1000": (
-        "import numpy; moments = numpy.array(['9999-12-31', 'NaT', '1677-09-21T00:12:44', '1500-01-01'], 'datetime64[us]'); import pandas",
-        "pandas.Series(moments).isna().tolist()", "[True, True, False, True]"),
     "lines = speedate.text_column": (
         "frame = pandas.DataFrame({'moment': pandas.to_datetime(['2020-02-29T12:13:14.5Z', None])})", "lines", "b'2020-02-29T12:13:14.500000Z\\n\\n'"),
     "chunksize": (
@@ -45,6 +42,10 @@ CASES = {
 }
 
 
+# Accepted, and for pandas before 2 out of its range.
+WIDE = ["9999-12-31T00:00Z", "1500-01-01T00:00Z"]
+
+
 def moved(frame, block):
     """A frame after a block that reads it from a file."""
     import pandas
@@ -53,7 +54,7 @@ def moved(frame, block):
     exec("import datetime, numpy, speedate", names)
     names["pandas"] = types.SimpleNamespace(**{**vars(pandas), "read_csv": lambda *_, **named: frame.copy()})
     exec(block, names)
-    check_refused(frame, names["refused"], [None, "", *frame["moment"][names["frame"]["moment"].notna()]])
+    check_refused(frame, names["refused"], [None, "", *WIDE, *frame["moment"][names["frame"]["moment"].notna()]])
     return names["frame"]
 
 
@@ -70,7 +71,7 @@ def frames():
     import pandas
 
     texts = [f"{1700 + it * 7 % 500}-0{it % 9 + 1}-1{it % 10}T{it % 24:02}:00{('Z', '+01:00', '-05:30')[it % 3]}" for it in range(500)]
-    cells = {7: None, 8: "2021-02-30T00:00Z", 9: ""}
+    cells = {7: None, 8: "2021-02-30T00:00Z", 9: "", 10: WIDE[0], 11: WIDE[1]}
     frame = pandas.DataFrame({"number": range(500), "moment": [cells.get(it % 50, text) for it, text in enumerate(texts)]})
     yield "sorted", frame.sort_values("moment"), moved
     yield "filtered", frame[frame["number"] % 3 == 1], moved
