@@ -14,7 +14,7 @@ const VERSION_MINOR: u32 = 0;
 fn main() {
     let target = env::var("TARGET").expect("cargo sets TARGET");
     let Some(processor) = Processor::of_target() else {
-        let only = "the library is built for Linux on x86-64 and 64-bit ARM alone";
+        let only = "the library is only for Linux on x86-64 and 64-bit ARM";
         return println!("cargo::error={only}, and the target is {target}");
     };
     let refused = match Installed::found(&target, processor).and_then(Installed::checked) {
