@@ -1,7 +1,7 @@
 # For the scripts of bin/.
 # shellcheck shell=sh
 
-# at_end COMMAND: has a command run when the script ends, also by a signal: dash runs no trap of EXIT then.
+# at_end COMMAND: runs a command when the script ends. A signal ends it too, and then dash does not run the trap of EXIT.
 at_end() {
     # shellcheck disable=SC2064
     trap "$1" EXIT

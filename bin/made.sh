@@ -1,10 +1,10 @@
-# For bin/gate, bin/build_program, bin/build_c and bin/build_js, which set `name` and `root`: what they build is kept in
-# out/ under one sum of the sources and of the kit, so what was built of others is never found. Status 3: it could not.
+# For bin/gate, bin/build_program, bin/build_c and bin/build_js, which set `name` and `root`. What they build is kept in out/
+# under a sum of the sources and of the kit, so what was built from others is never found. Status 3: it failed.
 # shellcheck shell=sh disable=SC2086,SC2154
 
 . "$root/bin/at_end.sh"
 
-# What the programs and the C functions stand on, lowest first.
+# The libraries that the programs and the C functions need, lowest first.
 libraries='speedate_base speedate_civil speedate'
 # The programs.
 programs='speedate_lines speedate'
@@ -17,7 +17,7 @@ crate_of() {
     esac
 }
 
-# own_libraries PROGRAM: prints what a program stands on besides, lowest first.
+# own_libraries PROGRAM: prints the other libraries that a program needs, lowest first.
 own_libraries() {
     case $1 in
     speedate) echo speedate_stream speedate_scan speedate_commands speedate_sort speedate_options ;;
@@ -34,8 +34,8 @@ fail() {
     exit 3
 }
 
-# read_options WITH_VALUE WITHOUT ARGUMENT..: sets the variable of each option: to its value, to `yes` if it has none, or to
-# nothing if it is not given. -h and --help print the usage.
+# read_options WITH_VALUE WITHOUT ARGUMENT..: sets the variable of each option to its value, or to `yes` if the option has no
+# value. The variable of an option that is not given is empty. -h and --help print the usage.
 read_options() {
     with_value=$1 without=$2
     shift 2
@@ -60,7 +60,7 @@ read_options() {
     done
 }
 
-# Sets `version`, with which CHANGELOG.md begins.
+# Sets `version` to the version with which CHANGELOG.md begins.
 read_version() {
     version=$(sed -n '/^## /{s///p;q;}' "$root/CHANGELOG.md")
     case $version in
@@ -73,14 +73,14 @@ read_version() {
 # Prints the seconds since 1970 of SOURCE_DATE_EPOCH, or of the last commit, or nothing.
 show_date() { printf '%s' "${SOURCE_DATE_EPOCH-$(git -C "$root" log -1 --format=%ct 2>/dev/null)}"; }
 
-# build_in FOLDER ARGUMENT..: has the rest done in a build folder, so that nothing is written beside these sources: copies
-# them there, with the C library that was built of them, and becomes the same script there, with these arguments.
+# build_in FOLDER ARGUMENT..: continues in a build folder, so that nothing is written beside these sources. It copies them
+# there, with the C library that was built from them, and then runs the same script there, with these arguments.
 build_in() {
     build=$(mkdir -p "$1" && readlink -f "$1") || fail "the folder $1 cannot be made"
     shift
     [ "$build" != "$root" ] || return 0
     [ -f "$build/.build" ] || [ -z "$(ls -A "$build")" ] || fail "$build is not empty, and is no build folder"
-    # Sources of an earlier copy can have gone.
+    # An earlier copy may have sources that are gone.
     for it in "$root"/*; do
         [ ! -d "$build/${it##*/}" ] || find "$build/${it##*/}" -name out -prune -o -type f -exec rm -f {} +
     done
@@ -100,15 +100,15 @@ find_kit() {
     kit=${kit%/bin/rt}
 }
 
-# Prints what tells the kit from others.
+# Prints what identifies the kit.
 show_kit() {
     find_kit
-    # KIT-ID is what `rt version` prints, which alone would take longer than a sum.
+    # KIT-ID has what `rt version` prints. Just running rt would take longer than a sum.
     cat "$kit/KIT-ID" 2>/dev/null || rt version </dev/null || fail 'rt version failed'
 }
 
-# sum_by KIT CRATE..: one sum for all that crates are made from: their sources, whatever their dates, and the kit that
-# show_kit has printed. No other crate is part of it.
+# sum_by KIT CRATE..: prints one sum of all that these crates are made from: their sources, whatever their dates are, and the
+# kit that show_kit has printed. Other crates are not part of it.
 sum_by() {
     identity=$1
     shift
@@ -119,14 +119,14 @@ sum_by() {
     echo "${sum%% *}"
 }
 
-# sum_of CRATE..: the same by the kit on the PATH.
+# sum_of CRATE..: prints the same for the kit on the PATH.
 sum_of() {
     by=$(show_kit) || exit 3
     sum_by "$by" "$@"
 }
 
-# keep FILE NAME: keeps a file in out/ under a name with a sum after its last hyphen. It gets the name last and whole,
-# and files with another sum there go.
+# keep FILE NAME: keeps a file in out/ under a name with a sum after its last hyphen. The copy gets this name when it is
+# complete. Files with the same name but another sum are removed.
 keep() {
     kept=$root/out/$2
     cp "$1" "$kept.$$" && mv "$kept.$$" "$kept" || return
@@ -135,15 +135,15 @@ keep() {
     done
 }
 
-# put FILE PLACE MODE: installs a file, whatever the umask is. It gets its name last and whole.
+# put FILE PLACE MODE: installs a file, whatever the umask is. The copy gets its name when it is complete.
 put() {
     (umask 022 && mkdir -p "${2%/*}") || fail "the folder ${2%/*} cannot be made"
     cp "$1" "$2.$$" && chmod "$3" "$2.$$" && mv "$2.$$" "$2" || fail "$2 cannot be written"
 }
 
-# make_once FILE COMMAND..: has a file of out/ made by a command, if it is not there. The second of two first runs
-# waits, and finds what the first has made. Where there is no flock it makes that once more after the first, since rt
-# lets one at a time work in a crate.
+# make_once FILE COMMAND..: runs a command that makes a file of out/, if the file is not there. If two scripts need it at
+# the same time, the second waits, and finds what the first has made. Without flock the second makes it again after the
+# first, because only one rt at a time can work in a crate.
 make_once() {
     [ ! -f "$1" ] || return 0
     mkdir -p "$root/out" || fail 'the folder out cannot be made'
@@ -169,7 +169,7 @@ say_crate() {
     say "proving $crate ($place of $at)"
 }
 
-# show_progress CRATE..: hands on the lines of a build, says which crate is being proved, and tells a terminal how far.
+# show_progress CRATE..: passes on the lines of a build, says which crate is being proved, and on a terminal also how far it is.
 show_progress() {
     while IFS= read -r line; do
         printf '%s\n' "$line"
@@ -181,12 +181,12 @@ show_progress() {
     done
 }
 
-# prove CRATE COMMAND..: runs a command that proves a crate and builds it, in its folder. What it said stands in a log,
-# and on standard error if it failed.
+# prove CRATE COMMAND..: runs a command that proves a crate and builds it, in its folder. The output goes to a log, and to
+# standard error if the command failed.
 prove() {
     top=$1 log=$root/out/$1.log
     shift
-    # One of an earlier run would be read in its place.
+    # Otherwise the log of an earlier run could be read in its place.
     true >"$log" || fail "$log cannot be written"
     {
         (cd "$root/crates/$top" && "$@") </dev/null 2>&1
@@ -198,8 +198,8 @@ prove() {
     }
 }
 
-# over_libraries COMMAND..: builds the libraries, lowest first, and runs a command of rt in the folder of a crate above them.
-# By itself rt would, as long as one of them is missing, look through the sources of all before it proves any.
+# over_libraries COMMAND..: builds the libraries, lowest first, and then runs a command of rt in the folder of a crate above
+# them. If one of them is missing, rt itself would look through the sources of all of them before it proves any.
 over_libraries() {
     for it in $libraries; do
         (cd "../$it" && rt lib) || return
@@ -207,8 +207,8 @@ over_libraries() {
     "$@"
 }
 
-# Sets `cpu`, the flags by which the C functions are built for every processor of a target: those of x86-64 lack what the
-# kit would use otherwise, and no call of a library asks for the processor.
+# Sets `cpu`, the flags with which the C functions are built for every processor of a target. For x86-64 the kit would otherwise
+# use instructions that some processors lack, and no call of a library asks which processor it runs on.
 find_cpu() {
     case $triple in
     x86_64-*) cpu='--cpu x86-64' ;;
@@ -217,7 +217,7 @@ find_cpu() {
 }
 
 # build_archive TRIPLE: leaves the static library of these sources and this kit in out/, and sets `archive` to its path.
-# Where there is no kit it takes the one of these sources that is there, by whichever kit.
+# Without a kit it uses the library of these sources that is there, whichever kit built it.
 build_archive() {
     triple=$1
     if ! command -v rt >/dev/null && find_archive; then
@@ -229,7 +229,7 @@ build_archive() {
     [ -f "$archive.kit" ] || show_kit | put /dev/stdin "$archive.kit" 644
 }
 
-# Sets `archive` to the static library of these sources. The kit that built it stands in a file beside it.
+# Sets `archive` to the static library of these sources. A file beside it names the kit that built it.
 find_archive() {
     for it in "$root/out/speedate_c-$triple"-*.a.kit; do
         archive=${it%.kit}
@@ -251,7 +251,7 @@ make_archive() {
         say_crate speedate_c $libraries speedate_c
         prove speedate_c build_over_gate || fail 'the library was not built'
     else
-        say 'proving and building, which takes about ten minutes the first time'
+        say 'proving and building, which can take long the first time'
         prove speedate_c build_from_sources || fail 'the library was not built'
     fi
     sum_now=$(sum_of $libraries speedate_c) || exit 3
@@ -260,11 +260,11 @@ make_archive() {
 }
 
 build_from_sources() {
-    # The libraries of all targets have one name, so each is copied at once.
+    # The libraries of all targets have the same name, so each one is copied right away.
     over_libraries rt lib --target "$triple" $cpu && cp out/libspeedate_c.a "$made/libspeedate.a"
 }
 
-# Proves and builds the C functions alone, over the libraries that the gate proved.
+# Proves and builds only the C functions, with the libraries that the gate proved.
 build_over_gate() {
     set --
     for it in std $(sed -n 's/^speedate_c .*: //p' "$root/crates.txt"); do
@@ -278,12 +278,12 @@ build_over_gate() {
         --toolchain "$kit/toolchain" --backend llvm -o "$made/libspeedate.a"
     count_jobs
     "$kit/bin/rattle" "$@" --jobs $jobs || {
-        # Killed, most likely for memory.
+        # It was killed, most likely because memory ran out.
         [ $? = 137 ] && "$kit/bin/rattle" "$@" --jobs 1
     }
 }
 
-# Sets `jobs`: one for each processor for which 2 GB are free, at most four.
+# Sets `jobs` to the number of processors for which 2 GB each are free, but at most four.
 count_jobs() {
     free=$(sed -n 's/^MemAvailable: *\([0-9]*\) kB$/\1/p' /proc/meminfo)
     processors=$(nproc)

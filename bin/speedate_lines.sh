@@ -1,6 +1,6 @@
 #!/bin/sh
-# speedate_lines as `bin/build_program --prefix DIR` installs it, which fills in what stands between @ signs. The program
-# looks at no argument, so this answers those that there are.
+# speedate_lines as `bin/build_program --prefix DIR` installs it, which fills in what is between @ signs. The program
+# ignores arguments, so this script answers them.
 
 case $#:${1-} in
 0:*) ;;
