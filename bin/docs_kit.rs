@@ -1,4 +1,4 @@
-// What the signatures of the reference name besides the library's own types: bin/docs puts this before them.
+// What the signatures of the reference name in addition to the library's own types. bin/docs puts this before them.
 use {kit::*, traits::*};
 
 /// No page shows these.
@@ -19,9 +19,9 @@ mod kit {
 pub mod traits {
     use crate::kit::*;
 
-    /// The value once more: a `Result`, since other clones take memory. Of this library it is always `Ok`.
+    /// A copy of the value, in a `Result`, because other clones need memory. For this library's types it is always `Ok`.
     pub trait Clone: Sized {
-        /// The value once more: a `Result`, since other clones take memory. Of this library it is always `Ok`.
+        /// A copy of the value, in a `Result`, because other clones need memory. For this library's types it is always `Ok`.
         fn clone(&self) -> Result<Self, AllocError> { loop {} }
     }
 

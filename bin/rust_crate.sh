@@ -1,5 +1,5 @@
-# For bin/compare and bin/bench, which set `name` and `root`: builds a Cargo project with the Rust crate speedate and
-# the package of rust/. Status 3: something that it needs is missing.
+# For bin/compare and bin/bench, which set `name` and `root`. It builds a Cargo project with the Rust crate speedate and the
+# package of rust/. Status 3: something that it needs is missing.
 # shellcheck shell=sh disable=SC2154
 
 fail() {
@@ -10,7 +10,7 @@ fail() {
 # Where the library is installed, for rust/build.rs.
 export SPEEDATE_DIR="$root/out/prefix"
 
-# Installs the library where it is missing, or older than a source or than the header, which rust/build.rs compares.
+# Installs the library if it is missing, or older than a source or than the header, which rust/build.rs compares.
 build_library() {
     library=$SPEEDATE_DIR/lib/libspeedate.a
     newer=$(find "$root/crates/speedate_base/src" "$root/crates/speedate_civil/src" "$root/crates/speedate/src" \
@@ -20,8 +20,8 @@ build_library() {
     fi
 }
 
-# copy_crate INTO: copies the sources of the crate, with the paths that they name, and another version than that of
-# rust/Cargo.toml: cargo knows packages in folders by name and version alone.
+# copy_crate INTO: copies the sources of the crate, with the paths that they name. The copy gets another version than
+# rust/Cargo.toml has, because cargo identifies packages in folders only by name and version.
 copy_crate() {
     sources=$(readlink -f "$SPEEDATE_SOURCES")
     [ -f "$sources/Cargo.toml" ] || fail "SPEEDATE_SOURCES: $SPEEDATE_SOURCES has no Cargo.toml"
@@ -33,7 +33,7 @@ copy_crate() {
 # Where Debian's packages librust-*-dev put crates.
 debian=${DEBIAN_CRATES:-/usr/share/cargo/registry}
 
-# build FOLDER FLAG..: builds the project of a folder; the flags go to cargo.
+# build FOLDER FLAG..: builds the project in a folder. The flags are for cargo.
 build() {
     folder=$root/$1
     shift
@@ -46,7 +46,7 @@ build() {
             set -- --config 'source.crates-io.replace-with="debian"' --config "source.debian.directory=\"$debian\"" "$@"
     fi
     build_library
-    # It was written for the crates of the last run, which may have come from elsewhere.
+    # This file was written for the crates of the last run, which may have come from elsewhere.
     rm -f "$folder/Cargo.lock"
     (cd "$folder" && cargo build -q --release --target-dir target "$@") ||
         fail 'cargo failed; where it cannot reach the crate, SPEEDATE_SOURCES may name a folder that has it'
