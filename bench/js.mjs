@@ -1,7 +1,7 @@
-// What calls of the package take beside the engine's own, after bin/build_js: node bench/js.mjs [--in ENGINE] [FILE]. ENGINE is
-// chromium, firefox-esr or the path of WebKit's MiniBrowser, in place of Node; FILE is another speedate.js that takes turns with
-// that of out/js. A row has 1,024 drawn inputs, gone through four times in each of 100 rounds, of which the lowest counts:
-// nanoseconds a call, and how often that is the time of `new Date(text)`. The last row is a first call, in microseconds.
+// Times calls of the package and of the engine, after bin/build_js: node bench/js.mjs [--in ENGINE] [FILE]. ENGINE is chromium,
+// firefox-esr or the path of WebKit's MiniBrowser, in place of Node. FILE is another speedate.js, which runs in turns with the one
+// of out/js. A row has 1,024 drawn inputs, which each of 100 rounds reads four times. The lowest round counts: nanoseconds for
+// each call, and this divided by the time of `new Date(text)`. The last row is a first call, in microseconds.
 import { readFileSync } from "node:fs";
 import { loadavg } from "node:os";
 import { parseArgs } from "node:util";

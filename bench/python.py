@@ -1,11 +1,11 @@
 """usage: python.py [ROUNDS]
 
-The time of a call of the module beside others: python3 bench/python.py, where the wheel of bin/build_python is installed.
+Times calls of the module and of others. Install the wheel of bin/build_python, and run python3 bench/python.py.
 
-Each row has 1,024 drawn texts, or their values. All calls of a row take turns, and of each the lowest of 300 rounds counts, or
-of as many as ROUNDS says, in nanoseconds for each text. After the others stands the ratio to them: below 1 this module
-took less. Columns have a million texts, and a CSV 300,000 rows. `ciso8601`, `pydantic`, `numpy` and `pandas` are there where
-they are installed; of pydantic it is the call that a field makes. Run it on a quiet machine, more than once, and compare ratios.
+Each row has 1,024 drawn texts, or their values. All calls of a row run in turns, and the lowest of ROUNDS rounds, by default
+300, counts for each, in nanoseconds for each text. After each other call is the ratio to it: below 1, this module is faster.
+Columns have a million texts, and a CSV 300,000 rows. `ciso8601`, `pydantic`, `numpy` and `pandas` have rows if they are
+installed; for pydantic it is the call that a field makes. Run it on a quiet machine, more than once, and compare ratios.
 """
 import csv
 import datetime
@@ -33,7 +33,7 @@ ciso8601, numpy, pandas, pydantic = map(installed, ("ciso8601", "numpy", "pandas
 
 
 def validator(kind):
-    """What a field of pydantic takes a text by, in 2 and in 1."""
+    """The call with which a field of pydantic 2 or 1 parses a text."""
     if hasattr(pydantic, "TypeAdapter"):
         return pydantic.TypeAdapter(kind).validator.validate_python
     fields = {datetime.datetime: "parse_datetime", datetime.date: "parse_date", datetime.time: "parse_time", datetime.timedelta: "parse_duration"}
@@ -109,7 +109,7 @@ def text_rows():
 
 
 def times(calls, inputs, rounds):
-    """The lowest time of a call of each, in nanoseconds for each input. All take turns."""
+    """The lowest time of each call, in nanoseconds for each input. The calls run in turns."""
     lowest = [float("inf")] * len(calls)
     for _ in range(rounds):
         for place, call in enumerate(calls):
@@ -131,7 +131,7 @@ def head(first, *others):
 
 
 def instant(zone):
-    """A date-time of the years that pandas holds."""
+    """A date-time in the years that pandas can store."""
     return f"{draw.randrange(1700, 2200)}{date()[4:]}T{clock()}{zone()}"
 
 

@@ -1,4 +1,4 @@
-//! Rows of calls without a text. Where the Rust crate has no such call, it is put together from those that it has.
+//! Rows of calls without a text. If the Rust crate lacks such a call, its row is made of calls that it has.
 
 use speedate::{DateConfig, DateTime, DateTimeConfig, TimeConfig, TimestampUnit};
 

@@ -1,5 +1,5 @@
-//! Times the calls of this library beside those of the Rust crate `speedate`, and beside other crates where they read
-//! the same texts: nanoseconds a call, over values and texts drawn at random, all in turns, the lowest of many rounds.
+//! Times the calls of this library, of the Rust crate `speedate`, and of other crates that read the same texts, in nanoseconds
+//! for each call. Values and texts are drawn at random, the calls run in turns, and the lowest of many rounds counts.
 
 mod arithmetic;
 mod peers;

@@ -1,4 +1,4 @@
-//! Other crates, each behind the feature of its name, where they read the texts of a row or have its call.
+//! Other crates that read the texts of a row or have its call. Each is behind a feature with its name.
 
 #![cfg_attr(
     not(all(feature = "chrono", feature = "time", feature = "humantime", feature = "iso8601")),
@@ -45,7 +45,7 @@ pub fn time() -> Vec<Side<String>> {
     sides
 }
 
-/// `iso8601` is not among them: it drops what follows the millisecond.
+/// `iso8601` is not among them, because it drops digits after the millisecond.
 pub fn time_with_fraction() -> Vec<Side<String>> {
     let mut sides = Vec::new();
     #[cfg(feature = "chrono")]

@@ -1,4 +1,4 @@
-//! Rows of printers, which write into a buffer by Display.
+//! Rows of printers, which write into a buffer with Display.
 
 use std::fmt::{self, Display, Write};
 
@@ -8,7 +8,7 @@ use speedate_diff::draw::Draw;
 use crate::row::{Table, side};
 use crate::texts::{clock, date, fraction_and_offset, iso_duration, iso_fraction, microseconds, texts, z};
 
-/// Room for a text, filled by Display.
+/// A buffer for a text, which Display fills.
 struct Buffer {
     bytes: [u8; 64],
     length: usize,
@@ -42,7 +42,7 @@ pub fn rows(table: &mut Table) {
     row(table, "print duration, fraction", iso_fraction, Duration::parse_str, proved::Duration::parse_str);
 }
 
-/// A row of values that the texts are: as the Rust crate has them, and as this library has them.
+/// A row that prints the values of texts: those of the Rust crate, and those of this library.
 fn row<R: Display + 'static, O: Display + 'static>(
     table: &mut Table,
     name: &str,

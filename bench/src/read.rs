@@ -108,7 +108,7 @@ fn duration_rows(table: &mut Table) {
     row("duration, ISO 8601, fraction", iso_fraction, vec![]);
 }
 
-/// A line, and the value at its front, which the Rust crate has to be given alone.
+/// A line, and the value at its front, because the Rust crate can parse only the value.
 type Line = (String, String);
 
 fn lines(value: fn(&mut Draw) -> String) -> Vec<Line> {

@@ -23,7 +23,7 @@ pub fn side<I: 'static, T: 'static>(name: &'static str, call: impl Fn(&I) -> T +
     Side { name, round: Box::new(round) }
 }
 
-/// A call that is not drawn into the loop around it.
+/// A call that is not inlined into the loop around it.
 #[inline(never)]
 fn called<I, T>(call: &impl Fn(&I) -> T, item: &I) -> T {
     call(item)

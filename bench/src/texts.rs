@@ -31,7 +31,7 @@ pub fn offset(draw: &mut Draw) -> String {
     format!("{}{:02}:{:02}", draw.pick(&["+", "-"]), draw.below(24), draw.within(1..=59))
 }
 
-/// A date and a clock, with what follows them.
+/// A date and a clock, with a text after them.
 pub fn date_time(draw: &mut Draw, rest: impl Fn(&mut Draw) -> String) -> String {
     date(draw) + "T" + &clock(draw) + &rest(draw)
 }
@@ -49,7 +49,7 @@ pub fn one_to_five_digits(draw: &mut Draw) -> String {
     clock(draw) + "." + &draw.digits(count)
 }
 
-/// The text with one byte that no value has there.
+/// The text with one byte that cannot be there.
 fn refused(mut text: String, draw: &mut Draw) -> String {
     let at = draw.below(text.len());
     text.replace_range(at..=at, "x");
@@ -68,7 +68,7 @@ pub fn refused_date_time(draw: &mut Draw) -> String {
     refused(z(draw), draw)
 }
 
-/// A duration with every designator but those of months and weeks.
+/// A duration with every designator except those of months and weeks.
 pub fn iso_duration(draw: &mut Draw) -> String {
     let mut below = |end| 1 + draw.below(end);
     format!("P{}Y{}DT{}H{}M{}S", below(90), below(300), below(23), below(59), below(59))
