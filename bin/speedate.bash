@@ -8,12 +8,12 @@ _speedate() {
     if [ "$word" = = ]; then before=${COMP_WORDS[COMP_CWORD - 1]} word=; fi
     case $before in
     --kind) words='datetime date seconds milliseconds microseconds' ;;
-    --digits) words='refuse truncate' ;;
+    --digits) words=6 ;;
     --offset) words=utc ;;
     --undated) words='join drop bad' ;;
     --bad) words='keep stop' ;;
     --to) words='text utc' && [ "${COMP_WORDS[1]}" != sum ] || words='text hours' ;;
-    --fraction) words='0 3 6' ;;
+    --fraction) words='0 3 6 9' ;;
     *)
         if [ "$COMP_CWORD" = 1 ]; then
             words=$(speedate --help 2>/dev/null | sed -n 's/^  \([a-z]\{1,\}\) .*/\1/p')

@@ -35,8 +35,7 @@ one_line : (convert : Convert) (line : List ℕ) (what : Line)
     ≡ converted convert line what
 one_line convert line (Line.Value found) =
     joined (line_prefix convert) (take found.from (head line))
-    (text_of convert.scan.reader.form convert.digits
-    (written_of convert (head line) (Line.Value found)))
+    (text_of convert (head line) found (written_of convert (head line) (Line.Value found)))
     (rest_of (Some found.to) line)
 one_line convert line Line.Header = as_it_is true (line_prefix convert) line
 one_line convert line (Line.Bad bad) =

@@ -1,11 +1,12 @@
 -- The command `check`: a report of each bad value and, if these are asked for, of each value that
 -- is earlier than the one before, or comes too long after it.
-use Rattle.std.specs.Prelude.{ℕ, ℤ, ◌-ℤ◌, ◌&&◌, ◌||◌, Bool, false, List, [], ◌∷◌, ◌++◌, Option, Some, None, is_some, int_lt, if◌then◌else◌}
+use Rattle.std.specs.Prelude.{ℕ, ℤ, ◌&&◌, ◌||◌, Bool, false, List, [], ◌∷◌, ◌++◌, Option, Some, None, is_some, int_lt, if◌then◌else◌}
 use Rattle.speedate_stream.specs.Machine.{Machine, head}
 use Rattle.speedate_stream.specs.Watch.{one_more}
 use Rattle.speedate_scan.specs.Print.{call_kind, report_text}
 use Rattle.speedate_scan.specs.Scan.{is_stopped, line_of, passed}
 use Rattle.speedate_commands.specs.Base.{Bad, Line, Scan}
+use Rattle.speedate_commands.specs.Nanosecond.{distance}
 use Rattle.speedate_commands.specs.Order.{Latest, gap_text, late_text, order_after}
 pub use Rattle.speedate_commands.specs.declared.check.Check.{Check}
 
@@ -17,7 +18,7 @@ compares check = check.reports_late || is_some check.gap
 abbrev pub is_after_gap : Option ℤ → ℤ → Option Latest → Bool
 is_after_gap None instant latest = false
 is_after_gap (Some gap) instant None = false
-is_after_gap (Some gap) instant (Some latest) = int_lt gap (instant -ℤ latest.instant)
+is_after_gap (Some gap) instant (Some latest) = int_lt gap (distance latest.instant instant)
 
 -- the report of a value, by the one before
 abbrev pub value_report : Check → ℤ → Option Latest → List ℕ

@@ -1,17 +1,17 @@
 -- The command `convert`: each line with its value written anew.
-use Rattle.std.specs.Prelude.{ℕ, ◌∷◌, ◌++◌, List, [], take, Option, Some, None, is_some, Result, Ok, Err, if◌then◌else◌}
+use Rattle.std.specs.Prelude.{ℕ, ◌∷◌, ◌++◌, List, [], min, take, Option, Some, None, is_some, Result, Ok, Err, if◌then◌else◌}
 use Rattle.std.specs.Result.{result_ok}
 use Rattle.speedate.specs.Base.{ParseError}
 use Rattle.speedate.specs.Date.{date_text}
-use Rattle.speedate.specs.DateTime.{DateAndTime, date_time_in_timezone, date_time_text}
-use Rattle.speedate.specs.DateTime.{date_time_text_with}
-use Rattle.speedate.specs.declared.FractionDigits.{FractionDigits}
+use Rattle.speedate.specs.DateTime.{DateAndTime, date_time_in_timezone}
 use Rattle.speedate_stream.specs.Machine.{Machine, head, rest_of}
 use Rattle.speedate_stream.specs.Watch.{one_more}
 use Rattle.speedate_scan.specs.Print.{prefix_text}
-use Rattle.speedate_scan.specs.Reading.{value_of}
+use Rattle.speedate_scan.specs.Fraction.{fraction_size}
+use Rattle.speedate_scan.specs.Reading.{part, value_of}
 use Rattle.speedate_scan.specs.Scan.{is_stopped, keeps, line_of, passed}
 use Rattle.speedate_commands.specs.Base.{Bad, Form, Found, Line, Why}
+use Rattle.speedate_commands.specs.Nanosecond.{date_time_with, digits_needed, nanosecond_of}
 pub use Rattle.speedate_commands.specs.declared.convert.Target.{Target}
 pub use Rattle.speedate_commands.specs.declared.convert.Convert.{Convert}
 
@@ -40,22 +40,34 @@ unfoldable pub written_value : Convert → List ℕ → Found → Result DateAnd
 written_value convert head found =
     written_from convert.target found (value_of convert.scan.reader head found)
 
--- the text of a date-time, with so many digits of a second, or with all that are not 0
-abbrev pub text_with : Option FractionDigits → DateAndTime → List ℕ
-text_with None value = date_time_text value
-text_with (Some digits) value = date_time_text_with digits value
+-- how many digits a value has after its second: those of its text, at most nine, or as many as its
+-- nanosecond needs if it is a Unix timestamp
+abbrev pub own_digits : Form → List ℕ → ℕ → ℕ
+own_digits Form.DateTime text nanosecond = min (fraction_size text) 9
+own_digits Form.Strict text nanosecond = min (fraction_size text) 9
+own_digits Form.Date text nanosecond = min (fraction_size text) 9
+own_digits (Form.Timestamp unit) text nanosecond = digits_needed nanosecond
 
--- the text of a value: a date for dates, otherwise a date-time
-unfoldable pub written_text : Form → Option FractionDigits → DateAndTime → List ℕ
-written_text Form.Date digits value = date_text value.date
-written_text Form.DateTime digits value = text_with digits value
-written_text Form.Strict digits value = text_with digits value
-written_text (Form.Timestamp unit) digits value = text_with digits value
+-- with how many digits after its second a value is written: with its own, if none are asked for
+abbrev pub written_digits : Option ℕ → ℕ → ℕ
+written_digits None own = own
+written_digits (Some count) own = min count 9
 
--- the text of a value, if there is one
-abbrev pub text_of : Form → Option FractionDigits → Option DateAndTime → List ℕ
-text_of form digits (Some value) = written_text form digits value
-text_of form digits None = []
+-- a value in print, with so many digits of a nanosecond: a date for dates, otherwise a date-time
+unfoldable pub written_text : Form → ℕ → ℕ → DateAndTime → List ℕ
+written_text Form.Date count nanosecond value = date_text value.date
+written_text Form.DateTime count nanosecond value = date_time_with count nanosecond value
+written_text Form.Strict count nanosecond value = date_time_with count nanosecond value
+written_text (Form.Timestamp unit) count nanosecond value = date_time_with count nanosecond value
+
+-- a value that was found in a line, as it is written, if there is one
+abbrev pub text_of : Convert → List ℕ → Found → Option DateAndTime → List ℕ
+text_of convert head found (Some value) =
+    let form = convert.scan.reader.form in
+    let nanosecond = nanosecond_of found.instant in
+    let own = own_digits form (part head found.from found.to) nanosecond in
+    written_text form (written_digits convert.digits own) nanosecond value
+text_of convert head found None = []
 
 -- a line whose value cannot be written is bad
 abbrev pub line_by_value : Found → Result DateAndTime Bad → Line
@@ -88,7 +100,7 @@ written_of convert head Line.Undated = None
 abbrev pub value_text : Convert → List ℕ → Line → List ℕ
 value_text convert head (Line.Value found) =
     take found.from head
-    ++ text_of convert.scan.reader.form convert.digits (written_of convert head (Line.Value found))
+    ++ text_of convert head found (written_of convert head (Line.Value found))
 value_text convert head Line.Late = []
 value_text convert head Line.Header = []
 value_text convert head (Line.Bad bad) = []
@@ -136,8 +148,7 @@ line_prefix convert =
 abbrev pub converted : Convert → List ℕ → Line → List ℕ
 converted convert line (Line.Value found) =
     line_prefix convert ++ take found.from (head line)
-    ++ text_of convert.scan.reader.form convert.digits
-    (written_of convert (head line) (Line.Value found))
+    ++ text_of convert (head line) found (written_of convert (head line) (Line.Value found))
     ++ rest_of (Some found.to) line
 converted convert line Line.Header = line_prefix convert ++ rest_of (Some 0) line
 converted convert line (Line.Bad bad) =

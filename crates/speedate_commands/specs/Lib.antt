@@ -1,6 +1,7 @@
 pub mod Base
 pub mod Check
 pub mod Between
+pub mod Nanosecond
 pub mod Order
 pub mod Summary
 pub mod Convert

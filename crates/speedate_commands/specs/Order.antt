@@ -1,20 +1,13 @@
 -- The order of values: each one, and the one before.
-use Rattle.std.specs.Prelude.{ℕ, ℤ, ◌-ℤ◌, Bool, false, List, [], ◌∷◌, ◌++◌, Option, Some, None, int_lt, codes, if◌then◌else◌}
-use Rattle.std.specs.Result.{result_unwrap_or}
+use Rattle.std.specs.Prelude.{ℕ, ℤ, Bool, false, List, [], ◌∷◌, ◌++◌, Option, Some, None, int_lt, codes, if◌then◌else◌}
 use Rattle.speedate.specs.Ascii.{line_feed}
-use Rattle.speedate.specs.Duration.{amount_answer, duration_text}
-use Rattle.speedate.specs.Requirement.{result_map}
 use Rattle.speedate_stream.specs.Watch.{one_more}
 use Rattle.speedate_scan.specs.Print.{line_place}
 use Rattle.speedate_scan.specs.Scan.{passed}
 use Rattle.speedate_commands.specs.Base.{Found, Line, Scan}
+use Rattle.speedate_commands.specs.Nanosecond.{duration_between}
 pub use Rattle.speedate_commands.specs.declared.order.Latest.{Latest}
 pub use Rattle.speedate_commands.specs.declared.order.Order.{Order}
-
--- the text of the duration from one microsecond to another
-unfoldable pub duration_between : ℤ → ℤ → List ℕ
-duration_between from to =
-    result_unwrap_or (result_map duration_text (amount_answer (to -ℤ from))) []
 
 -- a value of a line, with where it stands
 abbrev pub latest_of : Scan → Found → Latest
@@ -25,9 +18,9 @@ latest_of scan found = record {
   number = one_more scan.number;
 }
 
--- how far one microsecond is from another, with the words after that
+-- how far two instants are apart, with the words after that
 unfoldable pub distance_text : ℤ → ℤ → List ℕ → List ℕ
-distance_text from to words = codes ": " ++ duration_between from to ++ words
+distance_text first second words = codes ": " ++ duration_between first second ++ words
 
 -- where a value stands, how far from another, and where that stands
 unfoldable pub apart_text : List ℕ → ℕ → List ℕ → Latest → List ℕ

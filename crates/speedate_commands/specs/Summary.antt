@@ -1,7 +1,7 @@
 -- The command `summary`: how many lines and values there are, the earliest and the latest, and the
 -- longest gap.
-use Rattle.std.specs.Prelude.{◌≡◌, ℕ, ℤ, pos, ◌+ℤ◌, ◌-ℤ◌, ◌*ℤ◌, Bool, true, false, List, [], ◌∷◌, ◌++◌, Option, Some, None, unwrap_or, Result, Ok, Err, int_lt, codes, decimal, if◌then◌else◌}
-use Rattle.std.specs.Int.{saturate_signed, w64}
+use Rattle.std.specs.Prelude.{◌≡◌, ℕ, ℤ, pos, negsuc, ◌+ℤ◌, Bool, true, false, List, [], ◌∷◌, ◌++◌, Option, Some, None, unwrap_or, Result, Ok, Err, int_lt, codes, decimal, if◌then◌else◌}
+use Rattle.std.specs.Int.{int_div_euclid, saturate_signed, w64}
 use Rattle.std.specs.Result.{result_or}
 use Rattle.speedate.specs.Ascii.{line_feed}
 use Rattle.speedate.specs.Base.{ParseError, TimestampUnit}
@@ -10,11 +10,12 @@ use Rattle.speedate.specs.DateTime.{date_time_with_offset}
 use Rattle.speedate.specs.Requirement.{◌>>=◌}
 use Rattle.speedate_stream.specs.Machine.{Machine, head}
 use Rattle.speedate_stream.specs.Watch.{one_more}
-use Rattle.speedate_commands.specs.Convert.{written_text}
-use Rattle.speedate_commands.specs.Order.{Latest, duration_between, latest_of, order_after}
+use Rattle.speedate_commands.specs.Nanosecond.{date_time_with, digits_needed, distance}
+use Rattle.speedate_commands.specs.Nanosecond.{duration_between, nanosecond_of}
+use Rattle.speedate_commands.specs.Order.{Latest, latest_of, order_after}
 use Rattle.speedate_scan.specs.Print.{line_place}
 use Rattle.speedate_scan.specs.Scan.{is_counted, is_stopped, is_value, line_of}
-use Rattle.speedate_commands.specs.Base.{Form, Line, Scan}
+use Rattle.speedate_commands.specs.Base.{Line, Scan}
 pub use Rattle.speedate_commands.specs.declared.summary.Gap.{Gap}
 pub use Rattle.speedate_commands.specs.declared.summary.Summary.{Summary}
 
@@ -53,11 +54,11 @@ value_after chosen scan kept (Line.Bad bad) = kept
 value_after chosen scan kept Line.Unfit = kept
 value_after chosen scan kept Line.Undated = kept
 
--- the microseconds from one value to the next
+-- the nanoseconds from one value to the next
 abbrev pub gap_size : Gap → ℤ
-gap_size gap = gap.to.instant -ℤ gap.from
+gap_size gap = distance gap.from gap.to.instant
 
--- the microseconds of the longest gap: 0 if there is none
+-- the nanoseconds of the longest gap: 0 if there is none
 abbrev pub longest_size : Option Gap → ℤ
 longest_size None = pos 0
 longest_size (Some gap) = gap_size gap
@@ -115,33 +116,42 @@ IsSummaryAfter before lines after = after ≡ summary_of before lines
 
 -- What is printed of them.
 
--- the microsecond that a clock at an offset shows: one beyond 64 bits is the nearest that fits them
-abbrev pub clock_microsecond : Option ℤ → ℤ → ℤ
-clock_microsecond offset instant =
-    saturate_signed w64 (instant +ℤ pos 1000000 *ℤ unwrap_or offset (pos 0))
+-- a number, or the nearest one that fits 64 bits
+abbrev pub within_64_bits : ℤ → ℤ
+within_64_bits number =
+    if int_lt number (negsuc 9223372036854775807) then negsuc 9223372036854775807
+    else if int_lt (pos 9223372036854775807) number then pos 9223372036854775807
+    else number
 
--- what a clock at an offset shows at a microsecond, in the years 0000 to 9999
+-- the whole second that a clock at an offset shows: one beyond 64 bits is the nearest that fits
+abbrev pub clock_second : Option ℤ → ℤ → ℤ
+clock_second offset instant =
+    saturate_signed w64
+    (within_64_bits (int_div_euclid instant (pos 1000000000)) +ℤ unwrap_or offset (pos 0))
+
+-- what a clock at an offset shows at an instant, but for what it has past whole seconds, in the
+-- years 0000 to 9999
 unfoldable pub clock_at : Option ℤ → ℤ → Result DateAndTime ParseError
 clock_at offset instant = do
-  value ← date_time_timestamp_answer TimestampUnit.Microsecond None 0
-      (clock_microsecond offset instant)
+  value ← date_time_timestamp_answer TimestampUnit.Second None 0 (clock_second offset instant)
   date_time_with_offset offset value
 
--- the date-time by which a microsecond is shown: in UTC if it has an offset, but at its own offset
--- if UTC is not in the years 0000 to 9999; without an offset, as a clock shows it
+-- the date-time by which an instant is shown, but for what it has past whole seconds: in UTC if it
+-- has an offset, but at its own offset if UTC is not in the years 0000 to 9999; without an offset,
+-- as a clock shows it
 unfoldable pub shown_at : Option ℤ → ℤ → Result DateAndTime ParseError
 shown_at None instant = clock_at None instant
 shown_at (Some offset) instant =
     result_or (clock_at (Some (pos 0)) instant) (clock_at (Some offset) instant)
 
--- the text of what can be shown
-abbrev pub shown_text : {E : Type 0} → Result DateAndTime E → List ℕ
-shown_text (Ok value) = written_text Form.DateTime None value
-shown_text (Err fault) = []
+-- the text of what can be shown, with the digits of a nanosecond
+abbrev pub shown_text : {E : Type 0} → ℕ → Result DateAndTime E → List ℕ
+shown_text nanosecond (Ok value) = date_time_with (digits_needed nanosecond) nanosecond value
+shown_text nanosecond (Err fault) = []
 
 -- the text of a value
 unfoldable pub instant_text : Option ℤ → ℤ → List ℕ
-instant_text offset instant = shown_text (shown_at offset instant)
+instant_text offset instant = shown_text (nanosecond_of instant) (shown_at offset instant)
 
 -- a line with a name and a count
 unfoldable pub count_text : List ℕ → ℕ → List ℕ

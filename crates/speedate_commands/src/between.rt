@@ -15,13 +15,13 @@ use speedate_stream::run::{RunError, run};
 use speedate_stream::{LineMachine, Observer, PENDING_MAX, Pending, Watched};
 use std::io::{Read, Write};
 
-/// Two bounds, in microseconds as [`Found::instant`] counts them. A bound that is absent is open.
+/// Two bounds, in nanoseconds as [`Found::instant`] counts them. A bound that is absent is open.
 #[derive(Clone, Copy, Debug)]
 pub struct Bounds {
-    /// The first microsecond that lies between them.
-    pub from: Option<i64>,
-    /// The first microsecond that does not any more.
-    pub to: Option<i64>,
+    /// The first nanosecond that lies between them.
+    pub from: Option<i128>,
+    /// The first nanosecond that does not any more.
+    pub to: Option<i128>,
 }
 
 /// Prints the lines of the entries whose value lies between two bounds. An entry is a line with a value,
@@ -52,8 +52,8 @@ impl Bounds {
         self.is_begun(found.instant) && self.is_open(found.instant)
     }
 
-    /// Whether a microsecond is not before the first bound.
-    fn is_begun(&self, instant: i64) -> bool
+    /// Whether a nanosecond is not before the first bound.
+    fn is_begun(&self, instant: i128) -> bool
         ensures begun { result ≡ is_begun self.now.from instant }
     {
         match self.from {
@@ -62,8 +62,8 @@ impl Bounds {
         }
     }
 
-    /// Whether a microsecond is before the second bound.
-    fn is_open(&self, instant: i64) -> bool
+    /// Whether a nanosecond is before the second bound.
+    fn is_open(&self, instant: i128) -> bool
         ensures open { result ≡ is_open self.now.to instant }
     {
         match self.to {

@@ -1,15 +1,17 @@
 //! The command `check`: a report of each bad value and, if these are asked for, of each value that is
 //! earlier than the one before, or comes too long after it.
 
-ghost use Rattle.std.specs.Prelude.{◌≡◌, ◌+◌, ◌++◌, ◌-ℤ◌, ◌≤◌, Err, OnOk, false, int_lt, true};
+ghost use Rattle.std.specs.Prelude.{◌≡◌, ◌+◌, ◌++◌, ◌≤◌, Err, OnOk, false, int_lt, true};
 ghost use Rattle.arrayvec.specs.ArrayVec.{array_vec_len};
 ghost use Rattle.speedate_commands.specs.Check.{bad_report, check_after, check_lines, check_machine};
 ghost use Rattle.speedate_commands.specs.Check.{check_text, compares, gaps_after, is_after_gap};
 ghost use Rattle.speedate_commands.specs.Check.{value_report};
+ghost use Rattle.speedate_commands.specs.Nanosecond.{distance};
 ghost use Rattle.speedate_commands.specs.Runs.{EndsWith};
 ghost use Rattle.speedate_stream.specs.Run.{EndsBy, PrintsBeginning, PrintsProgress};
 
-use crate::order::{Order, distance, push_gap, push_late};
+use crate::nanosecond::distance;
+use crate::order::{Order, push_gap, push_late};
 use speedate_scan::print::push_report;
 use speedate_scan::reading::Bad;
 use speedate_scan::scan::Line;
@@ -24,15 +26,15 @@ pub struct Check<'a> {
     pub order: Order<'a>,
     /// Whether values are reported that are earlier than the one before.
     pub reports_late: bool,
-    /// The longest time between two values, in microseconds, if a value after a longer one is reported.
+    /// The longest time between two values, in nanoseconds, if a value after a longer one is reported.
     pub gap: Option<i128>,
     /// How many values came more than that after the one before.
     pub gaps: u64,
 }
 
-/// Whether a value comes more than so many microseconds after another.
-fn is_past_gap(from: i64, to: i64, gap: i128) -> bool
-    ensures past { result ≡ int_lt gap (to -ℤ from) }
+/// Whether a value comes more than so many nanoseconds after another.
+fn is_past_gap(from: i128, to: i128, gap: i128) -> bool
+    ensures past { result ≡ int_lt gap (distance from to) }
 {
     gap < distance(from, to)
 }
@@ -47,7 +49,7 @@ impl Check<'_> {
     }
 
     /// Whether a value comes more than a gap after the one before.
-    fn is_after_gap(&self, instant: i64) -> bool
+    fn is_after_gap(&self, instant: i128) -> bool
         ensures after { result ≡ is_after_gap self.now.gap instant self.now.order.latest }
     {
         match (self.gap, &self.order.latest) {
@@ -57,7 +59,7 @@ impl Check<'_> {
     }
 
     /// Appends the report of a value.
-    fn push_value(&self, instant: i64, pending: &mut Pending)
+    fn push_value(&self, instant: i128, pending: &mut Pending)
         requires room { array_vec_len pending.old + STEP_MAX ≤ PENDING_MAX }
         ensures pushed { pending.new.items
             ≡ pending.old.items ++ value_report self.now instant self.now.order.latest }

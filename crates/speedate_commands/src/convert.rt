@@ -6,17 +6,18 @@ ghost use Rattle.arrayvec.specs.ArrayVec.{array_vec_len};
 ghost use Rattle.speedate.specs.DateTime.{date_and_time};
 ghost use Rattle.speedate.specs.Requirement.{result_map};
 ghost use Rattle.speedate_commands.specs.Convert.{convert_line, convert_lines, convert_machine};
-ghost use Rattle.speedate_commands.specs.Convert.{convert_rest, convert_text, target_place};
-ghost use Rattle.speedate_commands.specs.Convert.{targeted, text_of, text_with, written_of};
-ghost use Rattle.speedate_commands.specs.Convert.{written_text, written_value};
+ghost use Rattle.speedate_commands.specs.Convert.{convert_rest, convert_text, own_digits};
+ghost use Rattle.speedate_commands.specs.Convert.{target_place, targeted, text_of, written_digits};
+ghost use Rattle.speedate_commands.specs.Convert.{written_of, written_text, written_value};
 ghost use Rattle.speedate_scan.specs.Reading.{IsWithin};
 ghost use Rattle.speedate_scan.specs.Scan.{IsFoundWithin};
 ghost use Rattle.speedate_commands.specs.Runs.{EndsWith};
 ghost use Rattle.speedate_stream.specs.Run.{EndsBy, PrintsBeginning, PrintsProgress};
 
-use arrayvec::ArrayString;
-use speedate::{DateTime, FractionDigits};
+use crate::nanosecond::{DATE_TIME_MAX, digits_needed, nanosecond_of, push_date_time};
+use speedate::DateTime;
 use speedate_scan::form::Form;
+use speedate_scan::fraction::fraction_size;
 use speedate_scan::print::Prefix;
 use speedate_scan::reading::{Bad, Found, Why};
 use speedate_scan::scan::{Line, Scan};
@@ -42,8 +43,8 @@ pub struct Convert<'a> {
     pub prefix: Prefix,
     /// At which offset values are written.
     pub target: Target,
-    /// With how many digits of a second, if not with all that are not 0.
-    pub digits: Option<FractionDigits>,
+    /// With how many digits after the second, at most nine, if not with as many as there are.
+    pub digits: Option<usize>,
 }
 
 /// The byte to report of a value that cannot be written: the end of one without an offset, or else its
@@ -86,53 +87,69 @@ impl Target {
     }
 }
 
-/// Appends a value: a date for dates, otherwise a date-time.
+/// How many digits a value has after its second: those of its text, at most nine, or as many as its nanosecond needs
+/// if it is a Unix timestamp.
+fn own_digits(form: Form, text: &[u8], nanosecond: u32) -> usize
+    ensures digits { result ≡ own_digits form text.now nanosecond }
+    ensures most { result ≤ 9 }
+{
+    match form {
+        Form::DateTime | Form::Strict | Form::Date => fraction_size(text).min(9),
+        Form::Timestamp(_) => digits_needed(nanosecond),
+    }
+}
+
+/// With how many digits after its second a value is written: with its own, if none are asked for.
+fn written_digits(asked: Option<usize>, own: usize) -> usize
+    requires most { own ≤ 9 }
+    ensures digits { result ≡ written_digits asked own }
+    ensures most { result ≤ 9 }
+{
+    match asked {
+        Some(count) => count.min(9),
+        None => own,
+    }
+}
+
+/// Appends a value with so many digits of a nanosecond: a date for dates, otherwise a date-time.
 #[tactic(auto, unfolding(crate::specs::Convert::written_text))]
-pub fn push_value(
-    form: Form,
-    digits: Option<FractionDigits>,
-    value: &DateTime,
-    pending: &mut Pending,
-)
-    requires room { array_vec_len pending.old + 32 ≤ PENDING_MAX }
+fn push_value(form: Form, count: usize, nanosecond: u32, value: &DateTime, pending: &mut Pending)
+    requires most { count ≤ 9 }
+    requires room { array_vec_len pending.old + DATE_TIME_MAX ≤ PENDING_MAX }
     ensures pushed { pending.new.items
-        ≡ pending.old.items ++ written_text form digits (date_and_time value.now) }
-    ensures length { array_vec_len pending.new ≤ array_vec_len pending.old + 32 }
+        ≡ pending.old.items ++ written_text form count nanosecond (date_and_time value.now) }
+    ensures length { array_vec_len pending.new ≤ array_vec_len pending.old + DATE_TIME_MAX }
 {
     match form {
         Form::Date => push_bytes(value.date.to_text().as_str().as_bytes(), pending),
-        _ => push_bytes(text_with(digits, value).as_str().as_bytes(), pending),
-    }
-}
-
-/// The text of a date-time, with so many digits of a second, or with all that are not 0.
-fn text_with(digits: Option<FractionDigits>, value: &DateTime) -> ArrayString<32>
-    ensures text { result.bytes ≡ text_with digits (date_and_time value.now) }
-{
-    match digits {
-        Some(digits) => value.to_text_with_digits(digits),
-        None => value.to_text(),
-    }
-}
-
-/// Appends a value, if there is one.
-fn push_if_some(
-    form: Form,
-    digits: Option<FractionDigits>,
-    value: &Option<DateTime>,
-    pending: &mut Pending,
-)
-    requires room { array_vec_len pending.old + 32 ≤ PENDING_MAX }
-    ensures pushed { pending.new.items
-        ≡ pending.old.items ++ text_of form digits (option_map date_and_time value.now) }
-    ensures length { array_vec_len pending.new ≤ array_vec_len pending.old + 32 }
-{
-    if let Some(value) = value {
-        push_value(form, digits, value, pending);
+        _ => push_date_time(count, nanosecond, value, pending),
     }
 }
 
 impl Convert<'_> {
+    /// Appends a value that was found in a line, as it is written, if there is one.
+    fn push_if_some(
+        &self,
+        head: &[u8],
+        found: &Found,
+        value: &Option<DateTime>,
+        pending: &mut Pending,
+    )
+        requires within { IsWithin found.now head.now }
+        requires room { array_vec_len pending.old + DATE_TIME_MAX ≤ PENDING_MAX }
+        ensures pushed { pending.new.items ≡ pending.old.items
+            ++ text_of self.now head.now found.now (option_map date_and_time value.now) }
+        ensures length { array_vec_len pending.new ≤ array_vec_len pending.old + DATE_TIME_MAX }
+    {
+        if let Some(value) = value {
+            let form = self.scan.reader.form;
+            let nanosecond = nanosecond_of(found.instant);
+            let own = own_digits(form, &head[found.from..found.to], nanosecond);
+            let count = written_digits(self.digits, own);
+            push_value(form, count, nanosecond, value, pending);
+        }
+    }
+
     /// What a line is, and its value as it is written: a line whose value cannot be written is bad.
     #[tactic(auto, unfolding(crate::specs::Convert::written_value))]
     fn line(&self, head: &[u8]) -> (Line, Option<DateTime>)
@@ -176,7 +193,7 @@ impl Convert<'_> {
             return Some(0);
         };
         push_bytes(before_value(head, found), pending);
-        push_if_some(self.scan.reader.form, self.digits, value, pending);
+        self.push_if_some(head, found, value, pending);
         Some(found.to)
     }
 }

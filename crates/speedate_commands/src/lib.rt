@@ -1,7 +1,7 @@
 //! What the commands of the program `speedate` print for the lines of their inputs: [`between`], [`check`],
-//! [`convert`], [`sum`] and [`summary`]. [`order`] compares a value with the one before, [`in_order`] does what
-//! `between --in-order` does, [`first`] looks for the first value of
-//! a file, and [`status`] has the exit status.
+//! [`convert`], [`sum`] and [`summary`]. [`order`] compares a value with the one before, [`nanosecond`] prints
+//! values and durations, [`in_order`] does what `between --in-order` does, [`first`] looks for the first value of a
+//! file, and [`status`] has the exit status.
 #![tactic(auto)]
 
 pub mod between;
@@ -9,6 +9,7 @@ pub mod check;
 pub mod convert;
 pub mod first;
 pub mod in_order;
+pub mod nanosecond;
 pub mod order;
 pub mod search;
 pub mod status;

@@ -1,12 +1,12 @@
 //! The order of values: each one, and the one before.
 
-ghost use Rattle.std.specs.Prelude.{◌≡◌, ◌+◌, ◌++◌, ◌-ℤ◌, ◌≤◌, length};
+ghost use Rattle.std.specs.Prelude.{◌≡◌, ◌+◌, ◌++◌, ◌≤◌, length};
 ghost use Rattle.arrayvec.specs.ArrayVec.{array_vec_len};
-ghost use Rattle.speedate_commands.specs.Order.{apart_text, distance_text, duration_between, gap_text};
+ghost use Rattle.speedate_commands.specs.Order.{apart_text, distance_text, gap_text};
 ghost use Rattle.speedate_commands.specs.Order.{is_late, late_after, late_text, latest_of, order_after};
 ghost use Rattle.speedate_commands.specs.Order.{value_after};
 
-use speedate::Duration;
+use crate::nanosecond::push_duration_between;
 use speedate_scan::print::push_line_place;
 use speedate_scan::reading::Found;
 use speedate_scan::scan::{Line, Scan};
@@ -15,8 +15,8 @@ use speedate_stream::{PENDING_MAX, Pending, STEP_MAX, push_bytes};
 /// A value, and where it stands.
 #[derive(Clone, Copy)]
 pub struct Latest<'a> {
-    /// The value, in microseconds as `Found::instant` counts them.
-    pub instant: i64,
+    /// The value, in nanoseconds as `Found::instant` counts them.
+    pub instant: i128,
     /// Its offset, in seconds, if it has one.
     pub offset: Option<i32>,
     /// The name of its file.
@@ -94,35 +94,41 @@ impl<'a> Order<'a> {
 
 /// Appends where a value stands that is earlier than the one before, by how much, and where that stands:
 /// `app.log:7: PT10S before app.log:6`, and a line feed.
-pub fn push_late(name: &[u8], number: u64, instant: i64, latest: &Latest<'_>, pending: &mut Pending)
+pub fn push_late(
+    name: &[u8],
+    number: u64,
+    instant: i128,
+    latest: &Latest<'_>,
+    pending: &mut Pending,
+)
     requires room { array_vec_len pending.old + STEP_MAX ≤ PENDING_MAX }
     ensures pushed { pending.new.items
         ≡ pending.old.items ++ late_text name.now number instant latest.now }
     ensures length { array_vec_len pending.new ≤ array_vec_len pending.old + STEP_MAX }
 {
-    let from_to = (instant, latest.instant);
-    push_apart(name, number, from_to, b" before ", latest, pending);
+    let instants = (instant, latest.instant);
+    push_apart(name, number, instants, b" before ", latest, pending);
 }
 
 /// Appends where a value stands that comes after another, how long after it, and where that stands:
 /// `app.log:7: PT1H after app.log:6`, and a line feed.
-pub fn push_gap(name: &[u8], number: u64, instant: i64, latest: &Latest<'_>, pending: &mut Pending)
+pub fn push_gap(name: &[u8], number: u64, instant: i128, latest: &Latest<'_>, pending: &mut Pending)
     requires room { array_vec_len pending.old + STEP_MAX ≤ PENDING_MAX }
     ensures pushed { pending.new.items
         ≡ pending.old.items ++ gap_text name.now number instant latest.now }
     ensures length { array_vec_len pending.new ≤ array_vec_len pending.old + STEP_MAX }
 {
-    let from_to = (latest.instant, instant);
-    push_apart(name, number, from_to, b" after ", latest, pending);
+    let instants = (latest.instant, instant);
+    push_apart(name, number, instants, b" after ", latest, pending);
 }
 
-/// Appends where a value stands, the duration from one microsecond to another, the words after that, and where the
-/// other value stands.
+/// Appends where a value stands, how far two instants are apart, the words after that, and where the other value
+/// stands.
 #[tactic(auto, unfolding(crate::specs::Order::apart_text), using(std::proofs::Common::append_assoc))]
 fn push_apart(
     name: &[u8],
     number: u64,
-    from_to: (i64, i64),
+    instants: (i128, i128),
     words: &[u8],
     latest: &Latest<'_>,
     pending: &mut Pending,
@@ -130,44 +136,25 @@ fn push_apart(
     requires room { array_vec_len pending.old + STEP_MAX ≤ PENDING_MAX }
     requires short { length words.now ≤ 8 }
     ensures pushed { pending.new.items ≡ pending.old.items
-        ++ apart_text name.now number (distance_text from_to.0 from_to.1 words.now) latest.now }
+        ++ apart_text name.now number (distance_text instants.0 instants.1 words.now) latest.now }
     ensures length { array_vec_len pending.new ≤ array_vec_len pending.old + STEP_MAX }
 {
     push_line_place(name, number, pending);
-    push_distance(from_to.0, from_to.1, words, pending);
+    push_distance(instants.0, instants.1, words, pending);
     push_line_place(latest.name, latest.number, pending);
     push_bytes(b"\n", pending);
 }
 
-/// Appends the duration from one microsecond to another, and the words after that: `: PT10S before `.
+/// Appends how far two instants are apart, and the words after that: `: PT10S before `.
 #[tactic(auto, unfolding(crate::specs::Order::distance_text), using(std::proofs::Common::append_assoc))]
-fn push_distance(from: i64, to: i64, words: &[u8], pending: &mut Pending)
-    requires room { array_vec_len pending.old + 41 ≤ PENDING_MAX }
+fn push_distance(first: i128, second: i128, words: &[u8], pending: &mut Pending)
+    requires room { array_vec_len pending.old + 51 ≤ PENDING_MAX }
     requires short { length words.now ≤ 8 }
     ensures pushed { pending.new.items
-        ≡ pending.old.items ++ distance_text from to words.now }
-    ensures length { array_vec_len pending.new ≤ array_vec_len pending.old + 41 }
+        ≡ pending.old.items ++ distance_text first second words.now }
+    ensures length { array_vec_len pending.new ≤ array_vec_len pending.old + 51 }
 {
     push_bytes(b": ", pending);
-    push_duration_text(from, to, pending);
+    push_duration_between(first, second, pending);
     push_bytes(words, pending);
-}
-
-/// The microseconds from one to another.
-pub fn distance(from: i64, to: i64) -> i128
-    ensures distance { result ≡ to -ℤ from }
-{
-    i128::from(to) - i128::from(from)
-}
-
-/// Appends the duration from one microsecond to another: `PT10S`.
-#[tactic(auto, unfolding(crate::specs::Order::duration_between))]
-pub fn push_duration_text(from: i64, to: i64, pending: &mut Pending)
-    requires room { array_vec_len pending.old + 31 ≤ PENDING_MAX }
-    ensures pushed { pending.new.items ≡ pending.old.items ++ duration_between from to }
-    ensures length { array_vec_len pending.new ≤ array_vec_len pending.old + 31 }
-{
-    if let Ok(duration) = Duration::from_signed_microseconds(distance(from, to)) {
-        push_bytes(duration.to_text().as_str().as_bytes(), pending);
-    }
 }

@@ -59,8 +59,8 @@ impl<S: ReadAt> Read for Window<'_, S> {
 pub struct Dated {
     /// Where it begins.
     pub at: u64,
-    /// Its value, in microseconds as `Found::instant` counts them.
-    pub instant: i64,
+    /// Its value, in nanoseconds as `Found::instant` counts them.
+    pub instant: i128,
 }
 
 /// Which values are looked for.
@@ -83,7 +83,7 @@ pub struct Cut {
 
 impl Values<'_> {
     /// The value of a line, if it has one.
-    fn of_line(&self, line: &[u8]) -> Option<i64>
+    fn of_line(&self, line: &[u8]) -> Option<i128>
         ensures value { result ≡ line_value self.now.reader self.now.has_offset line.now }
     {
         match self.reader.read(head(line)) {
@@ -140,7 +140,7 @@ impl Values<'_> {
     }
 
     /// Looks for a bound in a text whose values never fall, from one place up to another, by halves.
-    pub fn cut<S: ReadAt>(&self, source: &S, bound: i64, from: u64, to: u64) -> io::Result<Cut>
+    pub fn cut<S: ReadAt>(&self, source: &S, bound: i128, from: u64, to: u64) -> io::Result<Cut>
         ensures from { IfOk result (λ cut. from ≤ cut.before) }
         ensures before { IfOk result (λ cut. (cut.before ≡ from) ⊎ IfSome (S.text source.now)
             (λ text. IsBefore self.now.reader self.now.has_offset text cut.before bound)) }

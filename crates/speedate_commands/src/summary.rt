@@ -5,19 +5,20 @@ ghost use Rattle.std.specs.Prelude.{◌≡◌, ◌+◌, ◌++◌, ◌≤◌, Err
 ghost use Rattle.arrayvec.specs.ArrayVec.{array_vec_len};
 ghost use Rattle.speedate.specs.DateTime.{◌gives◌};
 ghost use Rattle.speedate_commands.specs.Runs.{EndsAdded};
-ghost use Rattle.speedate_commands.specs.Summary.{IsSummaryAfter, clock_at, clock_microsecond, count_text};
+ghost use Rattle.speedate_commands.specs.Summary.{IsSummaryAfter, clock_at, clock_second, count_text};
 ghost use Rattle.speedate_commands.specs.Summary.{counts_text, earlier_of, gap_end, gap_length, gap_size, later_of};
-ghost use Rattle.speedate_commands.specs.Summary.{gap_text};
+ghost use Rattle.speedate_commands.specs.Summary.{gap_text, within_64_bits};
 ghost use Rattle.speedate_commands.specs.Summary.{instant_text, is_undated, longest_after, longest_size};
 ghost use Rattle.speedate_commands.specs.Summary.{longest_text, longest_with, one_more_if, shown_at};
 ghost use Rattle.speedate_commands.specs.Summary.{summary_after, summary_machine, summary_text, named_text, value_after};
 ghost use Rattle.speedate_commands.specs.Order.{latest_of};
 ghost use Rattle.speedate_stream.specs.Run.{EndsBy, PrintsBeginning, PrintsProgress};
 
-use crate::convert::push_value;
-use crate::order::{Latest, Order, distance, push_duration_text};
+use crate::nanosecond::{
+    DATE_TIME_MAX, digits_needed, distance, nanosecond_of, push_date_time, push_duration_between,
+};
+use crate::order::{Latest, Order};
 use speedate::{DateTime, DateTimeConfig, ParseError, TimeConfig, TimestampUnit};
-use speedate_scan::form::Form;
 use speedate_scan::print::{push_line_place, push_number};
 use speedate_scan::reading::Found;
 use speedate_scan::scan::Line;
@@ -26,13 +27,13 @@ use speedate_stream::{LineMachine, Observer, PENDING_MAX, Pending, Watched, push
 use std::io::{Read, Write};
 
 /// No summary is longer.
-pub const SUMMARY_MAX: usize = 4423;
+pub const SUMMARY_MAX: usize = 4453;
 
 /// Two values, one after the other.
 #[derive(Clone, Copy)]
 pub struct Gap<'a> {
-    /// The microsecond of the first, as `Found::instant` counts it.
-    pub from: i64,
+    /// The nanosecond of the first, as `Found::instant` counts it.
+    pub from: i128,
     /// The second.
     pub to: Latest<'a>,
 }
@@ -75,7 +76,7 @@ fn is_undated(line: &Line) -> bool
 }
 
 impl Gap<'_> {
-    /// How many microseconds it has.
+    /// How many nanoseconds it has.
     fn size(&self) -> i128
         ensures size { result ≡ gap_size self.now }
     {
@@ -112,7 +113,7 @@ impl<'a> Summary<'a> {
         }
     }
 
-    /// How many microseconds the longest gap has: 0 if there is none.
+    /// How many nanoseconds the longest gap has: 0 if there is none.
     fn longest_size(&self) -> i128
         ensures size { result ≡ longest_size self.now.longest }
     {
@@ -213,9 +214,9 @@ fn push_count(name: &[u8], count: u64, pending: &mut Pending)
 #[tactic(auto, unfolding(crate::specs::Summary::named_text), using(std::proofs::Common::append_assoc))]
 fn push_named(name: &[u8], value: &Option<Latest<'_>>, pending: &mut Pending)
     requires short { length name.now ≤ 9 }
-    requires room { array_vec_len pending.old + 42 ≤ PENDING_MAX }
+    requires room { array_vec_len pending.old + 52 ≤ PENDING_MAX }
     ensures pushed { pending.new.items ≡ pending.old.items ++ named_text name.now value.now }
-    ensures length { array_vec_len pending.new ≤ array_vec_len pending.old + 42 }
+    ensures length { array_vec_len pending.new ≤ array_vec_len pending.old + 52 }
 {
     if let Some(value) = value {
         push_bytes(name, pending);
@@ -226,20 +227,21 @@ fn push_named(name: &[u8], value: &Option<Latest<'_>>, pending: &mut Pending)
 
 /// Appends the date-time of a value: `2026-11-22T06:10:00Z`.
 #[tactic(auto, unfolding(crate::specs::Summary::instant_text))]
-fn push_instant(offset: Option<i32>, instant: i64, pending: &mut Pending)
-    requires room { array_vec_len pending.old + 32 ≤ PENDING_MAX }
+fn push_instant(offset: Option<i32>, instant: i128, pending: &mut Pending)
+    requires room { array_vec_len pending.old + DATE_TIME_MAX ≤ PENDING_MAX }
     ensures pushed { pending.new.items ≡ pending.old.items ++ instant_text offset instant }
-    ensures length { array_vec_len pending.new ≤ array_vec_len pending.old + 32 }
+    ensures length { array_vec_len pending.new ≤ array_vec_len pending.old + DATE_TIME_MAX }
 {
     if let Ok(shown) = shown_at(offset, instant) {
-        push_value(Form::DateTime, None, &shown, pending);
+        let nanosecond = nanosecond_of(instant);
+        push_date_time(digits_needed(nanosecond), nanosecond, &shown, pending);
     }
 }
 
-/// The date-time by which a microsecond is shown: in UTC if it has an offset, but at its own offset if UTC
+/// The date-time by which an instant is shown, but for what it has past whole seconds: in UTC if it has an offset, but at its own offset if UTC
 /// is not in the years 0000 to 9999. Without an offset, as a clock shows it.
 #[tactic(auto, unfolding(crate::specs::Summary::shown_at))]
-fn shown_at(offset: Option<i32>, instant: i64) -> Result<DateTime, ParseError>
+fn shown_at(offset: Option<i32>, instant: i128) -> Result<DateTime, ParseError>
     ensures shown { result gives shown_at offset instant }
 {
     let Some(own) = offset else {
@@ -251,35 +253,47 @@ fn shown_at(offset: Option<i32>, instant: i64) -> Result<DateTime, ParseError>
     }
 }
 
-/// What a clock at an offset shows at a microsecond, in the years 0000 to 9999.
+/// What a clock at an offset shows at an instant, but for what it has past whole seconds, in the years 0000 to 9999.
 #[tactic(auto, unfolding(crate::specs::Summary::clock_at))]
-fn clock_at(offset: Option<i32>, instant: i64) -> Result<DateTime, ParseError>
+fn clock_at(offset: Option<i32>, instant: i128) -> Result<DateTime, ParseError>
     ensures clock { result gives clock_at offset instant }
 {
     let config = DateTimeConfig {
-        timestamp_unit: TimestampUnit::Microsecond,
+        timestamp_unit: TimestampUnit::Second,
         time_config: TimeConfig::default(),
     };
-    let clock = clock_microsecond(offset, instant);
-    match DateTime::from_timestamp_with_config(clock, 0, &config) {
+    match DateTime::from_timestamp_with_config(clock_second(offset, instant), 0, &config) {
         Ok(shown) => shown.with_timezone_offset(offset),
         Err(fault) => Err(fault),
     }
 }
 
-/// The microsecond that a clock at an offset shows: one beyond 64 bits is the nearest that fits them.
-fn clock_microsecond(offset: Option<i32>, instant: i64) -> i64
-    ensures clock { result ≡ clock_microsecond offset instant }
+/// The whole second that a clock at an offset shows: one beyond 64 bits is the nearest that fits them.
+fn clock_second(offset: Option<i32>, instant: i128) -> i64
+    ensures clock { result ≡ clock_second offset instant }
 {
-    instant.saturating_add(1_000_000 * i64::from(offset.unwrap_or(0)))
+    within_64_bits(instant.div_euclid(1_000_000_000)).saturating_add(i64::from(offset.unwrap_or(0)))
+}
+
+/// A number, or the nearest one that fits 64 bits.
+fn within_64_bits(number: i128) -> i64
+    ensures within { result ≡ within_64_bits number }
+{
+    if number < i128::from(i64::MIN) {
+        i64::MIN
+    } else if number > i128::from(i64::MAX) {
+        i64::MAX
+    } else {
+        number as i64
+    }
 }
 
 /// Appends the longest gap, if there is one.
 #[tactic(auto, unfolding(crate::specs::Summary::longest_text))]
 fn push_longest(longest: &Option<Gap<'_>>, pending: &mut Pending)
-    requires room { array_vec_len pending.old + 4169 ≤ PENDING_MAX }
+    requires room { array_vec_len pending.old + 4179 ≤ PENDING_MAX }
     ensures pushed { pending.new.items ≡ pending.old.items ++ longest_text longest.now }
-    ensures length { array_vec_len pending.new ≤ array_vec_len pending.old + 4169 }
+    ensures length { array_vec_len pending.new ≤ array_vec_len pending.old + 4179 }
 {
     if let Some(gap) = longest {
         push_gap(gap, pending);
@@ -288,9 +302,9 @@ fn push_longest(longest: &Option<Gap<'_>>, pending: &mut Pending)
 
 /// Appends how long a gap is, and where it ends: `longest gap PT10S before app.log:7`, and a line feed.
 fn push_gap(gap: &Gap<'_>, pending: &mut Pending)
-    requires room { array_vec_len pending.old + 4169 ≤ PENDING_MAX }
+    requires room { array_vec_len pending.old + 4179 ≤ PENDING_MAX }
     ensures pushed { pending.new.items ≡ pending.old.items ++ gap_text gap.now }
-    ensures length { array_vec_len pending.new ≤ array_vec_len pending.old + 4169 }
+    ensures length { array_vec_len pending.new ≤ array_vec_len pending.old + 4179 }
 {
     push_gap_length(b"longest gap ", gap, pending);
     push_gap_end(gap, pending);
@@ -299,12 +313,12 @@ fn push_gap(gap: &Gap<'_>, pending: &mut Pending)
 /// Appends how long a gap is, after a name: `longest gap PT10S`.
 #[tactic(auto, unfolding(crate::specs::Summary::gap_length), using(std::proofs::Common::append_assoc))]
 fn push_gap_length(name: &[u8], gap: &Gap<'_>, pending: &mut Pending)
-    requires room { array_vec_len pending.old + length name.now + 31 ≤ PENDING_MAX }
+    requires room { array_vec_len pending.old + length name.now + 41 ≤ PENDING_MAX }
     ensures pushed { pending.new.items ≡ pending.old.items ++ gap_length name.now gap.now }
-    ensures length { array_vec_len pending.new ≤ array_vec_len pending.old + length name.now + 31 }
+    ensures length { array_vec_len pending.new ≤ array_vec_len pending.old + length name.now + 41 }
 {
     push_bytes(name, pending);
-    push_duration_text(gap.from, gap.to.instant, pending);
+    push_duration_between(gap.from, gap.to.instant, pending);
 }
 
 /// Appends where a gap ends: ` before app.log:7`, and a line feed.

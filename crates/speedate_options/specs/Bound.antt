@@ -1,12 +1,12 @@
 -- A bound of `between`.
-use Rattle.std.specs.Prelude.{ℕ, ℤ, ◌&&◌, ◌||◌, not, Bool, true, false, List, codes, int_lt, length, nat_eq, nat_lt, Option, Some, None, Result, Ok, Err, if◌then◌else◌}
+use Rattle.std.specs.Prelude.{ℕ, ℤ, ◌&&◌, ◌||◌, not, Bool, true, false, List, codes, int_lt, length, nat_eq, nat_lt, Option, Some, None, is_some, Result, Ok, Err, if◌then◌else◌}
 use Rattle.std.specs.Cmp.Lexicographic.{pointwise}
-use Rattle.speedate.specs.Base.{Behavior, CallKind}
+use Rattle.speedate.specs.Base.{Behavior}
 use Rattle.speedate.specs.DateTime.{DateAndTime}
 use Rattle.speedate_base.specs.declared.refusal.Refused.{Refused}
 use Rattle.speedate_scan.specs.declared.form.Form.{Form}
 use Rattle.speedate_scan.specs.Print.{call_kind}
-use Rattle.speedate_scan.specs.Reading.{claims_date, field_claims, whole_of}
+use Rattle.speedate_scan.specs.Reading.{assumed, claims_date, field_claims, instant_of, whole_of}
 use Rattle.speedate_commands.specs.declared.between.Bounds.{Bounds}
 use Rattle.speedate_scan.specs.declared.scan.Offsets.{Offsets}
 pub use Rattle.speedate_options.specs.declared.options.Unordered.{Unordered}
@@ -25,17 +25,24 @@ bound_form form text =
     else if nat_lt 10 (length text) then Form.DateTime
     else Form.Date
 
--- a value, or what is bad about the bound
-abbrev pub or_bad_bound : CallKind → Result DateAndTime Refused → Result DateAndTime BadBound
-or_bad_bound kind (Ok value) = Ok value
-or_bad_bound kind (Err refused) = Err (record { kind = kind; refused = refused })
+-- the nanosecond of a value that has this text, and whether it has an offset, with the offset that
+-- one without gets
+abbrev pub bound_at : Option ℤ → Form → List ℕ → DateAndTime → ℤ × Bool
+bound_at offset form text value =
+    (instant_of form text (assumed offset value), is_some (assumed offset value).time.offset)
 
--- the value of a bound: a date-time, the midnight of a date, or that of a number; digits past the
--- microsecond are refused
-abbrev pub bound_value : Form → List ℕ → Result DateAndTime BadBound
-bound_value form text =
+-- a bound by its value, or what is bad about it
+abbrev pub bound_or_bad : Option ℤ → Form → List ℕ → Result DateAndTime Refused
+    → Result (ℤ × Bool) BadBound
+bound_or_bad offset form text (Ok value) = Ok (bound_at offset form text value)
+bound_or_bad offset form text (Err refused) =
+    Err (record { kind = call_kind form; refused = refused })
+
+-- a bound by its text: a date-time, the midnight of a date, or that of a number
+abbrev pub bound_value : Form → Option ℤ → List ℕ → Result (ℤ × Bool) BadBound
+bound_value form offset text =
     let form = bound_form form text in
-    or_bad_bound (call_kind form) (whole_of form Behavior.Error text)
+    bound_or_bad offset form text (whole_of form Behavior.Truncate text)
 
 -- Two bounds.
 

@@ -32,7 +32,7 @@ pub fn first_between<'a>(given: &ArgMatches<'a>) -> Result<Between<'a>, Refusal>
 
 /// The command `check` before the first line.
 pub fn first_check<'a>(given: &ArgMatches<'a>) -> Result<Check<'a>, Refusal> {
-    let options = options::common(given, Kind::Checks, Error)?;
+    let options = options::common(given, Kind::Checks, options::behavior(given)?)?;
     let reports_late = given.get_flag("order");
     let gap = options::gap(given)?;
     let offsets = if reports_late || gap.is_some() {
@@ -50,17 +50,12 @@ pub fn first_check<'a>(given: &ArgMatches<'a>) -> Result<Check<'a>, Refusal> {
 
 /// The command `convert` before the first line.
 pub fn first_convert<'a>(given: &ArgMatches<'a>) -> Result<Convert<'a>, Refusal> {
-    let digits = options::fraction_digits(given)?;
-    let options = options::common(
-        given,
-        Kind::Prints,
-        if digits.is_some() { Truncate } else { Error },
-    )?;
+    let options = options::common(given, Kind::Prints, Truncate)?;
     Ok(Convert {
         scan: first_scan(&options, Offsets::Any),
         prefix: options.prefix,
         target: options::target(given)?,
-        digits,
+        digits: options::fraction_digits(given)?,
     })
 }
 
@@ -107,7 +102,7 @@ pub fn first_keys<'a>(given: &ArgMatches<'a>) -> Result<Keys<'a>, Refusal> {
     }
     Ok(Keys {
         scan: first_scan(&options, Offsets::AsFirst),
-        instant: i64::MIN,
+        instant: i128::MIN,
     })
 }
 

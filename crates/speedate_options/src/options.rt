@@ -1,8 +1,6 @@
 //! What the options of a command line ask for.
 
 ghost use Rattle.std.specs.Prelude.{◌≡◌};
-ghost use Rattle.speedate.specs.DateTime.{date_and_time};
-ghost use Rattle.speedate.specs.Requirement.{result_map};
 ghost use Rattle.speedate_options.specs.Bound.{bound_form, bound_value, bounds_kind_of, claims_number};
 ghost use Rattle.speedate_options.specs.Bound.{bounds_of, closed, is_open, is_time};
 ghost use Rattle.speedate_options.specs.Field.{separator_of};
@@ -11,10 +9,7 @@ ghost use Rattle.speedate_options.specs.Offset.{is_utc, offset_of};
 use self::Refusal::Usage;
 use crate::idle::{Asked, BoundsKind, Idle, Kind};
 use clap::ArgMatches;
-use speedate::{
-    CallKind, DateTime, FractionDigits, MicrosecondsPrecisionOverflowBehavior, Refused,
-    TimestampUnit,
-};
+use speedate::{CallKind, MicrosecondsPrecisionOverflowBehavior, Refused, TimestampUnit};
 use speedate_base::numbers::byte_at;
 use speedate_commands::between::Bounds;
 use speedate_commands::convert::Target;
@@ -23,7 +18,7 @@ use speedate_scan::claim::{claims_date, field_claims};
 use speedate_scan::field::{NthField, QUOTE};
 use speedate_scan::form::Form;
 use speedate_scan::print::Prefix;
-use speedate_scan::reading::{Bad, Place, Reader, assume};
+use speedate_scan::reading::{Bad, Place, Reader, assume, instant_of};
 use speedate_scan::scan::{BadLines, Offsets, UndatedLines};
 use speedate_scan::zone::zone_front;
 use std::fmt;
@@ -84,17 +79,17 @@ impl fmt::Display for Refusal {
     }
 }
 
-/// What every command has, by a default for digits past the sixth.
+/// What every command has, by what is done with digits that the library does not read.
 pub fn common<'a>(
     matches: &ArgMatches<'a>,
     kind: Kind,
-    digits: MicrosecondsPrecisionOverflowBehavior,
+    behavior: MicrosecondsPrecisionOverflowBehavior,
 ) -> Result<Options<'a>, Refusal> {
     if let Some(idle) = asked(matches, kind)?.idle() {
         return Err(Refusal::Idle(idle));
     }
     Ok(Options {
-        reader: reader(matches, digits)?,
+        reader: reader(matches, behavior)?,
         undated_lines: undated_lines(matches)?,
         bad_lines: bad_lines(matches)?,
         has_header: matches.get_flag("header"),
@@ -171,12 +166,12 @@ fn is_time(text: &[u8], form: Form) -> bool
 /// How values are read.
 fn reader<'a>(
     matches: &ArgMatches<'a>,
-    digits: MicrosecondsPrecisionOverflowBehavior,
+    behavior: MicrosecondsPrecisionOverflowBehavior,
 ) -> Result<Reader<'a>, Refusal> {
     Ok(Reader {
         place: place(matches)?,
         form: form(matches)?,
-        behavior: behavior(matches, digits)?,
+        behavior,
         offset: offset(matches)?,
     })
 }
@@ -257,16 +252,14 @@ fn timestamp_unit(kind: Option<&str>) -> Option<TimestampUnit> {
     }
 }
 
-/// What is done with digits past the sixth.
-fn behavior(
+/// What `check` does with digits past the sixth.
+pub fn behavior(
     matches: &ArgMatches<'_>,
-    digits: MicrosecondsPrecisionOverflowBehavior,
 ) -> Result<MicrosecondsPrecisionOverflowBehavior, Refusal> {
     match matches.get_str("digits") {
-        None => Ok(digits),
-        Some("refuse") => Ok(MicrosecondsPrecisionOverflowBehavior::Error),
-        Some("truncate") => Ok(MicrosecondsPrecisionOverflowBehavior::Truncate),
-        _ => Err(Usage("--digits is refuse or truncate")),
+        None => Ok(MicrosecondsPrecisionOverflowBehavior::Truncate),
+        Some("6") => Ok(MicrosecondsPrecisionOverflowBehavior::Error),
+        _ => Err(Usage("--digits is 6")),
     }
 }
 
@@ -312,7 +305,7 @@ pub fn has_hours(matches: &ArgMatches<'_>) -> Result<bool, Refusal> {
     }
 }
 
-/// The longest time between two values, in microseconds, if a value after a longer one is reported.
+/// The longest time between two values, in nanoseconds, if a value after a longer one is reported.
 pub fn gap(matches: &ArgMatches<'_>) -> Result<Option<i128>, Refusal> {
     let Some(text) = matches.get_str("gap") else {
         return Ok(None);
@@ -324,20 +317,23 @@ pub fn gap(matches: &ArgMatches<'_>) -> Result<Option<i128>, Refusal> {
         text.len(),
         MicrosecondsPrecisionOverflowBehavior::Error,
     ) {
-        Ok(duration) if duration.positive => Ok(Some(duration.signed_total_microseconds())),
+        Ok(duration) if duration.positive => {
+            Ok(Some(1000 * duration.signed_total_microseconds()))
+        }
         Ok(_) => Err(Usage("--gap is a duration without a minus")),
         Err(bad) => Err(Refusal::Gap(bad)),
     }
 }
 
-/// With how many digits of a second values are written, if not with all that are not 0.
-pub fn fraction_digits(matches: &ArgMatches<'_>) -> Result<Option<FractionDigits>, Refusal> {
+/// With how many digits after their second values are written, if not with as many as they have.
+pub fn fraction_digits(matches: &ArgMatches<'_>) -> Result<Option<usize>, Refusal> {
     match matches.get_str("fraction") {
         None => Ok(None),
-        Some("0") => Ok(Some(FractionDigits::Zero)),
-        Some("3") => Ok(Some(FractionDigits::Three)),
-        Some("6") => Ok(Some(FractionDigits::Six)),
-        _ => Err(Usage("--fraction is 0, 3 or 6")),
+        Some("0") => Ok(Some(0)),
+        Some("3") => Ok(Some(3)),
+        Some("6") => Ok(Some(6)),
+        Some("9") => Ok(Some(9)),
+        _ => Err(Usage("--fraction is 0, 3, 6 or 9")),
     }
 }
 
@@ -377,8 +373,8 @@ fn offset_of(text: &[u8]) -> Option<i32>
     }
 }
 
-/// A bound: its microsecond, and whether it has an offset, or open.
-type Bound = Option<(i64, bool)>;
+/// A bound: its nanosecond, and whether it has an offset, or open.
+type Bound = Option<(i128, bool)>;
 
 /// The bounds of `between`, and which values fit them.
 pub fn bounds(matches: &ArgMatches<'_>, reader: &Reader<'_>) -> Result<(Bounds, Offsets), Refusal> {
@@ -429,7 +425,7 @@ fn bounds_of(from: Bound, to: Bound) -> Result<(Bounds, Offsets), Unordered>
 }
 
 /// Bounds of which at least one is not open, and which values fit them.
-fn closed(from: Option<i64>, to: Option<i64>, has_offset: bool) -> (Bounds, Offsets)
+fn closed(from: Option<i128>, to: Option<i128>, has_offset: bool) -> (Bounds, Offsets)
     ensures bounds { result ≡ closed from to has_offset }
 {
     (Bounds { from, to }, Offsets::AsBounds(has_offset))
@@ -443,23 +439,24 @@ fn bound_of(name: &'static str, text: Option<&str>, reader: &Reader<'_>) -> Resu
     if is_open(text.as_bytes()) {
         return Ok(None);
     }
-    match bound_value(text.as_bytes(), reader.form) {
-        Ok(value) => {
-            let value = assume(reader.offset, value);
-            let has_offset = value.time.tz_offset.is_some();
-            Ok(Some((value.timestamp_tz_us(), has_offset)))
-        }
+    match bound_value(text.as_bytes(), reader.form, reader.offset) {
+        Ok(bound) => Ok(Some(bound)),
         Err(bad) => Err(Refusal::Bound(name, bad)),
     }
 }
 
-/// The date-time of a bound, or the midnight of its date. Where values are Unix timestamps, a number is one too.
-fn bound_value(text: &[u8], form: Form) -> Result<DateTime, BadBound>
-    ensures value { result_map date_and_time result ≡ bound_value form text.now }
+/// The nanosecond of a bound that is not open, and whether it has an offset, by what values are, and by the offset
+/// that one without gets. A date is its midnight. Where values are Unix timestamps, a number is one too.
+fn bound_value(text: &[u8], form: Form, offset: Option<i32>) -> Result<(i128, bool), BadBound>
+    ensures value { result ≡ bound_value form offset text.now }
 {
     let form = bound_form(text, form);
-    match form.whole(text, MicrosecondsPrecisionOverflowBehavior::Error) {
-        Ok(value) => Ok(value),
+    match form.whole(text, MicrosecondsPrecisionOverflowBehavior::Truncate) {
+        Ok(value) => {
+            let value = assume(offset, value);
+            let instant = instant_of(form, text, &value);
+            Ok((instant, value.time.tz_offset.is_some()))
+        }
         Err(refused) => Err(BadBound {
             kind: form.call_kind(),
             refused,

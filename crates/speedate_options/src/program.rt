@@ -58,7 +58,10 @@ fn check<'a>(alloc: Global) -> Result<Command<'a>, AllocError> {
             valued(alloc, "gap", "DURATION")
                 .allow_hyphen_values(true)
                 .help("Also report each value that comes more than this after the one before"),
-        )?;
+        )?
+        .arg(valued(alloc, "digits", "6").help(
+            "Also report values with more digits after their second",
+        ))?;
     with_common(alloc, command, Prints::Nothing)
 }
 
@@ -73,7 +76,7 @@ fn convert<'a>(alloc: Global) -> Result<Command<'a>, AllocError> {
             ),
         )?
         .arg(valued(alloc, "fraction", "N").help(
-            "Exactly 0, 3 or 6 digits of a second, rounded down; implies --digits truncate",
+            "Exactly 0, 3, 6 or 9 digits of a second, rounded down [default: as many as there are]",
         ))?;
     with_common(alloc, command, Prints::PrefixedLines)
 }
@@ -95,9 +98,9 @@ fn sum<'a>(alloc: Global) -> Result<Command<'a>, AllocError> {
         .after_help(
             "Prints the exact total of durations, one in each line; years and months are bad",
         );
-    let command = with_digits(alloc, with_place(alloc, command)?)?.arg(valued(
-        alloc, "to", "WHAT",
-    ).help("How the total is written: text, or hours [default: text]"))?;
+    let command = with_place(alloc, command)?.arg(valued(alloc, "to", "WHAT").help(
+        "How the total is written: text, or hours [default: text]",
+    ))?;
     with_lines_and_files(alloc, command, Prints::Nothing)
 }
 
@@ -137,12 +140,11 @@ fn with_common<'a>(
 
 /// A command with how its date-times are read.
 fn with_values<'a>(alloc: Global, command: Command<'a>) -> Result<Command<'a>, AllocError> {
-    let command = with_place(alloc, command)?
+    with_place(alloc, command)?
         .arg(valued(alloc, "kind", "KIND").help(
             "datetime, date, seconds, milliseconds or microseconds [default: datetime]",
         ))?
-        .arg(flag(alloc, "strict").help("Accept only RFC 3339"))?;
-    with_digits(alloc, command)
+        .arg(flag(alloc, "strict").help("Accept only RFC 3339"))
 }
 
 /// A command with what is done with lines, and its files.
@@ -157,11 +159,6 @@ fn with_lines_and_files<'a>(
         Prints::Lines | Prints::Nothing => command,
     };
     with_files(alloc, command)
-}
-
-/// A command with what is done with digits past the sixth.
-fn with_digits<'a>(alloc: Global, command: Command<'a>) -> Result<Command<'a>, AllocError> {
-    command.arg(valued(alloc, "digits", "WHAT").help("Digits past the sixth: refuse or truncate"))
 }
 
 /// A command with what is done with lines that have no good value.

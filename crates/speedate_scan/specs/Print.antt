@@ -1,5 +1,5 @@
 -- What is printed of names, numbers and bad values.
-use Rattle.std.specs.Prelude.{ℕ, List, [], ◌∷◌, ◌++◌, take, Bool, codes, decimal, if◌then◌else◌}
+use Rattle.std.specs.Prelude.{ℕ, ◌+◌, List, [], ◌∷◌, ◌++◌, take, drop, Bool, codes, decimal, if◌then◌else◌}
 use Rattle.speedate.specs.Ascii.{colon, line_feed}
 use Rattle.speedate.specs.Base.{CallKind}
 use Rattle.speedate.specs.Expected.{expected_text}
@@ -7,6 +7,10 @@ use Rattle.speedate_stream.specs.Machine.{longest_line}
 use Rattle.speedate_stream.specs.Watch.{one_more}
 use Rattle.speedate_scan.specs.Reading.{Bad, Form, Why}
 pub use Rattle.speedate_scan.specs.declared.print.Prefix.{Prefix}
+
+-- the nine digits of a number below 1,000,000,000
+abbrev pub nine_digits : ℕ → List ℕ
+nine_digits number = drop 1 (decimal (1000000000 + number))
 
 -- what is shown of the name of a file
 abbrev pub shown_name : List ℕ → List ℕ

@@ -1,5 +1,5 @@
 -- What is read of a line: where its value begins, and what value stands there.
-use Rattle.std.specs.Prelude.{◌≡◌, ◌≤◌, ℕ, ◌+◌, ◌-◌, ◌==◌, ◌&&◌, ◌||◌, not, Bool, false, List, [], ◌∷◌, length, take, drop, slice_index, nat_le, nat_lt, Option, Some, None, is_some, IsSomeAnd, Result, Ok, Err, ℤ, pos, if◌then◌else◌}
+use Rattle.std.specs.Prelude.{◌≡◌, ◌≤◌, ℕ, ◌+◌, ◌-◌, ◌==◌, ◌&&◌, ◌||◌, not, Bool, false, List, [], ◌∷◌, length, take, drop, slice_index, nat_le, nat_lt, Option, Some, None, is_some, IsSomeAnd, Result, Ok, Err, ℤ, pos, ◌+ℤ◌, ◌*ℤ◌, if◌then◌else◌}
 use Rattle.std.specs.Option.{unwrap_or}
 use Rattle.std.specs.Result.{result_unwrap_or}
 use Rattle.std.specs.Char.{is_ascii_digit}
@@ -21,6 +21,7 @@ use Rattle.speedate.specs.Strict.{strict_date_time_answer, strict_date_time_answ
 use Rattle.speedate.specs.Time.{Clock, clock_front, clock_with_offset, end_fault, minute_time}
 use Rattle.speedate_stream.specs.Machine.{longest_line}
 use Rattle.speedate_scan.specs.Field.{Field, goes_on, mark_length, nth_field}
+use Rattle.speedate_scan.specs.Fraction.{nanoseconds_of}
 use Rattle.speedate_scan.specs.Timestamp.{fewest_digits, has_number, number_length, whole_digits}
 use Rattle.speedate_scan.specs.Zone.{begins_with, is_boundary, late_zone, zone_front}
 pub use Rattle.speedate_scan.specs.declared.claim.Wanted.{Wanted}
@@ -308,33 +309,35 @@ value_at reader head start =
     parsed_at reader head start
     (front_of reader.form reader.behavior (drop start (seen head)))
 
--- the microsecond of a value: in UTC if it has an offset, otherwise as its clock shows it
-unfoldable pub instant_of : DateAndTime → ℤ
-instant_of value = utc_microsecond value
+-- the bytes of a line from one up to another
+abbrev pub part : List ℕ → ℕ → ℕ → List ℕ
+part head from to = take (to - from) (drop from head)
+
+-- the nanosecond of a value that has this text: in UTC if it has an offset, otherwise as its clock
+-- shows it
+unfoldable pub instant_of : Form → List ℕ → DateAndTime → ℤ
+instant_of form text value =
+    utc_microsecond value *ℤ pos 1000 +ℤ pos (nanoseconds_of form text)
 
 -- a value that was found from one byte of a line up to another
-abbrev pub found_at : DateAndTime → ℕ → ℕ → Found
-found_at value from to = record {
+abbrev pub found_at : Form → List ℕ → DateAndTime → ℕ → ℕ → Found
+found_at form head value from to = record {
   from = from;
   to = to;
-  instant = instant_of value;
+  instant = instant_of form (part head from to) value;
   offset = value.time.offset;
 }
 
 -- a value that was found from a byte of a line on, or what is bad
-abbrev pub found_from : ℕ → Result (DateAndTime × ℕ) Bad → Reading
-found_from start (Ok (value, to)) = Reading.Value (found_at value start to)
-found_from start (Err bad) = Reading.Bad bad
+abbrev pub found_from : Form → List ℕ → ℕ → Result (DateAndTime × ℕ) Bad → Reading
+found_from form head start (Ok (value, to)) = Reading.Value (found_at form head value start to)
+found_from form head start (Err bad) = Reading.Bad bad
 
 -- What value is a field.
 
 -- what has the fields of a line: a carriage return at its end belongs to none
 unfoldable pub fields_of : List ℕ → List ℕ
 fields_of head = without_return (not (is_longer head)) (seen head)
-
--- the bytes of a line from one up to another
-abbrev pub part : List ℕ → ℕ → ℕ → List ℕ
-part head from to = take (to - from) (drop from head)
 
 -- a value that was parsed from one byte of a line up to another
 abbrev pub parsed_between : Reader → List ℕ → ℕ → ℕ → Result DateAndTime Refused
@@ -367,7 +370,8 @@ undated_field field =
 abbrev pub read_whole : Reader → List ℕ → Field → Reading
 read_whole reader head field =
     if field_claims reader.form (part head field.from field.to)
-    then found_from field.from (alone field (value_between reader head field.from field.to))
+    then found_from reader.form head field.from
+    (alone field (value_between reader head field.from field.to))
     else undated_field field
 
 -- a value that does not lie within what is looked at
@@ -409,7 +413,8 @@ after_claim form word head =
 
 -- what is read of a line by the byte at which a value is claimed
 abbrev pub read_claim : Reader → List ℕ → Result ℕ Reading → Reading
-read_claim reader head (Ok start) = found_from start (value_at reader head start)
+read_claim reader head (Ok start) =
+    found_from reader.form head start (value_at reader head start)
 read_claim reader head (Err reading) = reading
 
 -- what is read of a line, by where its value begins

@@ -1,6 +1,6 @@
 //! Where the fields of a line are.
 
-ghost use Rattle.std.specs.Prelude.{◌≡◌, ◌+◌, ◌<◌, ◌≤◌, ◌==◌, IfSome, IsTrue, length, nat_lt, slice_index};
+ghost use Rattle.std.specs.Prelude.{◌≡◌, ◌+◌, ◌<◌, ◌≤◌, ◌==◌, IfSome, IsTrue, drop, length, nat_lt, slice_index, take};
 ghost use Rattle.std.specs.List.{position};
 ghost use Rattle.speedate_scan.specs.Field.{IsFieldWithin, closing_quote, ended, field_at, goes_on};
 ghost use Rattle.speedate_scan.specs.Field.{mark_length, next_separator, nth_field};
@@ -81,6 +81,30 @@ pub fn byte_at(text: &[u8], place: usize) -> u8
     ensures there { IsTrue (nat_lt 0 result) → place < length text.now }
 {
     if place < text.len() { text[place] } else { 0 }
+}
+
+/// The first bytes of a text: all of it if it has no more.
+#[inline(always)]
+#[tactic(auto, using(std::proofs::lemmas::List::take_all))]
+pub fn first_bytes(text: &[u8], count: usize) -> &[u8]
+    ensures first { result.now ≡ take count text.now }
+    ensures within { length result.now ≤ length text.now }
+    ensures short { length result.now ≤ count }
+{
+    if count < text.len() {
+        &text[..count]
+    } else {
+        text
+    }
+}
+
+/// The bytes of a text after so many: none if it has no more.
+#[tactic(auto, using(std::proofs::lemmas::List::drop_min))]
+pub fn bytes_after(text: &[u8], count: usize) -> &[u8]
+    ensures after { result.now ≡ drop count text.now }
+    ensures within { length result.now ≤ length text.now }
+{
+    &text[count.min(text.len())..]
 }
 
 /// The field that begins at a byte of a text: up to the next separator, or between quotes.

@@ -1,5 +1,5 @@
 //! What the lines of a text are to the commands of the program `speedate`. [`reading`] says what the value of a
-//! line is, by [`claim`], [`form`], [`timestamp`], [`zone`] and [`field`], [`amount`] what its duration is, by [`duration_place`], [`scan`] what a
+//! line is, by [`claim`], [`form`], [`timestamp`], [`zone`], [`fraction`] and [`field`], [`amount`] what its duration is, by [`duration_place`], [`scan`] what a
 //! line is to a command, and [`print`] how names, numbers and bad values are printed.
 #![tactic(auto)]
 
@@ -8,6 +8,7 @@ pub mod claim;
 pub mod duration_place;
 pub mod field;
 pub mod form;
+pub mod fraction;
 pub mod print;
 pub mod reading;
 pub mod scan;

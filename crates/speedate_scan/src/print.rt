@@ -1,10 +1,12 @@
 //! What is printed of names, numbers and bad values.
 
-ghost use Rattle.std.specs.Prelude.{◌≡◌, ◌+◌, ◌++◌, ◌≤◌, [], ◌∷◌, length, decimal};
+ghost use Rattle.std.specs.Prelude.{◌≡◌, ◌+◌, ◌++◌, ◌≤◌, [], ◌∷◌, length, decimal, take};
 ghost use Rattle.arrayvec.specs.ArrayVec.{array_vec_len};
-ghost use Rattle.speedate_scan.specs.Print.{bad_text, expected_by, line_place, prefix_text, report_text};
+ghost use Rattle.speedate_scan.specs.Print.{bad_text, expected_by, line_place, nine_digits, prefix_text};
+ghost use Rattle.speedate_scan.specs.Print.{report_text};
 ghost use Rattle.speedate_scan.specs.Print.{shown_name, with_colon};
 
+use crate::field::{bytes_after, first_bytes};
 use crate::form::Form;
 use crate::reading::{Bad, Why, seen};
 use itoa::Buffer;
@@ -37,6 +39,18 @@ pub fn push_number(number: u64, pending: &mut Pending)
 {
     let mut buffer = Buffer::new();
     push_bytes(buffer.format(number).as_bytes(), pending);
+}
+
+/// Appends the first of the nine digits of a number below 1,000,000,000: `0001` of 123,456.
+pub fn push_nine_digits(count: usize, number: u32, pending: &mut Pending)
+    requires most { count ≤ 9 }
+    requires room { array_vec_len pending.old + 9 ≤ PENDING_MAX }
+    ensures pushed { pending.new.items ≡ pending.old.items ++ take count (nine_digits number) }
+    ensures length { array_vec_len pending.new ≤ array_vec_len pending.old + 9 }
+{
+    let mut buffer = Buffer::new();
+    let digits = buffer.format(1_000_000_000 + u64::from(number)).as_bytes();
+    push_bytes(first_bytes(bytes_after(digits, 1), count), pending);
 }
 
 /// Appends the name of a file: of a longer one the first 4,096 bytes.

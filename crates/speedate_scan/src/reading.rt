@@ -1,6 +1,6 @@
 //! What is read of a line.
 
-ghost use Rattle.std.specs.Prelude.{◌≡◌, ◌+◌, ◌-◌, ◌≤◌, IfErr, IfOk, IfSome, IsTrue, length, nat_lt};
+ghost use Rattle.std.specs.Prelude.{◌≡◌, ◌+◌, ◌-◌, ◌≤◌, IfErr, IfOk, IfSome, length};
 ghost use Rattle.std.specs.Option.{option_map};
 ghost use Rattle.speedate.specs.Requirement.{result_map, with_size};
 ghost use Rattle.speedate.specs.DateTime.{date_and_time};
@@ -13,8 +13,9 @@ ghost use Rattle.speedate_scan.specs.Reading.{read_whole, refused_at, seen, unda
 ghost use Rattle.speedate_scan.specs.Reading.{value_between, value_of, why_undated, without_field};
 
 use crate::claim::{after_claim, field_claims, front_claim};
-use crate::field::{Field, NthField, byte_at};
+use crate::field::{Field, NthField, byte_at, first_bytes};
 use crate::form::Form;
+use crate::fraction::nanoseconds_of;
 use crate::zone::is_boundary;
 use speedate::{DateTime, MicrosecondsPrecisionOverflowBehavior, ParseError, Refused};
 use speedate_stream::LINE_MAX;
@@ -82,9 +83,9 @@ pub struct Found {
     pub from: usize,
     /// The byte up to which it stands.
     pub to: usize,
-    /// Its microsecond from 1970-01-01T00:00:00: in UTC if it has an offset, otherwise as its clock
+    /// Its nanosecond from 1970-01-01T00:00:00: in UTC if it has an offset, otherwise as its clock
     /// shows it.
-    pub instant: i64,
+    pub instant: i128,
     /// Its offset, in seconds, if it has one.
     pub offset: Option<i32>,
 }
@@ -149,11 +150,7 @@ pub fn seen(head: &[u8]) -> &[u8]
     ensures within { length result.now ≤ length head.now }
     ensures short { length result.now ≤ 4096 }
 {
-    if head.len() > LINE_MAX {
-        &head[..LINE_MAX]
-    } else {
-        head
-    }
+    first_bytes(head, LINE_MAX)
 }
 
 /// Whether a line is longer than what is looked at.
@@ -189,12 +186,13 @@ pub fn fields_of(head: &[u8]) -> &[u8]
     }
 }
 
-/// The microsecond of a value: in UTC if it has an offset, otherwise as its clock shows it.
+/// The nanosecond of a value that has this text: in UTC if it has an offset, otherwise as its clock shows it.
+#[inline(always)]
 #[tactic(auto, unfolding(crate::specs::Reading::instant_of))]
-fn instant_of(value: &DateTime) -> i64
-    ensures instant { result ≡ instant_of (date_and_time value.now) }
+pub fn instant_of(form: Form, text: &[u8], value: &DateTime) -> i128
+    ensures instant { result ≡ instant_of form text.now (date_and_time value.now) }
 {
-    value.timestamp_tz_us()
+    i128::from(value.timestamp_tz_us()) * 1000 + i128::from(nanoseconds_of(form, text))
 }
 
 /// A value with the offset that one without gets, if it gets one.
@@ -211,14 +209,17 @@ pub fn assume(offset: Option<i32>, value: DateTime) -> DateTime
     }
 }
 
-/// A value that was found from one byte of a line up to another.
-fn found_at(value: &DateTime, from: usize, to: usize) -> Found
-    ensures found { result ≡ found_at (date_and_time value.now) from to }
+/// A value that was found from one byte of a line up to another, by the head of the line.
+#[inline(always)]
+fn found_at(form: Form, head: &[u8], value: &DateTime, from: usize, to: usize) -> Found
+    requires ordered { from ≤ to }
+    requires within { to ≤ length head.now }
+    ensures found { result ≡ found_at form head.now (date_and_time value.now) from to }
 {
     Found {
         from,
         to,
-        instant: instant_of(value),
+        instant: instant_of(form, &head[from..to], value),
         offset: value.time.tz_offset,
     }
 }
@@ -259,15 +260,25 @@ pub fn undated_field(field: &Field) -> Reading
     Reading::Undated(field.from)
 }
 
-/// What is read of a line in which a value was parsed from a byte on, or refused.
+/// What is read of a line, by its head, in which a value was parsed from a byte on, or refused.
 #[inline(always)]
-fn read_as(parsed: Result<(DateTime, usize), Bad>, from: usize) -> (Reading, Option<DateTime>)
-    ensures read { result.0 ≡ found_from from (result_map (with_size date_and_time) parsed) }
+fn read_as(
+    form: Form,
+    head: &[u8],
+    parsed: Result<(DateTime, usize), Bad>,
+    from: usize,
+) -> (Reading, Option<DateTime>)
+    requires ordered { IfOk parsed (λ found. from ≤ found.1) }
+    requires within { IfOk parsed (λ found. found.1 ≤ length head.now) }
+    ensures read { result.0 ≡ found_from form head.now from (result_map (with_size date_and_time) parsed) }
     ensures value { IsParsed (λ found. result_map (with_size date_and_time) parsed) result.0
         (option_map date_and_time result.1) }
 {
     match parsed {
-        Ok((value, to)) => (Reading::Value(found_at(&value, from, to)), Some(value)),
+        Ok((value, to)) => (
+            Reading::Value(found_at(form, head, &value, from, to)),
+            Some(value),
+        ),
         Err(bad) => (Reading::Bad(bad), None),
     }
 }
@@ -324,7 +335,7 @@ impl Reader<'_> {
             result.0 (option_map date_and_time result.1) }
     {
         match claim {
-            Ok(start) => read_as(self.value_at(head, start), start),
+            Ok(start) => read_as(self.form, head, self.value_at(head, start), start),
             Err(reading) => (reading, None),
         }
     }
@@ -363,7 +374,7 @@ impl Reader<'_> {
         if !field_claims(self.form, &head[field.from..field.to]) {
             return (undated_field(field), None);
         }
-        read_as(self.value_alone(head, field), field.from)
+        read_as(self.form, head, self.value_alone(head, field), field.from)
     }
 
     /// The value of a field of a line, by its head, and the byte up to which it stands; what stands after the

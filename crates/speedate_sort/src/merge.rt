@@ -21,8 +21,8 @@ use std::io::{BufRead, ErrorKind, Write};
 /// The value before a line.
 #[derive(Clone, Copy, Debug, PartialEq, Eq)]
 pub struct Before {
-    /// The value, in microseconds as `Found::instant` counts them.
-    pub instant: i64,
+    /// The value, in nanoseconds as `Found::instant` counts them.
+    pub instant: i128,
     /// The number of its line.
     pub number: u64,
 }
@@ -46,7 +46,7 @@ pub struct Best {
     /// Which of the sources it is.
     pub index: usize,
     /// The value of its line.
-    pub instant: i64,
+    pub instant: i128,
 }
 
 /// Where a merge ended before its inputs, and why.

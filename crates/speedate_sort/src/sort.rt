@@ -26,16 +26,16 @@ use std::marker::Model;
 pub struct Keys<'a> {
     /// What each line is to a command, and what is counted of the lines.
     pub scan: Scan<'a>,
-    /// The value of the entry that has begun, in microseconds as `Found::instant` counts them; the least
+    /// The value of the entry that has begun, in nanoseconds as `Found::instant` counts them; the least
     /// number before the first entry.
-    pub instant: i64,
+    pub instant: i128,
 }
 
 /// Where a line stands in a text.
 #[derive(Clone, Copy, Debug)]
 pub struct Place {
     /// The value of its entry.
-    pub instant: i64,
+    pub instant: i128,
     /// Where it begins.
     pub from: usize,
     /// Where the next one begins: the byte after its line feed.
@@ -77,7 +77,7 @@ impl Model for Lines {
 
 impl Keys<'_> {
     /// The value of the entry of a line.
-    fn instant_after(&self, line: &Line) -> i64
+    fn instant_after(&self, line: &Line) -> i128
         ensures instant { result ≡ instant_after self.now.instant line.now }
     {
         match line {
@@ -87,7 +87,7 @@ impl Keys<'_> {
     }
 
     /// Counts a line, and returns the value of its entry, or `None` if the line is left out.
-    fn pass(&mut self, line: &[u8]) -> Option<i64>
+    fn pass(&mut self, line: &[u8]) -> Option<i128>
         ensures key { result ≡ key_of self.old line.now }
         ensures after { self.new ≡ key_after self.old line.now }
     {
@@ -97,7 +97,7 @@ impl Keys<'_> {
 
     /// Counts a line by what it is, and returns the value of its entry, or `None` if the line is left
     /// out.
-    pub fn pass_line(&mut self, line: Line) -> Option<i64>
+    pub fn pass_line(&mut self, line: Line) -> Option<i128>
         ensures key { result ≡ kept_instant self.old line }
         ensures after { self.new ≡ record {
           scan = passed self.old.scan line;

@@ -79,7 +79,7 @@ x\n\
         Some((
             0,
             Halt::Late(Before {
-                instant: 1_795_328_400_000_000,
+                instant: 1_795_328_400_000_000_000,
                 number: 2,
             }),
         )),

@@ -123,12 +123,26 @@ app.log:3:11: expected the end of the value\n\
     ),
     ("convert --kind date", "[2026-11-22]x\n", "[2026-11-22]x\n"),
     (
-        "check",
+        "check --digits 6",
         CLOCKS,
         "app.log:1:27: expected at most six digits of a second's fraction\n",
     ),
-    ("check --digits truncate", CLOCKS, ""),
-    ("check --order --digits truncate", CLOCKS, ""),
+    ("check", CLOCKS, ""),
+    (
+        "check --order",
+        CLOCKS,
+        "app.log:2: PT0.000000700S before app.log:1\n",
+    ),
+    (
+        "check --gap PT1S",
+        "2026-11-22T06:10:00.5Z\n2026-11-22T06:10:01.5Z\n2026-11-22T06:10:02.500000001Z\n",
+        "app.log:3: PT1.000000001S after app.log:2\n",
+    ),
+    (
+        "between 2026-11-22T06:10:00.123456789 2026-11-22T06:10:00.12345679",
+        "2026-11-22T06:10:00.123456788\n2026-11-22T06:10:00.1234567890\n2026-11-22T06:10:00.12345679\n",
+        "2026-11-22T06:10:00.1234567890\n",
+    ),
     (
         "convert --kind seconds --to +01:00",
         "1795327800.5:4711 a\n3 rows\n-123456789 b\n",
@@ -175,10 +189,10 @@ app.log:3:12: expected hour, 00 to 23\n\
 ",
     ),
     (
-        "convert --offset -01 --to Z --digits truncate",
+        "convert --offset -01 --to Z",
         CLOCKS,
         "\
-2026-11-22T07:10:00.123456Z a\n\
+2026-11-22T07:10:00.1234567Z a\n\
 2026-11-22T07:10:00.123456Z b\n\
 ",
     ),
@@ -300,11 +314,10 @@ d;\"PT1S\"x\n\
         "P1DT23H58M59.999999S\n",
     ),
     (
-        "sum --digits truncate",
-        "00:00:01.1234567\n",
+        "sum",
+        "00:00:01.1234567\n00:00:01.123456\n",
         "PT1.123456S\n",
     ),
-    ("sum --digits refuse", "00:00:01.1234567\n", "PT0S\n"),
     ("sum --bad stop", "PT1H\nP1M\nPT1H\n", ""),
     (
         "check --order --offset utc",
