@@ -59,8 +59,20 @@ NR == 1 {
     print ":root { color-scheme: light dark; --line: #d4d7db; --link: #0b57d0 }"
     print "@media (prefers-color-scheme: dark) { :root { --line: #43484f; --link: #9cc3ff } }"
     print "body { font: 1rem/1.5 system-ui, sans-serif; max-width: 60rem; margin: 0 auto; padding: 1rem; overflow-wrap: anywhere } a { color: var(--link) }"
-    print "div { overflow-x: auto } table { border-collapse: collapse; overflow-wrap: normal } th, td { text-align: left; vertical-align: top; padding: .25rem .75rem .25rem 0; border-bottom: 1px solid var(--line); min-width: 6rem }"
-    print "code { font-family: ui-monospace, monospace; font-size: .9375em } :target { scroll-margin-top: 3rem } tr:has(:target) { background: Mark; color: MarkText } tr:has(:target) a { color: inherit }\n</style>"
+    print "div, pre { overflow-x: auto } table { border-collapse: collapse; overflow-wrap: normal } th, td { text-align: left; vertical-align: top; padding: .25rem .75rem .25rem 0; border-bottom: 1px solid var(--line); min-width: 6rem }"
+    print "code, pre { font-family: ui-monospace, monospace; font-size: .9375em } :target { scroll-margin-top: 3rem } tr:has(:target) { background: Mark; color: MarkText } tr:has(:target) a { color: inherit }\n</style>"
+}
+/^```/ {
+    block("")
+    fenced = !fenced
+    print (fenced ? "<pre>" : "</pre>")
+    next
+}
+fenced {
+    gsub(/&/, "\\&amp;")
+    gsub(/</, "\\&lt;")
+    print
+    next
 }
 /^#+ / {
     block("")

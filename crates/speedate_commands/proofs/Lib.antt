@@ -1,6 +1,7 @@
 mod EntryLemmas
 mod RunLemmas
 mod LineLemmas
+mod CheckLemmas
 mod SummaryLemmas
 mod SumLemmas
 mod InOrderLemmas

@@ -1,10 +1,11 @@
 -- The command `check`: a report of each bad value and, if these are asked for, of each value that
 -- is earlier than the one before, or comes too long after it.
-use Rattle.std.specs.Prelude.{ℕ, ℤ, ◌&&◌, ◌||◌, Bool, false, List, [], ◌∷◌, ◌++◌, Option, Some, None, is_some, int_lt, if◌then◌else◌}
+use Rattle.std.specs.Prelude.{ℕ, ℤ, ◌&&◌, ◌||◌, Bool, true, false, not, List, [], ◌∷◌, ◌++◌, Option, Some, None, is_some, int_lt, if◌then◌else◌}
 use Rattle.speedate_stream.specs.Machine.{Machine, head}
 use Rattle.speedate_stream.specs.Watch.{one_more}
 use Rattle.speedate_scan.specs.Print.{call_kind, report_text}
 use Rattle.speedate_scan.specs.Scan.{is_stopped, line_of, passed}
+use Rattle.speedate_scan.specs.declared.scan.Offsets.{Offsets}
 use Rattle.speedate_commands.specs.Base.{Bad, Line, Scan}
 use Rattle.speedate_commands.specs.Nanosecond.{distance}
 use Rattle.speedate_commands.specs.Order.{Latest, gap_text, late_text, order_after}
@@ -62,6 +63,19 @@ check_after check line =
     if compares check
     then record check { order = order_after check.order line; gaps = gaps_after check line }
     else record check { order = record check.order { scan = passed check.order.scan line } }
+
+-- all values fit
+abbrev pub takes_any : Offsets → Bool
+takes_any Offsets.Any = true
+takes_any Offsets.AsFirst = false
+takes_any (Offsets.Only has_offset) = false
+takes_any (Offsets.AsBounds has_offset) = false
+
+-- each value is looked at by itself, and all fit, and the run has not ended
+abbrev pub is_plain : Check → Bool
+is_plain check =
+    not (compares check)
+    && (takes_any check.order.scan.offsets && not (is_stopped check.order.scan.stop))
 
 -- the reports, and no line itself
 abbrev pub check_machine : Machine Check

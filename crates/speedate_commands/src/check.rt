@@ -5,7 +5,8 @@ ghost use Rattle.std.specs.Prelude.{◌≡◌, ◌+◌, ◌++◌, ◌≤◌, Err
 ghost use Rattle.arrayvec.specs.ArrayVec.{array_vec_len};
 ghost use Rattle.speedate_commands.specs.Check.{bad_report, check_after, check_lines, check_machine};
 ghost use Rattle.speedate_commands.specs.Check.{check_text, compares, gaps_after, is_after_gap};
-ghost use Rattle.speedate_commands.specs.Check.{value_report};
+ghost use Rattle.speedate_commands.specs.Check.{is_plain, value_report};
+ghost use Rattle.speedate_scan.specs.Scan.{line_of};
 ghost use Rattle.speedate_commands.specs.Nanosecond.{distance};
 ghost use Rattle.speedate_commands.specs.Runs.{EndsWith};
 ghost use Rattle.speedate_stream.specs.Run.{EndsBy, PrintsBeginning, PrintsProgress};
@@ -14,7 +15,7 @@ use crate::nanosecond::distance;
 use crate::order::{Order, push_gap, push_late};
 use speedate_scan::print::push_report;
 use speedate_scan::reading::Bad;
-use speedate_scan::scan::Line;
+use speedate_scan::scan::{Line, Offsets};
 use speedate_stream::run::{RunError, run};
 use speedate_stream::{LineMachine, Observer, PENDING_MAX, Pending, STEP_MAX, Watched};
 use std::io::{Read, Write};
@@ -116,6 +117,49 @@ impl Check<'_> {
         }
     }
 
+    /// Whether each value is looked at by itself, and all fit, and the run has not ended.
+    #[inline(always)]
+    fn is_plain(&self) -> bool
+        ensures plain { result ≡ is_plain self.now }
+    {
+        !self.compares()
+            && matches!(self.order.scan.offsets, Offsets::Any)
+            && !self.order.scan.is_stopped()
+    }
+
+    /// Reports and counts a line by what is bad about it.
+    #[inline(always)]
+    #[tactic(auto, using(crate::proofs::CheckLemmas::plain_text, crate::proofs::CheckLemmas::plain_bad_text, crate::proofs::CheckLemmas::plain_after, crate::proofs::CheckLemmas::plain_bad_after, crate::proofs::CheckLemmas::plain_offsets))]
+    fn pass_plain(&mut self, head: &[u8], pending: &mut Pending)
+        requires plain { is_plain self.old ≡ true }
+        requires room { array_vec_len pending.old + STEP_MAX ≤ PENDING_MAX }
+        ensures after { self.new ≡ check_after self.old (line_of self.old.order.scan head.now) }
+        ensures pushed { pending.new.items
+            ≡ pending.old.items ++ check_text self.old (line_of self.old.order.scan head.now) }
+        ensures length { array_vec_len pending.new ≤ array_vec_len pending.old + STEP_MAX }
+    {
+        match self.order.scan.what_is_bad(head) {
+            Some(bad) => {
+                self.push_bad(&bad, pending);
+                self.order.scan.pass(Line::Bad(bad));
+            }
+            None => self.order.scan.count(),
+        }
+    }
+
+    /// Reports and counts a line whose value is compared with the one before.
+    #[inline(never)]
+    fn pass_compared(&mut self, head: &[u8], pending: &mut Pending)
+        requires room { array_vec_len pending.old + STEP_MAX ≤ PENDING_MAX }
+        ensures after { self.new ≡ check_after self.old (line_of self.old.order.scan head.now) }
+        ensures pushed { pending.new.items
+            ≡ pending.old.items ++ check_text self.old (line_of self.old.order.scan head.now) }
+        ensures length { array_vec_len pending.new ≤ array_vec_len pending.old + STEP_MAX }
+    {
+        let line = self.order.scan.line(head);
+        self.pass(line, pending);
+    }
+
     /// Reports and counts a line.
     fn pass(&mut self, line: Line, pending: &mut Pending)
         requires room { array_vec_len pending.old + STEP_MAX ≤ PENDING_MAX }
@@ -147,8 +191,11 @@ impl LineMachine for Check<'_> {
     }
 
     fn step(&mut self, head: &[u8], pending: &mut Pending) -> Option<usize> {
-        let line = self.order.scan.line(head);
-        self.pass(line, pending);
+        if self.is_plain() {
+            self.pass_plain(head, pending);
+        } else {
+            self.pass_compared(head, pending);
+        }
         None
     }
 }

@@ -32,6 +32,7 @@ pub use Rattle.speedate_scan.specs.declared.reading.Why.{Why}
 pub use Rattle.speedate_scan.specs.declared.reading.Bad.{Bad}
 pub use Rattle.speedate_scan.specs.declared.reading.Found.{Found}
 pub use Rattle.speedate_scan.specs.declared.reading.Reading.{Reading}
+pub use Rattle.speedate_scan.specs.declared.reading.Verdict.{Verdict}
 
 -- Values at the front of a text.
 
@@ -428,6 +429,12 @@ read_at reader head (Place.Field which) =
 -- what is read of a line
 unfoldable pub read : Reader → List ℕ → Reading
 read reader head = read_at reader head reader.place
+
+-- what is read of a line, but for its value
+abbrev pub verdict : Reading → Verdict
+verdict (Reading.Value found) = Verdict.Value
+verdict (Reading.Bad bad) = Verdict.Bad bad
+verdict (Reading.Undated place) = Verdict.Undated place
 
 -- the value that was found in a line, and the byte up to which it stands
 abbrev pub value_again : Reader → List ℕ → Found → Place → Result (DateAndTime × ℕ) Bad

@@ -99,6 +99,15 @@ line_of scan head =
     else if scan.has_header && (scan.number == 0) then Line.Header
     else judged scan head (read scan.reader head)
 
+-- what is bad about a line, if something is
+abbrev pub bad_of : Line → Option Bad
+bad_of (Line.Bad bad) = Some bad
+bad_of (Line.Value found) = None
+bad_of Line.Late = None
+bad_of Line.Header = None
+bad_of Line.Unfit = None
+bad_of Line.Undated = None
+
 -- the value of a line lies within it
 abbrev pub IsFoundWithin : Line → List ℕ → Type 0
 IsFoundWithin (Line.Value found) head = IsWithin found head

@@ -10,7 +10,8 @@ ghost use Rattle.speedate_scan.specs.Reading.{can_end, fields_of, found_at, foun
 ghost use Rattle.speedate_scan.specs.Reading.{is_cut, is_longer, is_without_clock, lacks_clock};
 ghost use Rattle.speedate_scan.specs.Reading.{not_within, part, read, read_claim, read_field};
 ghost use Rattle.speedate_scan.specs.Reading.{read_whole, refused_at, seen, undated_field, value_at};
-ghost use Rattle.speedate_scan.specs.Reading.{value_between, value_of, why_undated, without_field};
+ghost use Rattle.speedate_scan.specs.Reading.{value_between, value_of, verdict, why_undated};
+ghost use Rattle.speedate_scan.specs.Reading.{without_field};
 
 use crate::claim::{after_claim, field_claims, front_claim};
 use crate::field::{Field, NthField, byte_at, first_bytes};
@@ -95,6 +96,17 @@ pub struct Found {
 pub enum Reading {
     /// A value.
     Value(Found),
+    /// A value that is refused.
+    Bad(Bad),
+    /// No value: the byte at which one would begin.
+    Undated(usize),
+}
+
+/// What is read of a line, but for its value.
+#[derive(Clone, Copy)]
+pub enum Verdict {
+    /// A value.
+    Value,
     /// A value that is refused.
     Bad(Bad),
     /// No value: the byte at which one would begin.
@@ -283,6 +295,19 @@ fn read_as(
     }
 }
 
+impl Reading {
+    /// What is read of a line, but for its value.
+    fn verdict(&self) -> Verdict
+        ensures verdict { result ≡ verdict self.now }
+    {
+        match self {
+            Reading::Value(_) => Verdict::Value,
+            Reading::Bad(bad) => Verdict::Bad(*bad),
+            Reading::Undated(place) => Verdict::Undated(*place),
+        }
+    }
+}
+
 /// What was expected of a line without a value.
 pub fn why_undated(form: Form) -> Why
     ensures why { result ≡ why_undated form }
@@ -321,6 +346,38 @@ impl Reader<'_> {
             }
         };
         self.parse_claim(head, claim)
+    }
+
+    /// What is read of a line, by its head, but for its value, whose instant is then not calculated.
+    #[inline(always)]
+    #[tactic(auto, unfolding(crate::specs::Reading::read))]
+    pub fn verdict(&self, head: &[u8]) -> Verdict
+        ensures verdict { result ≡ verdict (read self.now head.now) }
+    {
+        let claim = match self.place {
+            Place::Front => front_claim(self.form, head),
+            Place::After(word) => after_claim(self.form, word, head),
+            Place::Field(which) => {
+                let (reading, _) = self.parse_field(head, which.find(fields_of(head)));
+                return reading.verdict();
+            }
+        };
+        self.claim_verdict(head, claim)
+    }
+
+    /// The same, by the byte at which a value is claimed.
+    #[inline(always)]
+    fn claim_verdict(&self, head: &[u8], claim: Result<usize, Reading>) -> Verdict
+        requires start { IfOk claim (λ start. start ≤ length (seen head.now)) }
+        ensures verdict { result ≡ verdict (read_claim self.now head.now claim) }
+    {
+        match claim {
+            Ok(start) => match self.value_at(head, start) {
+                Ok(_) => Verdict::Value,
+                Err(bad) => Verdict::Bad(bad),
+            },
+            Err(reading) => reading.verdict(),
+        }
     }
 
     /// What is read of a line, by its head and the byte at which a value is claimed.

@@ -7,10 +7,11 @@ ghost use Rattle.speedate.specs.DateTime.{date_and_time};
 ghost use Rattle.speedate_stream.specs.Watch.{one_more};
 ghost use Rattle.speedate_scan.specs.Reading.{IsReadWithin, IsWithin, value_of};
 ghost use Rattle.speedate_scan.specs.Scan.{IsFoundWithin, IsLineParsed, has_offsets, is_counted, keeps};
-ghost use Rattle.speedate_scan.specs.Scan.{counted, fits, is_stopped, is_value, judged, line_of};
+ghost use Rattle.speedate_scan.specs.Scan.{Offsets, bad_of, counted, fits, is_stopped, is_value};
+ghost use Rattle.speedate_scan.specs.Scan.{judged, line_of};
 ghost use Rattle.speedate_scan.specs.Scan.{is_clock_byte, noted, offset_place, passed, settled, unfit};
 
-use crate::reading::{Bad, Found, Reader, Reading, Why, why_undated};
+use crate::reading::{Bad, Found, Reader, Reading, Verdict, Why, why_undated};
 use speedate::{DateTime, ParseError};
 use speedate_base::numbers::is_decimal_mark;
 
@@ -278,6 +279,30 @@ impl Scan<'_> {
         }
         let (reading, value) = self.reader.parse(head);
         (self.judged(reading, head), value)
+    }
+
+    /// What is bad about a line, by its head, if something is, where all values fit.
+    #[inline(always)]
+    #[tactic(auto, unfolding(crate::specs::Scan::line_of))]
+    pub fn what_is_bad(&self, head: &[u8]) -> Option<Bad>
+        requires fits { self.now.offsets ≡ Offsets.Any }
+        ensures bad { result ≡ bad_of (line_of self.now head.now) }
+    {
+        if self.is_stopped() || self.has_header && self.number == 0 {
+            return None;
+        }
+        match self.reader.verdict(head) {
+            Verdict::Value => None,
+            Verdict::Bad(bad) => Some(bad),
+            Verdict::Undated(place) => {
+                if self.undated_lines == UndatedLines::Bad {
+                    let why = why_undated(self.reader.form);
+                    Some(Bad { place, why })
+                } else {
+                    None
+                }
+            }
+        }
     }
 
     /// What a line is by what is read of it.
