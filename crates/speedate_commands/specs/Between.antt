@@ -10,12 +10,12 @@ use Rattle.speedate_commands.specs.Base.{Line, Scan}
 pub use Rattle.speedate_commands.specs.declared.between.Bounds.{Bounds}
 pub use Rattle.speedate_commands.specs.declared.between.Between.{Between}
 
--- a microsecond is not before the first bound, which may be open
+-- a nanosecond is not before the first bound, which may be open
 abbrev pub is_begun : Option ℤ → ℤ → Bool
 is_begun None instant = true
 is_begun (Some from) instant = int_le from instant
 
--- a microsecond is before the second bound, which may be open
+-- a nanosecond is before the second bound, which may be open
 abbrev pub is_open : Option ℤ → ℤ → Bool
 is_open None instant = true
 is_open (Some to) instant = int_lt instant to

@@ -1,9 +1,10 @@
 -- The command `convert`: each line with its value written anew.
-use Rattle.std.specs.Prelude.{ℕ, ◌∷◌, ◌++◌, List, [], min, take, Option, Some, None, is_some, Result, Ok, Err, if◌then◌else◌}
+use Rattle.std.specs.Prelude.{ℕ, ℤ, ◌==◌, ◌∷◌, ◌++◌, List, [], min, take, Option, Some, None, is_some, Result, Ok, Err, if◌then◌else◌}
 use Rattle.std.specs.Result.{result_ok}
 use Rattle.speedate.specs.Base.{ParseError}
 use Rattle.speedate.specs.Date.{date_text}
-use Rattle.speedate.specs.DateTime.{DateAndTime, date_time_in_timezone}
+use Rattle.speedate.specs.DateTime.{DateAndTime, date_time_in_timezone, date_time_text_with}
+use Rattle.speedate.specs.declared.FractionDigits.{FractionDigits}
 use Rattle.speedate_stream.specs.Machine.{Machine, head, rest_of}
 use Rattle.speedate_stream.specs.Watch.{one_more}
 use Rattle.speedate_scan.specs.Print.{prefix_text}
@@ -11,7 +12,7 @@ use Rattle.speedate_scan.specs.Fraction.{fraction_size}
 use Rattle.speedate_scan.specs.Reading.{part, value_of}
 use Rattle.speedate_scan.specs.Scan.{is_stopped, keeps, line_of, passed}
 use Rattle.speedate_commands.specs.Base.{Bad, Form, Found, Line, Why}
-use Rattle.speedate_commands.specs.Nanosecond.{date_time_with, digits_needed, nanosecond_of}
+use Rattle.speedate_commands.specs.Nanosecond.{date_time_with, past_second}
 pub use Rattle.speedate_commands.specs.declared.convert.Target.{Target}
 pub use Rattle.speedate_commands.specs.declared.convert.Convert.{Convert}
 
@@ -40,33 +41,47 @@ unfoldable pub written_value : Convert → List ℕ → Found → Result DateAnd
 written_value convert head found =
     written_from convert.target found (value_of convert.scan.reader head found)
 
--- how many digits a value has after its second: those of its text, at most nine, or as many as its
--- nanosecond needs if it is a Unix timestamp
+-- how many digits a value has after its second: those of its text, at most nine; a Unix timestamp
+-- has six, or none if its microsecond is 0
 abbrev pub own_digits : Form → List ℕ → ℕ → ℕ
-own_digits Form.DateTime text nanosecond = min (fraction_size text) 9
-own_digits Form.Strict text nanosecond = min (fraction_size text) 9
-own_digits Form.Date text nanosecond = min (fraction_size text) 9
-own_digits (Form.Timestamp unit) text nanosecond = digits_needed nanosecond
+own_digits Form.DateTime text microsecond = min (fraction_size text) 9
+own_digits Form.Strict text microsecond = min (fraction_size text) 9
+own_digits Form.Date text microsecond = min (fraction_size text) 9
+own_digits (Form.Timestamp unit) text microsecond = if microsecond == 0 then 0 else 6
 
 -- with how many digits after its second a value is written: with its own, if none are asked for
 abbrev pub written_digits : Option ℕ → ℕ → ℕ
 written_digits None own = own
 written_digits (Some count) own = min count 9
 
--- a value in print, with so many digits of a nanosecond: a date for dates, otherwise a date-time
-unfoldable pub written_text : Form → ℕ → ℕ → DateAndTime → List ℕ
-written_text Form.Date count nanosecond value = date_text value.date
-written_text Form.DateTime count nanosecond value = date_time_with count nanosecond value
-written_text Form.Strict count nanosecond value = date_time_with count nanosecond value
-written_text (Form.Timestamp unit) count nanosecond value = date_time_with count nanosecond value
+-- the digits after a second that the library prints, if it prints so many
+abbrev pub library_digits : ℕ → Option FractionDigits
+library_digits count =
+    if count == 0 then Some FractionDigits.Zero
+    else if count == 3 then Some FractionDigits.Three
+    else if count == 6 then Some FractionDigits.Six
+    else None
+
+-- a date-time in print, with so many digits: as the library prints them, or those of its instant
+abbrev pub text_with : Option FractionDigits → ℕ → ℤ → DateAndTime → List ℕ
+text_with None count instant value = date_time_with count (past_second instant) value
+text_with (Some digits) count instant value = date_time_text_with digits value
+
+-- a value in print, with so many digits of its instant: a date for dates, otherwise a date-time
+unfoldable pub written_text : Form → ℕ → ℤ → DateAndTime → List ℕ
+written_text Form.Date count instant value = date_text value.date
+written_text Form.DateTime count instant value =
+    text_with (library_digits count) count instant value
+written_text Form.Strict count instant value = text_with (library_digits count) count instant value
+written_text (Form.Timestamp unit) count instant value =
+    text_with (library_digits count) count instant value
 
 -- a value that was found in a line, as it is written, if there is one
 abbrev pub text_of : Convert → List ℕ → Found → Option DateAndTime → List ℕ
 text_of convert head found (Some value) =
     let form = convert.scan.reader.form in
-    let nanosecond = nanosecond_of found.instant in
-    let own = own_digits form (part head found.from found.to) nanosecond in
-    written_text form (written_digits convert.digits own) nanosecond value
+    let own = own_digits form (part head found.from found.to) value.time.microsecond in
+    written_text form (written_digits convert.digits own) found.instant value
 text_of convert head found None = []
 
 -- a line whose value cannot be written is bad

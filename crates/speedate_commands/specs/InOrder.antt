@@ -27,7 +27,7 @@ known_part (Some text) from to = Some (part text from to)
 
 -- Lines that have a value.
 
--- the microsecond of what is read of a line, if it is a value that has an offset, or none, as it is
+-- the nanosecond of what is read of a line, if it is a value that has an offset, or none, as it is
 -- to have it
 abbrev pub value_in : Bool → Reading → Option ℤ
 value_in has_offset (Reading.Value found) =
@@ -35,7 +35,7 @@ value_in has_offset (Reading.Value found) =
 value_in has_offset (Reading.Bad bad) = None
 value_in has_offset (Reading.Undated place) = None
 
--- the microsecond of a line, if it has such a value
+-- the nanosecond of a line, if it has such a value
 abbrev pub line_value : Reader → Bool → List ℕ → Option ℤ
 line_value reader has_offset line = value_in has_offset (read reader (head line))
 

@@ -9,11 +9,11 @@ use Rattle.speedate.specs.Requirement.{result_map}
 use Rattle.speedate.specs.declared.FractionDigits.{FractionDigits}
 use Rattle.speedate_scan.specs.Print.{nine_digits}
 
--- the nanosecond of an instant: what it has past whole seconds
-abbrev pub nanosecond_of : ℤ → ℕ
-nanosecond_of instant = unsigned_abs (int_rem_euclid instant (pos 1000000000))
+-- the nanoseconds of an instant past its second
+abbrev pub past_second : ℤ → ℕ
+past_second instant = unsigned_abs (int_rem_euclid instant (pos 1000000000))
 
--- how many digits a nanosecond needs: none, six or nine
+-- with how many digits a nanosecond is printed that has none of its own: none, six or nine
 abbrev pub digits_needed : ℕ → ℕ
 digits_needed nanosecond =
     if nanosecond == 0 then 0 else if nanosecond % 1000 == 0 then 6 else 9
@@ -47,12 +47,19 @@ unfoldable pub with_nine_digits : List ℕ → ℕ → List ℕ
 with_nine_digits text nanosecond =
     take (length text - 7) text ++ take 9 (nine_digits nanosecond) ++ capital_s ∷ []
 
--- a duration of so many nanoseconds in print, with nine digits if they are no whole microseconds
+-- a duration of so many seconds and nanoseconds in print, with nine digits; nothing if it has too
+-- many days
+abbrev pub seconds_text : ℕ → ℕ → List ℕ
+seconds_text seconds nanosecond =
+    result_unwrap_or
+    (result_map (λ numbers. with_nine_digits (duration_text numbers) nanosecond)
+    (amount_answer (pos (1000000 * seconds + 1)))) []
+
+-- a duration of so many nanoseconds in print, with nine digits if they are not whole microseconds
 unfoldable pub nanoseconds_text : ℕ → List ℕ
 nanoseconds_text amount =
     if amount % 1000 == 0 then microseconds_text (amount / 1000)
-    else with_nine_digits (microseconds_text (1000000 * (amount / 1000000000) + 1))
-    (amount % 1000000000)
+    else seconds_text (amount / 1000000000) (amount % 1000000000)
 
 -- the duration between two instants in print
 abbrev pub duration_between : ℤ → ℤ → List ℕ

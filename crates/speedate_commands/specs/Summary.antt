@@ -1,7 +1,7 @@
 -- The command `summary`: how many lines and values there are, the earliest and the latest, and the
 -- longest gap.
 use Rattle.std.specs.Prelude.{◌≡◌, ℕ, ℤ, pos, negsuc, ◌+ℤ◌, Bool, true, false, List, [], ◌∷◌, ◌++◌, Option, Some, None, unwrap_or, Result, Ok, Err, int_lt, codes, decimal, if◌then◌else◌}
-use Rattle.std.specs.Int.{int_div_euclid, saturate_signed, w64}
+use Rattle.std.specs.Int.{int_div_euclid}
 use Rattle.std.specs.Result.{result_or}
 use Rattle.speedate.specs.Ascii.{line_feed}
 use Rattle.speedate.specs.Base.{ParseError, TimestampUnit}
@@ -11,7 +11,7 @@ use Rattle.speedate.specs.Requirement.{◌>>=◌}
 use Rattle.speedate_stream.specs.Machine.{Machine, head}
 use Rattle.speedate_stream.specs.Watch.{one_more}
 use Rattle.speedate_commands.specs.Nanosecond.{date_time_with, digits_needed, distance}
-use Rattle.speedate_commands.specs.Nanosecond.{duration_between, nanosecond_of}
+use Rattle.speedate_commands.specs.Nanosecond.{duration_between, past_second}
 use Rattle.speedate_commands.specs.Order.{Latest, latest_of, order_after}
 use Rattle.speedate_scan.specs.Print.{line_place}
 use Rattle.speedate_scan.specs.Scan.{is_counted, is_stopped, is_value, line_of}
@@ -126,19 +126,16 @@ within_64_bits number =
 -- the whole second that a clock at an offset shows: one beyond 64 bits is the nearest that fits
 abbrev pub clock_second : Option ℤ → ℤ → ℤ
 clock_second offset instant =
-    saturate_signed w64
-    (within_64_bits (int_div_euclid instant (pos 1000000000)) +ℤ unwrap_or offset (pos 0))
+    within_64_bits (int_div_euclid instant (pos 1000000000) +ℤ unwrap_or offset (pos 0))
 
--- what a clock at an offset shows at an instant, but for what it has past whole seconds, in the
--- years 0000 to 9999
+-- what a clock at an offset shows at an instant, without the fraction, in the years 0000 to 9999
 unfoldable pub clock_at : Option ℤ → ℤ → Result DateAndTime ParseError
 clock_at offset instant = do
   value ← date_time_timestamp_answer TimestampUnit.Second None 0 (clock_second offset instant)
   date_time_with_offset offset value
 
--- the date-time by which an instant is shown, but for what it has past whole seconds: in UTC if it
--- has an offset, but at its own offset if UTC is not in the years 0000 to 9999; without an offset,
--- as a clock shows it
+-- the date-time by which an instant is shown, without its fraction: in UTC if it has an offset, or
+-- at its own offset if UTC is not in the years 0000 to 9999; without an offset, as a clock shows it
 unfoldable pub shown_at : Option ℤ → ℤ → Result DateAndTime ParseError
 shown_at None instant = clock_at None instant
 shown_at (Some offset) instant =
@@ -151,7 +148,7 @@ shown_text nanosecond (Err fault) = []
 
 -- the text of a value
 unfoldable pub instant_text : Option ℤ → ℤ → List ℕ
-instant_text offset instant = shown_text (nanosecond_of instant) (shown_at offset instant)
+instant_text offset instant = shown_text (past_second instant) (shown_at offset instant)
 
 -- a line with a name and a count
 unfoldable pub count_text : List ℕ → ℕ → List ℕ

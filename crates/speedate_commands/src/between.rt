@@ -84,27 +84,30 @@ impl Between<'_> {
         }
     }
 
-    /// Whether a line is printed.
-    fn prints(&self, line: &Line) -> bool
+    /// Whether a line is printed, by whether its entry is.
+    fn prints(&self, line: &Line, kept: bool) -> bool
+        requires kept { kept ≡ kept_after self.now line.now }
         ensures prints { result ≡ prints self.now line.now }
     {
         match line {
             Line::Header => true,
-            Line::Value(found) => self.bounds.holds(found),
+            Line::Value(_) => kept,
             Line::Bad(_) | Line::Undated => self.is_kept && self.scan.keeps(line),
             Line::Late | Line::Unfit => false,
         }
     }
 
-    /// Appends the prefix of a line if it is printed, and returns the byte from which on it follows.
-    fn push_prefix(&self, line: &Line, pending: &mut Pending) -> Option<usize>
+    /// Appends the prefix of a line if it is printed, by whether its entry is, and returns the byte from which on it
+    /// follows.
+    fn push_prefix(&self, line: &Line, kept: bool, pending: &mut Pending) -> Option<usize>
+        requires kept { kept ≡ kept_after self.now line.now }
         requires room { array_vec_len pending.old + PREFIX_MAX ≤ PENDING_MAX }
         ensures pushed { pending.new.items ≡ pending.old.items ++ between_text self.now line.now }
         ensures length { array_vec_len pending.new ≤ array_vec_len pending.old + PREFIX_MAX }
         ensures rest { result ≡ between_rest self.now line.now }
         ensures within { IfSome result (λ from. from ≡ 0) }
     {
-        if !self.prints(line) {
+        if !self.prints(line, kept) {
             return None;
         }
         self.prefix
@@ -133,14 +136,16 @@ impl LineMachine for Between<'_> {
     }
 
     fn passes(&self, head: &[u8]) -> bool {
-        self.prints(&self.scan.line(head))
+        let line = self.scan.line(head);
+        self.prints(&line, self.kept_after(&line))
     }
 
     fn step(&mut self, head: &[u8], pending: &mut Pending) -> Option<usize> {
         let line = self.scan.line(head);
-        let rest = self.push_prefix(&line, pending);
+        let kept = self.kept_after(&line);
+        let rest = self.push_prefix(&line, kept, pending);
         self.before = self.before_after(&line);
-        self.is_kept = self.kept_after(&line);
+        self.is_kept = kept;
         self.has_value |= line.is_value();
         self.scan.pass(line);
         rest

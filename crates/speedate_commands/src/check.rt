@@ -147,9 +147,9 @@ impl Check<'_> {
         }
     }
 
-    /// Reports and counts a line whose value is compared with the one before.
+    /// Reports and counts a line by its value, too.
     #[inline(never)]
-    fn pass_compared(&mut self, head: &[u8], pending: &mut Pending)
+    fn pass_any(&mut self, head: &[u8], pending: &mut Pending)
         requires room { array_vec_len pending.old + STEP_MAX ≤ PENDING_MAX }
         ensures after { self.new ≡ check_after self.old (line_of self.old.order.scan head.now) }
         ensures pushed { pending.new.items
@@ -194,7 +194,7 @@ impl LineMachine for Check<'_> {
         if self.is_plain() {
             self.pass_plain(head, pending);
         } else {
-            self.pass_compared(head, pending);
+            self.pass_any(head, pending);
         }
         None
     }

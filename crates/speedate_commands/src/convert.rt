@@ -6,16 +6,16 @@ ghost use Rattle.arrayvec.specs.ArrayVec.{array_vec_len};
 ghost use Rattle.speedate.specs.DateTime.{date_and_time};
 ghost use Rattle.speedate.specs.Requirement.{result_map};
 ghost use Rattle.speedate_commands.specs.Convert.{convert_line, convert_lines, convert_machine};
-ghost use Rattle.speedate_commands.specs.Convert.{convert_rest, convert_text, own_digits};
-ghost use Rattle.speedate_commands.specs.Convert.{target_place, targeted, text_of, written_digits};
+ghost use Rattle.speedate_commands.specs.Convert.{convert_rest, convert_text, library_digits, own_digits};
+ghost use Rattle.speedate_commands.specs.Convert.{target_place, targeted, text_of, text_with, written_digits};
 ghost use Rattle.speedate_commands.specs.Convert.{written_of, written_text, written_value};
 ghost use Rattle.speedate_scan.specs.Reading.{IsWithin};
 ghost use Rattle.speedate_scan.specs.Scan.{IsFoundWithin};
 ghost use Rattle.speedate_commands.specs.Runs.{EndsWith};
 ghost use Rattle.speedate_stream.specs.Run.{EndsBy, PrintsBeginning, PrintsProgress};
 
-use crate::nanosecond::{DATE_TIME_MAX, digits_needed, nanosecond_of, push_date_time};
-use speedate::DateTime;
+use crate::nanosecond::{DATE_TIME_MAX, past_second, push_date_time};
+use speedate::{DateTime, FractionDigits};
 use speedate_scan::form::Form;
 use speedate_scan::fraction::fraction_size;
 use speedate_scan::print::Prefix;
@@ -87,15 +87,15 @@ impl Target {
     }
 }
 
-/// How many digits a value has after its second: those of its text, at most nine, or as many as its nanosecond needs
-/// if it is a Unix timestamp.
-fn own_digits(form: Form, text: &[u8], nanosecond: u32) -> usize
-    ensures digits { result ≡ own_digits form text.now nanosecond }
+/// How many digits a value has after its second: those of its text, at most nine; a Unix timestamp has six, or none if
+/// its microsecond is 0.
+fn own_digits(form: Form, text: &[u8], microsecond: u32) -> usize
+    ensures digits { result ≡ own_digits form text.now microsecond }
     ensures most { result ≤ 9 }
 {
     match form {
         Form::DateTime | Form::Strict | Form::Date => fraction_size(text).min(9),
-        Form::Timestamp(_) => digits_needed(nanosecond),
+        Form::Timestamp(_) => if microsecond == 0 { 0 } else { 6 },
     }
 }
 
@@ -111,18 +111,49 @@ fn written_digits(asked: Option<usize>, own: usize) -> usize
     }
 }
 
-/// Appends a value with so many digits of a nanosecond: a date for dates, otherwise a date-time.
+/// The digits after a second that the library prints, if it prints so many.
+fn library_digits(count: usize) -> Option<FractionDigits>
+    ensures digits { result ≡ library_digits count }
+{
+    match count {
+        0 => Some(FractionDigits::Zero),
+        3 => Some(FractionDigits::Three),
+        6 => Some(FractionDigits::Six),
+        _ => None,
+    }
+}
+
+/// Appends a date-time with so many digits of its instant.
+fn push_with_digits(count: usize, instant: i128, value: &DateTime, pending: &mut Pending)
+    requires most { count ≤ 9 }
+    requires room { array_vec_len pending.old + DATE_TIME_MAX ≤ PENDING_MAX }
+    ensures pushed { pending.new.items ≡ pending.old.items
+        ++ text_with (library_digits count) count instant (date_and_time value.now) }
+    ensures length { array_vec_len pending.new ≤ array_vec_len pending.old + DATE_TIME_MAX }
+{
+    match library_digits(count) {
+        Some(digits) => {
+            push_bytes(
+                value.to_text_with_digits(digits).as_str().as_bytes(),
+                pending,
+            );
+        }
+        None => push_date_time(count, past_second(instant), value, pending),
+    }
+}
+
+/// Appends a value with so many digits of its instant: a date for dates, otherwise a date-time.
 #[tactic(auto, unfolding(crate::specs::Convert::written_text))]
-fn push_value(form: Form, count: usize, nanosecond: u32, value: &DateTime, pending: &mut Pending)
+fn push_value(form: Form, count: usize, instant: i128, value: &DateTime, pending: &mut Pending)
     requires most { count ≤ 9 }
     requires room { array_vec_len pending.old + DATE_TIME_MAX ≤ PENDING_MAX }
     ensures pushed { pending.new.items
-        ≡ pending.old.items ++ written_text form count nanosecond (date_and_time value.now) }
+        ≡ pending.old.items ++ written_text form count instant (date_and_time value.now) }
     ensures length { array_vec_len pending.new ≤ array_vec_len pending.old + DATE_TIME_MAX }
 {
     match form {
         Form::Date => push_bytes(value.date.to_text().as_str().as_bytes(), pending),
-        _ => push_date_time(count, nanosecond, value, pending),
+        _ => push_with_digits(count, instant, value, pending),
     }
 }
 
@@ -143,10 +174,10 @@ impl Convert<'_> {
     {
         if let Some(value) = value {
             let form = self.scan.reader.form;
-            let nanosecond = nanosecond_of(found.instant);
-            let own = own_digits(form, &head[found.from..found.to], nanosecond);
+            let text = &head[found.from..found.to];
+            let own = own_digits(form, text, value.time.microsecond);
             let count = written_digits(self.digits, own);
-            push_value(form, count, nanosecond, value, pending);
+            push_value(form, count, found.instant, value, pending);
         }
     }
 

@@ -5,8 +5,8 @@ ghost use Rattle.arrayvec.specs.ArrayVec.{array_vec_len};
 ghost use Rattle.speedate.specs.DateTime.{date_and_time};
 ghost use Rattle.speedate_commands.specs.Nanosecond.{apart, date_time_with, digits_needed, distance};
 ghost use Rattle.speedate_commands.specs.Nanosecond.{duration_between, microseconds_text};
-ghost use Rattle.speedate_commands.specs.Nanosecond.{nanosecond_of, nanoseconds_text, with_fraction};
-ghost use Rattle.speedate_commands.specs.Nanosecond.{with_nine_digits};
+ghost use Rattle.speedate_commands.specs.Nanosecond.{past_second, nanoseconds_text, with_fraction};
+ghost use Rattle.speedate_commands.specs.Nanosecond.{seconds_text, with_nine_digits};
 
 use speedate::{DateTime, Duration, FractionDigits};
 use speedate_scan::field::{bytes_after, first_bytes};
@@ -19,14 +19,14 @@ pub const DATE_TIME_MAX: usize = 42;
 /// No duration in print is longer.
 pub const DURATION_MAX: usize = 41;
 
-/// The nanosecond of an instant: what it has past whole seconds.
-pub fn nanosecond_of(instant: i128) -> u32
-    ensures nanosecond { result ≡ nanosecond_of instant }
+/// The nanoseconds of an instant past its second.
+pub fn past_second(instant: i128) -> u32
+    ensures nanosecond { result ≡ past_second instant }
 {
     instant.rem_euclid(1_000_000_000) as u32
 }
 
-/// How many digits a nanosecond needs: none, six or nine.
+/// With how many digits a nanosecond is printed that has none of its own: none, six or nine.
 pub fn digits_needed(nanosecond: u32) -> usize
     ensures digits { result ≡ digits_needed nanosecond }
     ensures most { result ≤ 9 }
@@ -109,19 +109,15 @@ fn push_with_nine_digits(text: &[u8], nanosecond: u32, pending: &mut Pending)
 }
 
 /// Appends a duration of so many seconds and nanoseconds, with nine digits.
-#[tactic(auto, unfolding(crate::specs::Nanosecond::microseconds_text))]
 fn push_seconds(seconds: u128, nanosecond: u32, pending: &mut Pending)
     requires fits { seconds < 1000000000000000000000000000000 }
     requires room { array_vec_len pending.old + DURATION_MAX ≤ PENDING_MAX }
     ensures pushed { pending.new.items ≡ pending.old.items
-        ++ with_nine_digits (microseconds_text (1000000 * seconds + 1)) nanosecond }
+        ++ seconds_text seconds nanosecond }
     ensures length { array_vec_len pending.new ≤ array_vec_len pending.old + DURATION_MAX }
 {
-    match Duration::from_signed_microseconds((1_000_000 * seconds + 1) as i128) {
-        Ok(duration) => {
-            push_with_nine_digits(duration.to_text().as_str().as_bytes(), nanosecond, pending);
-        }
-        Err(_) => push_with_nine_digits(b"", nanosecond, pending),
+    if let Ok(duration) = Duration::from_signed_microseconds((1_000_000 * seconds + 1) as i128) {
+        push_with_nine_digits(duration.to_text().as_str().as_bytes(), nanosecond, pending);
     }
 }
 

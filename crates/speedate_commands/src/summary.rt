@@ -8,14 +8,13 @@ ghost use Rattle.speedate_commands.specs.Runs.{EndsAdded};
 ghost use Rattle.speedate_commands.specs.Summary.{IsSummaryAfter, clock_at, clock_second, count_text};
 ghost use Rattle.speedate_commands.specs.Summary.{counts_text, earlier_of, gap_end, gap_length, gap_size, later_of};
 ghost use Rattle.speedate_commands.specs.Summary.{gap_text, within_64_bits};
-ghost use Rattle.speedate_commands.specs.Summary.{instant_text, is_undated, longest_after, longest_size};
+ghost use Rattle.speedate_commands.specs.Summary.{instant_text, is_undated, longest_size};
 ghost use Rattle.speedate_commands.specs.Summary.{longest_text, longest_with, one_more_if, shown_at};
-ghost use Rattle.speedate_commands.specs.Summary.{summary_after, summary_machine, summary_text, named_text, value_after};
-ghost use Rattle.speedate_commands.specs.Order.{latest_of};
+ghost use Rattle.speedate_commands.specs.Summary.{summary_after, summary_machine, summary_text, named_text};
 ghost use Rattle.speedate_stream.specs.Run.{EndsBy, PrintsBeginning, PrintsProgress};
 
 use crate::nanosecond::{
-    DATE_TIME_MAX, digits_needed, distance, nanosecond_of, push_date_time, push_duration_between,
+    DATE_TIME_MAX, digits_needed, distance, past_second, push_date_time, push_duration_between,
 };
 use crate::order::{Latest, Order};
 use speedate::{DateTime, DateTimeConfig, ParseError, TimeConfig, TimestampUnit};
@@ -85,31 +84,33 @@ impl Gap<'_> {
 }
 
 impl<'a> Summary<'a> {
-    /// The earliest value, after a line.
-    fn earliest_after(&self, line: &Line) -> Option<Latest<'a>>
-        ensures earliest { result
-            ≡ value_after earlier_of self.now.order.scan self.now.earliest line.now }
+    /// Keeps a value, if it is the earliest.
+    fn keep_earliest(&mut self, value: &Latest<'a>)
+        ensures kept { self.new ≡ record self.old {
+          earliest = Some (earlier_of self.old.earliest value.now);
+        } }
     {
-        let Line::Value(found) = line else {
-            return self.earliest;
+        let is_earlier = match &self.earliest {
+            Some(kept) => value.instant < kept.instant,
+            None => true,
         };
-        match &self.earliest {
-            Some(kept) if found.instant >= kept.instant => self.earliest,
-            _ => Some(Latest::new(&self.order.scan, found)),
+        if is_earlier {
+            self.earliest = Some(*value);
         }
     }
 
-    /// The latest value, after a line.
-    fn latest_after(&self, line: &Line) -> Option<Latest<'a>>
-        ensures latest { result
-            ≡ value_after later_of self.now.order.scan self.now.latest line.now }
+    /// Keeps a value, if it is the latest.
+    fn keep_latest(&mut self, value: &Latest<'a>)
+        ensures kept { self.new ≡ record self.old {
+          latest = Some (later_of self.old.latest value.now);
+        } }
     {
-        let Line::Value(found) = line else {
-            return self.latest;
+        let is_later = match &self.latest {
+            Some(kept) => kept.instant < value.instant,
+            None => true,
         };
-        match &self.latest {
-            Some(kept) if found.instant <= kept.instant => self.latest,
-            _ => Some(Latest::new(&self.order.scan, found)),
+        if is_later {
+            self.latest = Some(*value);
         }
     }
 
@@ -123,32 +124,18 @@ impl<'a> Summary<'a> {
         }
     }
 
-    /// The longest gap, after a value.
-    fn longest_with(&self, found: &Found) -> Option<Gap<'a>>
-        ensures longest { result ≡ longest_with self.now.longest self.now.order.latest
-            (latest_of self.now.order.scan found.now) }
+    /// Keeps the gap before a value, if it is the longest.
+    fn keep_longest(&mut self, value: &Latest<'a>)
+        ensures kept { self.new ≡ record self.old {
+          longest = longest_with self.old.longest self.old.order.latest value.now;
+        } }
     {
         let Some(before) = &self.order.latest else {
-            return self.longest;
+            return;
         };
-        let gap = Gap {
-            from: before.instant,
-            to: Latest::new(&self.order.scan, found),
-        };
-        if self.longest_size() < gap.size() {
-            Some(gap)
-        } else {
-            self.longest
-        }
-    }
-
-    /// The longest gap, after a line.
-    fn longest_after(&self, line: &Line) -> Option<Gap<'a>>
-        ensures longest { result ≡ longest_after self.now line.now }
-    {
-        match line {
-            Line::Value(found) => self.longest_with(found),
-            _ => self.longest,
+        let from = before.instant;
+        if self.longest_size() < distance(from, value.instant) {
+            self.longest = Some(Gap { from, to: *value });
         }
     }
 
@@ -156,15 +143,15 @@ impl<'a> Summary<'a> {
     fn add(&mut self, line: Line)
         ensures added { self.new ≡ summary_after self.old line }
     {
-        let earliest = self.earliest_after(&line);
-        let latest = self.latest_after(&line);
-        let longest = self.longest_after(&line);
+        if let Line::Value(found) = &line {
+            let value = Latest::new(&self.order.scan, found);
+            self.keep_earliest(&value);
+            self.keep_latest(&value);
+            self.keep_longest(&value);
+        }
         self.lines = one_more_if(line.is_counted(), self.lines);
         self.values = one_more_if(line.is_value(), self.values);
         self.undated = one_more_if(is_undated(&line), self.undated);
-        self.earliest = earliest;
-        self.latest = latest;
-        self.longest = longest;
         self.order.pass(line);
     }
 
@@ -233,13 +220,13 @@ fn push_instant(offset: Option<i32>, instant: i128, pending: &mut Pending)
     ensures length { array_vec_len pending.new ≤ array_vec_len pending.old + DATE_TIME_MAX }
 {
     if let Ok(shown) = shown_at(offset, instant) {
-        let nanosecond = nanosecond_of(instant);
+        let nanosecond = past_second(instant);
         push_date_time(digits_needed(nanosecond), nanosecond, &shown, pending);
     }
 }
 
-/// The date-time by which an instant is shown, but for what it has past whole seconds: in UTC if it has an offset, but at its own offset if UTC
-/// is not in the years 0000 to 9999. Without an offset, as a clock shows it.
+/// The date-time by which an instant is shown, without its fraction: in UTC if it has an offset, or at its own offset if
+/// UTC is not in the years 0000 to 9999. Without an offset, as a clock shows it.
 #[tactic(auto, unfolding(crate::specs::Summary::shown_at))]
 fn shown_at(offset: Option<i32>, instant: i128) -> Result<DateTime, ParseError>
     ensures shown { result gives shown_at offset instant }
@@ -253,7 +240,7 @@ fn shown_at(offset: Option<i32>, instant: i128) -> Result<DateTime, ParseError>
     }
 }
 
-/// What a clock at an offset shows at an instant, but for what it has past whole seconds, in the years 0000 to 9999.
+/// What a clock at an offset shows at an instant, without the fraction, in the years 0000 to 9999.
 #[tactic(auto, unfolding(crate::specs::Summary::clock_at))]
 fn clock_at(offset: Option<i32>, instant: i128) -> Result<DateTime, ParseError>
     ensures clock { result gives clock_at offset instant }
@@ -272,7 +259,7 @@ fn clock_at(offset: Option<i32>, instant: i128) -> Result<DateTime, ParseError>
 fn clock_second(offset: Option<i32>, instant: i128) -> i64
     ensures clock { result ≡ clock_second offset instant }
 {
-    within_64_bits(instant.div_euclid(1_000_000_000)).saturating_add(i64::from(offset.unwrap_or(0)))
+    within_64_bits(instant.div_euclid(1_000_000_000) + i128::from(offset.unwrap_or(0)))
 }
 
 /// A number, or the nearest one that fits 64 bits.

@@ -79,7 +79,7 @@ impl fmt::Display for Refusal {
     }
 }
 
-/// What every command has, by what is done with digits that the library does not read.
+/// What every command has, by what is done with digits past the microsecond.
 pub fn common<'a>(
     matches: &ArgMatches<'a>,
     kind: Kind,
@@ -252,7 +252,7 @@ fn timestamp_unit(kind: Option<&str>) -> Option<TimestampUnit> {
     }
 }
 
-/// What `check` does with digits past the sixth.
+/// What `check` does with digits past the microsecond.
 pub fn behavior(
     matches: &ArgMatches<'_>,
 ) -> Result<MicrosecondsPrecisionOverflowBehavior, Refusal> {
@@ -311,12 +311,7 @@ pub fn gap(matches: &ArgMatches<'_>) -> Result<Option<i128>, Refusal> {
         return Ok(None);
     };
     let text = text.as_bytes();
-    match exact_between(
-        text,
-        0,
-        text.len(),
-        MicrosecondsPrecisionOverflowBehavior::Error,
-    ) {
+    match exact_between(text, 0, text.len()) {
         Ok(duration) if duration.positive => {
             Ok(Some(1000 * duration.signed_total_microseconds()))
         }

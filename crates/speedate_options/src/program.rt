@@ -60,7 +60,7 @@ fn check<'a>(alloc: Global) -> Result<Command<'a>, AllocError> {
                 .help("Also report each value that comes more than this after the one before"),
         )?
         .arg(valued(alloc, "digits", "6").help(
-            "Also report values with more digits after their second",
+            "Also report values with digits past the microsecond",
         ))?;
     with_common(alloc, command, Prints::Nothing)
 }
@@ -76,7 +76,7 @@ fn convert<'a>(alloc: Global) -> Result<Command<'a>, AllocError> {
             ),
         )?
         .arg(valued(alloc, "fraction", "N").help(
-            "Exactly 0, 3, 6 or 9 digits of a second, rounded down [default: as many as there are]",
+            "Exactly 0, 3, 6 or 9 digits of a second, rounded down [default: as many as the value has]",
         ))?;
     with_common(alloc, command, Prints::PrefixedLines)
 }

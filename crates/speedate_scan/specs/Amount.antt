@@ -3,7 +3,6 @@ use Rattle.std.specs.Prelude.{ℕ, ◌+◌, ◌==◌, ◌&&◌, ◌||◌, not, B
 use Rattle.std.specs.List.{position}
 use Rattle.std.specs.Char.{is_ascii_digit}
 use Rattle.speedate.specs.Ascii.{capital_m, capital_p, capital_t, capital_y, colon, comma}
-use Rattle.speedate.specs.Config.{refuses_digits}
 use Rattle.speedate_base.specs.Digits.{is_decimal_mark}
 use Rattle.speedate.specs.Base.{Behavior, IsoOrder}
 use Rattle.speedate.specs.Duration.{duration_answer, duration_answer_or}
@@ -71,10 +70,10 @@ seventh_digit text =
 -- What duration is a part of a line.
 
 -- the duration that a text is
-unfoldable pub duration_whole : Behavior → List ℕ → Result DurationNumbers Refused
-duration_whole behavior text =
-    with_place (duration_answer IsoOrder.Lax behavior text)
-    (refused_place (duration_answer_or placed IsoOrder.Lax behavior text))
+unfoldable pub duration_whole : List ℕ → Result DurationNumbers Refused
+duration_whole text =
+    with_place (duration_answer IsoOrder.Lax Behavior.Error text)
+    (refused_place (duration_answer_or placed IsoOrder.Lax Behavior.Error text))
 
 -- what makes a duration inexact that begins at a byte of a line, by its place, before what else may
 abbrev pub bad_at : ℕ → Why → Option ℕ → Option Bad → Option Bad
@@ -82,11 +81,11 @@ bad_at from why None other = other
 bad_at from why (Some place) other = Some (record { place = from + place; why = why })
 
 -- what is not exact about a duration that begins at a byte of a line, by its text
-unfoldable pub inexact : Behavior → ℕ → List ℕ → Option Bad
-inexact behavior from text =
+unfoldable pub inexact : ℕ → List ℕ → Option Bad
+inexact from text =
     bad_at from Why.NoYearsOrMonths (years_or_months text)
     (bad_at from Why.NoClock (clock_after_minus text)
-    (bad_at from Why.SixDigits (if refuses_digits behavior then seventh_digit text else None) None))
+    (bad_at from Why.SixDigits (seventh_digit text) None))
 
 -- a duration, if nothing is bad about it
 abbrev pub unless_bad : Option Bad → DurationNumbers → Result DurationNumbers Bad
@@ -94,16 +93,15 @@ unless_bad None numbers = Ok numbers
 unless_bad (Some bad) numbers = Err bad
 
 -- what was parsed from a byte of a line on
-abbrev pub exact_from : Behavior → ℕ → List ℕ → Result DurationNumbers Refused
-    → Result DurationNumbers Bad
-exact_from behavior from text (Ok numbers) = unless_bad (inexact behavior from text) numbers
-exact_from behavior from text (Err refused) =
+abbrev pub exact_from : ℕ → List ℕ → Result DurationNumbers Refused → Result DurationNumbers Bad
+exact_from from text (Ok numbers) = unless_bad (inexact from text) numbers
+exact_from from text (Err refused) =
     Err (record { place = from + refused.place; why = Why.Parse refused.fault })
 
 -- the duration that a part of a line is, if it is exact
-unfoldable pub exact_between : Behavior → List ℕ → ℕ → ℕ → Result DurationNumbers Bad
-exact_between behavior head from to =
-    exact_from behavior from (part head from to) (duration_whole behavior (part head from to))
+unfoldable pub exact_between : List ℕ → ℕ → ℕ → Result DurationNumbers Bad
+exact_between head from to =
+    exact_from from (part head from to) (duration_whole (part head from to))
 
 -- What duration a line has.
 
@@ -113,17 +111,17 @@ or_bad (Ok numbers) = Ok numbers
 or_bad (Err bad) = Err (Reading.Bad bad)
 
 -- the duration of a field that ends before the cut of a longer line; an empty field has none
-abbrev pub field_duration : Behavior → List ℕ → Field → Result DurationNumbers Reading
-field_duration behavior head field =
+abbrev pub field_duration : List ℕ → Field → Result DurationNumbers Reading
+field_duration head field =
     if field.from == field.to then Err (undated_field field)
-    else or_bad (alone field (exact_between behavior head field.from field.to))
+    else or_bad (alone field (exact_between head field.from field.to))
 
 -- the duration of a line by where its field is, if it is there
-abbrev pub duration_in : Behavior → List ℕ → Option Field → Result DurationNumbers Reading
-duration_in behavior head None = Err (without_field head)
-duration_in behavior head (Some field) =
+abbrev pub duration_in : List ℕ → Option Field → Result DurationNumbers Reading
+duration_in head None = Err (without_field head)
+duration_in head (Some field) =
     if is_cut head field.end then Err (not_within field.from)
-    else field_duration behavior head field
+    else field_duration head field
 
 -- all of a line but a byte order mark, as a field
 abbrev pub whole_line : List ℕ → Field
@@ -162,8 +160,7 @@ duration_place (Place.After word) head = run_after word.now (fields_of head)
 
 -- the duration of a line, or what is read of a line that has none
 unfoldable pub read_duration : Reader → List ℕ → Result DurationNumbers Reading
-read_duration reader head =
-    duration_in reader.behavior head (duration_place reader.place head)
+read_duration reader head = duration_in head (duration_place reader.place head)
 
 -- a duration that was read, or what the line is instead
 abbrev pub judged_amount : Scan → List ℕ → Result DurationNumbers Reading

@@ -1,7 +1,6 @@
 -- The digits of a second that the text of a value has: the library reads six, and a line may have
 -- nine.
 use Rattle.std.specs.Prelude.{ℕ, ◌+◌, ◌*◌, List, slice_index, nat_le, if◌then◌else◌}
-use Rattle.std.specs.Char.{is_ascii_digit}
 use Rattle.speedate_base.specs.Digits.{is_decimal_mark, one_digit_value, run_length}
 use Rattle.speedate_scan.specs.declared.form.Form.{Form}
 
@@ -14,21 +13,17 @@ abbrev pub fraction_digit : List ℕ → ℕ → ℕ → ℕ
 fraction_digit text size number =
     if nat_le number size then one_digit_value (slice_index text (19 + number)) else 0
 
--- the seventh to the ninth digit of a fraction of so many digits, as a number
-abbrev pub last_digits : List ℕ → ℕ → ℕ
-last_digits text size =
+-- the nanoseconds that the text of a date-time has past its microsecond: the seventh to the ninth
+-- digit, as a number
+abbrev pub past_microsecond : List ℕ → ℕ
+past_microsecond text =
+    let size = fraction_size text in
     100 * fraction_digit text size 7 + 10 * fraction_digit text size 8 + fraction_digit text size 9
 
--- the nanoseconds that the text of a date-time has after its microsecond; most texts have no digit
--- there
-unfoldable pub nanoseconds : List ℕ → ℕ
-nanoseconds text =
-    if is_ascii_digit (slice_index text 26) then last_digits text (fraction_size text) else 0
-
--- the nanoseconds after the microsecond of a value by its text: dates have none, and the library
+-- the nanoseconds of a value past its microsecond, by its text: dates have none, and the library
 -- rounds Unix timestamps to microseconds
-abbrev pub nanoseconds_of : Form → List ℕ → ℕ
-nanoseconds_of Form.DateTime text = nanoseconds text
-nanoseconds_of Form.Strict text = nanoseconds text
-nanoseconds_of Form.Date text = 0
-nanoseconds_of (Form.Timestamp unit) text = 0
+abbrev pub value_past_microsecond : Form → List ℕ → ℕ
+value_past_microsecond Form.DateTime text = past_microsecond text
+value_past_microsecond Form.Strict text = past_microsecond text
+value_past_microsecond Form.Date text = 0
+value_past_microsecond (Form.Timestamp unit) text = 0

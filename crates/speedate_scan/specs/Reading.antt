@@ -21,7 +21,7 @@ use Rattle.speedate.specs.Strict.{strict_date_time_answer, strict_date_time_answ
 use Rattle.speedate.specs.Time.{Clock, clock_front, clock_with_offset, end_fault, minute_time}
 use Rattle.speedate_stream.specs.Machine.{longest_line}
 use Rattle.speedate_scan.specs.Field.{Field, goes_on, mark_length, nth_field}
-use Rattle.speedate_scan.specs.Fraction.{nanoseconds_of}
+use Rattle.speedate_scan.specs.Fraction.{value_past_microsecond}
 use Rattle.speedate_scan.specs.Timestamp.{fewest_digits, has_number, number_length, whole_digits}
 use Rattle.speedate_scan.specs.Zone.{begins_with, is_boundary, late_zone, zone_front}
 pub use Rattle.speedate_scan.specs.declared.claim.Wanted.{Wanted}
@@ -318,7 +318,7 @@ part head from to = take (to - from) (drop from head)
 -- shows it
 unfoldable pub instant_of : Form → List ℕ → DateAndTime → ℤ
 instant_of form text value =
-    utc_microsecond value *ℤ pos 1000 +ℤ pos (nanoseconds_of form text)
+    utc_microsecond value *ℤ pos 1000 +ℤ pos (value_past_microsecond form text)
 
 -- a value that was found from one byte of a line up to another
 abbrev pub found_at : Form → List ℕ → DateAndTime → ℕ → ℕ → Found

@@ -71,14 +71,11 @@ fn years_or_months(text: &[u8]) -> Option<usize>
 
 /// The duration that a text is.
 #[tactic(auto, using(crate::proofs::ReadingLemmas::placed_answer), unfolding(crate::specs::Amount::duration_whole))]
-fn duration_whole(
-    text: &[u8],
-    behavior: MicrosecondsPrecisionOverflowBehavior,
-) -> Result<Duration, Refused>
-    ensures whole { result_map duration_numbers result ≡ duration_whole behavior text.now }
+fn duration_whole(text: &[u8]) -> Result<Duration, Refused>
+    ensures whole { result_map duration_numbers result ≡ duration_whole text.now }
     ensures within { IfErr result (λ refused. refused.place ≤ length text.now) }
 {
-    Duration::parse_or_place(text, &relaxed(behavior))
+    Duration::parse_or_place(text, &relaxed(MicrosecondsPrecisionOverflowBehavior::Error))
 }
 
 /// Whether a byte is `d` or `D`, with which a word for days begins.
@@ -148,9 +145,9 @@ fn seventh_digit(text: &[u8]) -> Option<usize>
 
 /// What is not exact about a duration, by its text, which begins at a byte of a line.
 #[tactic(auto, unfolding(crate::specs::Amount::inexact))]
-fn inexact(text: &[u8], from: usize, behavior: MicrosecondsPrecisionOverflowBehavior) -> Option<Bad>
+fn inexact(text: &[u8], from: usize) -> Option<Bad>
     requires room { from + length text.now ≤ usize.MAX }
-    ensures inexact { result ≡ inexact behavior from text.now }
+    ensures inexact { result ≡ inexact from text.now }
 {
     if let Some(place) = years_or_months(text) {
         return Some(Bad {
@@ -164,9 +161,6 @@ fn inexact(text: &[u8], from: usize, behavior: MicrosecondsPrecisionOverflowBeha
             why: Why::NoClock,
         });
     }
-    if behavior == MicrosecondsPrecisionOverflowBehavior::Truncate {
-        return None;
-    }
     match seventh_digit(text) {
         Some(place) => Some(Bad {
             place: from + place,
@@ -178,19 +172,14 @@ fn inexact(text: &[u8], from: usize, behavior: MicrosecondsPrecisionOverflowBeha
 
 /// The duration that a part of a line is, by its head, if it is exact.
 #[tactic(auto, unfolding(crate::specs::Amount::exact_between))]
-pub fn exact_between(
-    head: &[u8],
-    from: usize,
-    to: usize,
-    behavior: MicrosecondsPrecisionOverflowBehavior,
-) -> Result<Duration, Bad>
+pub fn exact_between(head: &[u8], from: usize, to: usize) -> Result<Duration, Bad>
     requires ordered { from ≤ to }
     requires within { to ≤ length head.now }
-    ensures exact { result_map duration_numbers result ≡ exact_between behavior head.now from to }
+    ensures exact { result_map duration_numbers result ≡ exact_between head.now from to }
 {
     let text = &head[from..to];
-    match duration_whole(text, behavior) {
-        Ok(duration) => match inexact(text, from, behavior) {
+    match duration_whole(text) {
+        Ok(duration) => match inexact(text, from) {
             Some(bad) => Err(bad),
             None => Ok(duration),
         },
@@ -203,18 +192,14 @@ pub fn exact_between(
 
 /// The duration that a field of a line is, by its head. What comes after the quote that closes the field is
 /// bad.
-fn duration_alone(
-    head: &[u8],
-    field: &Field,
-    behavior: MicrosecondsPrecisionOverflowBehavior,
-) -> Result<Duration, Bad>
+fn duration_alone(head: &[u8], field: &Field) -> Result<Duration, Bad>
     requires ordered { field.now.from ≤ field.now.to }
     requires ends { field.now.to ≤ field.now.end }
     requires within { field.now.end ≤ length head.now }
     ensures alone { result_map duration_numbers result
-        ≡ alone field.now (exact_between behavior head.now field.now.from field.now.to) }
+        ≡ alone field.now (exact_between head.now field.now.from field.now.to) }
 {
-    match exact_between(head, field.from, field.to, behavior) {
+    match exact_between(head, field.from, field.to) {
         Ok(duration) => {
             if field.goes_on() {
                 return Err(Bad {
@@ -229,22 +214,18 @@ fn duration_alone(
 }
 
 /// The duration of a field of a line, by its head, or what is read of a field that has none.
-fn field_duration(
-    head: &[u8],
-    field: &Field,
-    behavior: MicrosecondsPrecisionOverflowBehavior,
-) -> Result<Duration, Reading>
+fn field_duration(head: &[u8], field: &Field) -> Result<Duration, Reading>
     requires ordered { field.now.from ≤ field.now.to }
     requires ends { field.now.to ≤ field.now.end }
     requires within { field.now.end ≤ length head.now }
     ensures read { result_map duration_numbers result
-        ≡ field_duration behavior head.now field.now }
+        ≡ field_duration head.now field.now }
     ensures within { IfErr result (λ reading. IsReadWithin reading head.now) }
 {
     if field.from == field.to {
         return Err(undated_field(field));
     }
-    match duration_alone(head, field, behavior) {
+    match duration_alone(head, field) {
         Ok(duration) => Ok(duration),
         Err(bad) => Err(Reading::Bad(bad)),
     }
@@ -252,13 +233,9 @@ fn field_duration(
 
 /// The duration of a line, by its head and where its field is, or what is read of a line that has none.
 #[tactic(auto, using(crate::proofs::SeenLemmas::fields_within, crate::proofs::SeenLemmas::seen_within))]
-fn duration_in(
-    head: &[u8],
-    field: Option<Field>,
-    behavior: MicrosecondsPrecisionOverflowBehavior,
-) -> Result<Duration, Reading>
+fn duration_in(head: &[u8], field: Option<Field>) -> Result<Duration, Reading>
     requires within { IfSome field (λ field. IsFieldWithin field (fields_of head.now)) }
-    ensures read { result_map duration_numbers result ≡ duration_in behavior head.now field }
+    ensures read { result_map duration_numbers result ≡ duration_in head.now field }
     ensures within { IfErr result (λ reading. IsReadWithin reading head.now) }
 {
     match field {
@@ -267,7 +244,7 @@ fn duration_in(
             if is_cut(head, field.end) {
                 return Err(not_within(field.from));
             }
-            field_duration(head, &field, behavior)
+            field_duration(head, &field)
         }
     }
 }
@@ -279,7 +256,7 @@ impl Reader<'_> {
         ensures read { result_map duration_numbers result ≡ read_duration self.now head.now }
         ensures within { IfErr result (λ reading. IsReadWithin reading head.now) }
     {
-        duration_in(head, self.duration_place(head), self.behavior)
+        duration_in(head, self.duration_place(head))
     }
 }
 

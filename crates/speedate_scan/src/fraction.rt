@@ -1,15 +1,12 @@
 //! The digits of a second that the text of a value has: the library reads six, and a line may have nine.
 
 ghost use Rattle.std.specs.Prelude.{◌≡◌, ◌≤◌};
-ghost use Rattle.speedate_scan.specs.Fraction.{fraction_digit, fraction_size, last_digits};
-ghost use Rattle.speedate_scan.specs.Fraction.{nanoseconds, nanoseconds_of};
+ghost use Rattle.speedate_scan.specs.Fraction.{fraction_digit, fraction_size, past_microsecond};
+ghost use Rattle.speedate_scan.specs.Fraction.{value_past_microsecond};
 
 use crate::field::byte_at;
 use crate::form::Form;
 use speedate_base::numbers::{is_decimal_mark, run_end};
-
-/// How many digits a value of a line has at most after its second.
-pub const DIGITS_MAX: usize = 9;
 
 /// How many digits the text of a date-time has after its second: 3 in `b"2026-11-22T06:10:00.120Z"`.
 #[tactic(auto, unfolding(crate::specs::Fraction::fraction_size))]
@@ -35,24 +32,25 @@ fn fraction_digit(text: &[u8], size: usize, number: usize) -> u8
     }
 }
 
-/// The nanoseconds that the text of a date-time has after its microsecond: 789 in
+/// The nanoseconds that the text of a date-time has past its microsecond: 789 in
 /// `b"2026-11-22T06:10:00.123456789Z"`.
 #[inline(always)]
-#[tactic(auto, unfolding(crate::specs::Fraction::nanoseconds))]
-fn nanoseconds(text: &[u8]) -> u32
-    ensures nanoseconds { result ≡ nanoseconds text.now }
+#[tactic(auto, using(crate::proofs::FractionLemmas::no_seventh))]
+fn past_microsecond(text: &[u8]) -> u32
+    ensures nanoseconds { result ≡ past_microsecond text.now }
 {
-    if !byte_at(text, 26).is_ascii_digit() {
-        return 0;
+    // Few texts have a seventh digit.
+    if byte_at(text, 26).is_ascii_digit() {
+        last_digits(text)
+    } else {
+        0
     }
-    last_digits(text)
 }
 
 /// The same, of a text that may have a seventh digit.
 #[inline(never)]
-#[tactic(auto, unfolding(crate::specs::Fraction::nanoseconds))]
 fn last_digits(text: &[u8]) -> u32
-    ensures digits { result ≡ last_digits text.now (fraction_size text.now) }
+    ensures nanoseconds { result ≡ past_microsecond text.now }
 {
     let size = fraction_size(text);
     100 * u32::from(fraction_digit(text, size, 7))
@@ -60,14 +58,14 @@ fn last_digits(text: &[u8]) -> u32
         + u32::from(fraction_digit(text, size, 9))
 }
 
-/// The nanoseconds after the microsecond of a value by its text: dates have none, and the library rounds Unix
+/// The nanoseconds of a value past its microsecond, by its text: dates have none, and the library rounds Unix
 /// timestamps to microseconds.
 #[inline(always)]
-pub fn nanoseconds_of(form: Form, text: &[u8]) -> u32
-    ensures nanoseconds { result ≡ nanoseconds_of form text.now }
+pub fn value_past_microsecond(form: Form, text: &[u8]) -> u32
+    ensures nanoseconds { result ≡ value_past_microsecond form text.now }
 {
     match form {
-        Form::DateTime | Form::Strict => nanoseconds(text),
+        Form::DateTime | Form::Strict => past_microsecond(text),
         Form::Date | Form::Timestamp(_) => 0,
     }
 }

@@ -16,7 +16,7 @@ ghost use Rattle.speedate_scan.specs.Reading.{without_field};
 use crate::claim::{after_claim, field_claims, front_claim};
 use crate::field::{Field, NthField, byte_at, first_bytes};
 use crate::form::Form;
-use crate::fraction::nanoseconds_of;
+use crate::fraction::value_past_microsecond;
 use crate::zone::is_boundary;
 use speedate::{DateTime, MicrosecondsPrecisionOverflowBehavior, ParseError, Refused};
 use speedate_stream::LINE_MAX;
@@ -204,7 +204,7 @@ pub fn fields_of(head: &[u8]) -> &[u8]
 pub fn instant_of(form: Form, text: &[u8], value: &DateTime) -> i128
     ensures instant { result ≡ instant_of form text.now (date_and_time value.now) }
 {
-    i128::from(value.timestamp_tz_us()) * 1000 + i128::from(nanoseconds_of(form, text))
+    i128::from(value.timestamp_tz_us()) * 1000 + i128::from(value_past_microsecond(form, text))
 }
 
 /// A value with the offset that one without gets, if it gets one.
@@ -348,7 +348,7 @@ impl Reader<'_> {
         self.parse_claim(head, claim)
     }
 
-    /// What is read of a line, by its head, but for its value, whose instant is then not calculated.
+    /// What is read of a line, by its head, but for its value, whose instant is not calculated outside a field.
     #[inline(always)]
     #[tactic(auto, unfolding(crate::specs::Reading::read))]
     pub fn verdict(&self, head: &[u8]) -> Verdict

@@ -197,6 +197,30 @@ app.log:3:12: expected hour, 00 to 23\n\
 ",
     ),
     (
+        "convert --fraction 0",
+        CLOCKS,
+        "\
+2026-11-22T06:10:00 a\n\
+2026-11-22T06:10:00 b\n\
+",
+    ),
+    (
+        "convert --fraction 3",
+        CLOCKS,
+        "\
+2026-11-22T06:10:00.123 a\n\
+2026-11-22T06:10:00.123 b\n\
+",
+    ),
+    (
+        "convert --fraction 9 --to Z --offset Z",
+        CLOCKS,
+        "\
+2026-11-22T06:10:00.123456700Z a\n\
+2026-11-22T06:10:00.123456000Z b\n\
+",
+    ),
+    (
         "convert --header",
         LOG,
         "\
