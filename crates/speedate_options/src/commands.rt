@@ -103,6 +103,7 @@ pub fn first_keys<'a>(given: &ArgMatches<'a>) -> Result<Keys<'a>, Refusal> {
     Ok(Keys {
         scan: first_scan(&options, Offsets::AsFirst),
         instant: i128::MIN,
+        has_name: options.prefix.has_name,
     })
 }
 

@@ -8,10 +8,10 @@ use std::alloc::{AllocError, Global};
 enum Prints {
     /// It prints none.
     Nothing,
-    /// It prints them alone.
+    /// It prints them, after the name of their file if that is asked for.
     Lines,
-    /// It prints them, after their file and number if these are asked for.
-    PrefixedLines,
+    /// It prints them, also after their number if that is asked for.
+    NumberedLines,
 }
 
 /// The program's command line.
@@ -43,7 +43,7 @@ fn between<'a>(alloc: Global) -> Result<Command<'a>, AllocError> {
         .arg(flag(alloc, "in-order").help(
             "The values of each file never fall: search for FROM and TO",
         ))?;
-    with_common(alloc, command, Prints::PrefixedLines)
+    with_common(alloc, command, Prints::NumberedLines)
 }
 
 /// The command `check`.
@@ -78,7 +78,7 @@ fn convert<'a>(alloc: Global) -> Result<Command<'a>, AllocError> {
         .arg(valued(alloc, "fraction", "N").help(
             "Exactly 0, 3, 6 or 9 digits of a second, rounded down [default: as many as the value has]",
         ))?;
-    with_common(alloc, command, Prints::PrefixedLines)
+    with_common(alloc, command, Prints::NumberedLines)
 }
 
 /// The command `merge`.
@@ -133,7 +133,7 @@ fn with_common<'a>(
     let command = with_values(alloc, command)?.arg(
         valued(alloc, "offset", "OFFSET")
             .allow_hyphen_values(true)
-            .help("For values and bounds that have none: utc, or +HH:MM"),
+            .help("The offset of what has none: utc, or +HH:MM"),
     )?;
     with_lines_and_files(alloc, command, prints)
 }
@@ -155,8 +155,9 @@ fn with_lines_and_files<'a>(
 ) -> Result<Command<'a>, AllocError> {
     let command = with_lines(alloc, command, prints)?;
     let command = match prints {
-        Prints::PrefixedLines => with_prefix(alloc, command)?,
-        Prints::Lines | Prints::Nothing => command,
+        Prints::NumberedLines => with_name(alloc, with_number(alloc, command)?)?,
+        Prints::Lines => with_name(alloc, command)?,
+        Prints::Nothing => command,
     };
     with_files(alloc, command)
 }
@@ -169,10 +170,10 @@ fn with_lines<'a>(
 ) -> Result<Command<'a>, AllocError> {
     let (undated, bad) = match prints {
         Prints::Nothing => (
-            "Only bad: lines without a value are bad; with --field also join: they are not",
+            "Only bad: lines without a value are bad; with --field also join or drop: they are not",
             "Only stop: end at the first bad value",
         ),
-        Prints::Lines | Prints::PrefixedLines => (
+        Prints::Lines | Prints::NumberedLines => (
             "Lines without a value: join, drop or bad [default: join, with --field bad]",
             "Lines with a bad value: keep or stop [default: keep]",
         ),
@@ -216,19 +217,22 @@ fn with_field<'a>(alloc: Global, command: Command<'a>) -> Result<Command<'a>, Al
         )
 }
 
-/// A command with what it prints before each line.
-fn with_prefix<'a>(alloc: Global, command: Command<'a>) -> Result<Command<'a>, AllocError> {
-    command
-        .arg(
-            flag(alloc, "number")
-                .short('n')
-                .help("The line's number before each line"),
-        )?
-        .arg(
-            flag(alloc, "name")
-                .short('H')
-                .help("The file's name before each line"),
-        )
+/// A command that prints the number of a line before it, if that is asked for.
+fn with_number<'a>(alloc: Global, command: Command<'a>) -> Result<Command<'a>, AllocError> {
+    command.arg(
+        flag(alloc, "number")
+            .short('n')
+            .help("The line's number before each line"),
+    )
+}
+
+/// A command that prints the name of a line's file before it, if that is asked for.
+fn with_name<'a>(alloc: Global, command: Command<'a>) -> Result<Command<'a>, AllocError> {
+    command.arg(
+        flag(alloc, "name")
+            .short('H')
+            .help("The file's name before each line"),
+    )
 }
 
 /// An option without a value.

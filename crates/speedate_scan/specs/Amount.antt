@@ -1,5 +1,5 @@
 -- What duration a line has.
-use Rattle.std.specs.Prelude.{ℕ, ◌+◌, ◌==◌, ◌&&◌, ◌||◌, not, Bool, List, [], ◌∷◌, length, take, drop, slice_index, ◌-◌, Option, Some, None, is_none, option_map, Result, Ok, Err, if◌then◌else◌}
+use Rattle.std.specs.Prelude.{ℕ, ◌+◌, ◌==◌, ◌&&◌, ◌||◌, not, Bool, List, [], ◌∷◌, length, take, drop, slice_index, Option, Some, None, option_map, Result, Ok, Err, if◌then◌else◌}
 use Rattle.std.specs.List.{position}
 use Rattle.std.specs.Char.{is_ascii_digit}
 use Rattle.speedate.specs.Ascii.{capital_m, capital_p, capital_t, capital_y, colon, comma}
@@ -47,11 +47,21 @@ years_or_months text =
 abbrev pub is_day_letter : ℕ → Bool
 is_day_letter byte = (byte == 68) || (byte == 100)
 
+-- a byte with which a clock begins, whose hours may have no digits
+abbrev pub begins_clock : ℕ → Bool
+begins_clock byte = is_ascii_digit byte || (byte == colon)
+
+-- the place of the clock after days, by the place of the letter with which their word begins
+abbrev pub clock_after : List ℕ → Option ℕ → Option ℕ
+clock_after text None = None
+clock_after text (Some day) =
+    option_map (λ place. day + place) (position begins_clock (drop day text))
+
 -- the place of the clock of a text that has days with a minus before it
 unfoldable pub clock_after_minus : List ℕ → Option ℕ
 clock_after_minus text =
-    if not (has_minus text) || is_iso text || is_none (position is_day_letter text) then None
-    else option_map (λ place. place - 2) (position (λ byte. byte == colon) text)
+    if not (has_minus text) || is_iso text then None
+    else clock_after text (position is_day_letter text)
 
 -- Digits of a fraction past the sixth, which the library rounds in texts of ISO 8601.
 

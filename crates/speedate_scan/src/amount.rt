@@ -2,11 +2,12 @@
 
 ghost use Rattle.std.specs.Prelude.{◌≡◌, ◌+◌, ◌≤◌, ◌==◌, ◌||◌, ◌<◌, IfErr, IfSome, length};
 ghost use Rattle.std.specs.List.{position};
-ghost use Rattle.speedate.specs.Ascii.{capital_m, capital_t, capital_y, colon};
+ghost use Rattle.speedate.specs.Ascii.{capital_m, capital_t, capital_y};
 ghost use Rattle.speedate.specs.Duration.{duration_numbers};
 ghost use Rattle.speedate.specs.Requirement.{result_map};
 ghost use Rattle.speedate_scan.specs.Amount.{amount_of, before_time, duration_in, duration_whole};
-ghost use Rattle.speedate_scan.specs.Amount.{clock_after_minus, exact_between, field_duration, inexact};
+ghost use Rattle.speedate_scan.specs.Amount.{begins_clock, clock_after, clock_after_minus};
+ghost use Rattle.speedate_scan.specs.Amount.{exact_between, field_duration, inexact};
 ghost use Rattle.speedate_scan.specs.Amount.{is_day_letter, is_iso, judged_amount, seventh_digit};
 ghost use Rattle.speedate_base.specs.Digits.{is_decimal_mark};
 ghost use Rattle.speedate_scan.specs.Amount.{read_duration, years_or_months};
@@ -92,12 +93,34 @@ fn day_place(text: &[u8]) -> Option<usize>
     text.iter().position(|&byte| is_day_letter(byte))
 }
 
-/// The place of the first `:` of a text.
-fn colon_place(text: &[u8]) -> Option<usize>
-    ensures place { result ≡ position (λ byte. byte == colon) text.now }
+/// Whether a clock begins with a byte: its hours may have no digits.
+fn begins_clock(byte: u8) -> bool
+    ensures begins { result ≡ begins_clock byte }
+{
+    byte.is_ascii_digit() || byte == b':'
+}
+
+/// The place of the first byte of a text with which a clock begins.
+fn clock_place(text: &[u8]) -> Option<usize>
+    ensures place { result ≡ position begins_clock text.now }
     ensures within { IfSome result (λ place. place < length text.now) }
 {
-    text.iter().position(|&byte| byte == b':')
+    text.iter().position(|&byte| begins_clock(byte))
+}
+
+/// The place of the clock after days, by the place of the letter with which their word begins.
+fn clock_after(text: &[u8], day: Option<usize>) -> Option<usize>
+    requires day { IfSome day (λ day. day ≤ length text.now) }
+    ensures place { result ≡ clock_after text.now day }
+    ensures within { IfSome result (λ place. place ≤ length text.now) }
+{
+    let Some(day) = day else {
+        return None;
+    };
+    match clock_place(&text[day..]) {
+        Some(place) => Some(day + place),
+        None => None,
+    }
 }
 
 /// The place of the clock of a text that has days with a minus before it: 8 in `b"-1 day, 23:00:00"`.
@@ -107,13 +130,10 @@ fn clock_after_minus(text: &[u8]) -> Option<usize>
     ensures within { IfSome result (λ place. place ≤ length text.now) }
 {
     let (is_negative, _) = sign(text);
-    if !is_negative || is_iso(text) || day_place(text).is_none() {
+    if !is_negative || is_iso(text) {
         return None;
     }
-    match colon_place(text) {
-        Some(place) => Some(place.saturating_sub(2)),
-        None => None,
-    }
+    clock_after(text, day_place(text))
 }
 
 /// The place of the first decimal mark of a text.

@@ -477,14 +477,14 @@ begins-at zero i (lines ∷ others) first = first.0
 begins-at (suc index) i (lines ∷ others) first = begins-at index i others first.1
 
 -- the line of the best source is printed first
-pub due-line : (best : Best) (instant : ℤ) (line : List ℕ) (rest : List Keyed)
+pub due-line : (best : Best) (prefix : List ℕ) (instant : ℤ) (line : List ℕ) (rest : List Keyed)
     (files : List (List Keyed)) → IsFirst best.index best.instant files
-    → get_or files best.index [] ≡ line_and instant line rest
-    → (left : List ℕ) × (due files ≡ line ++ left)
-due-line best instant [] rest files first is =
+    → get_or files best.index [] ≡ line_and prefix instant line rest
+    → (left : List ℕ) × (due files ≡ (prefix ++ line) ++ left)
+due-line best prefix instant [] rest files first is =
     absurd (subst (BeginsAt best.instant) is (begins-at best.index best.instant files first))
-due-line best instant (byte ∷ bytes) rest files first is =
-    let x : Keyed = record { instant = instant; text = byte ∷ bytes } in
+due-line best prefix instant (byte ∷ bytes) rest files first is =
+    let x : Keyed = record { instant = instant; text = prefix ++ byte ∷ bytes } in
     let key : instant ≡ best.instant =
     subst (BeginsAt best.instant) is (begins-at best.index best.instant files first) in
     let left : List Keyed = risen_after instant rest in
@@ -493,16 +493,17 @@ due-line best instant (byte ∷ bytes) rest files first is =
     (due (set files best.index left), due-least best.index x left files least)
 
 -- the line of the best source is printed, and the next one of its file is read
-pub due-step : (best : Best) (instant : ℤ) (line : List ℕ) (rest left : List Keyed)
+pub due-step : (best : Best) (prefix : List ℕ) (instant : ℤ) (line : List ℕ)
+    (rest left : List Keyed)
     (files : List (List Keyed)) → IsFirst best.index best.instant files
-    → get_or files best.index [] ≡ line_and instant line rest
+    → get_or files best.index [] ≡ line_and prefix instant line rest
     → rest ≡ left → BeginsNotBefore instant left
-    → (due files ≡ line ++ due (set files best.index left))
+    → (due files ≡ (prefix ++ line) ++ due (set files best.index left))
     × (AreAllInOrder (set files best.index left) → AreAllInOrder files)
-due-step best instant [] rest left files first is same begins =
+due-step best prefix instant [] rest left files first is same begins =
     absurd (subst (BeginsAt best.instant) is (begins-at best.index best.instant files first))
-due-step best instant (byte ∷ bytes) rest left files first is same begins =
-    let x : Keyed = record { instant = instant; text = byte ∷ bytes } in
+due-step best prefix instant (byte ∷ bytes) rest left files first is same begins =
+    let x : Keyed = record { instant = instant; text = prefix ++ byte ∷ bytes } in
     let key : instant ≡ best.instant =
     subst (BeginsAt best.instant) is (begins-at best.index best.instant files first) in
     let next : get_or files best.index [] ≡ x ∷ left =

@@ -232,7 +232,7 @@ in_order-from_sort_by_key key xs ys sorted stable =
     ∙ in_order-same (λ a b. is_lt (int_cmp (key a) (key b))) (λ a b. int_lt (key a) (key b))
     (λ a b. is_lt-int_cmp (key a) (key b)) xs
 
-int_not_less : (k : ℤ) → int_lt k k ≡ false
+pub int_not_less : (k : ℤ) → int_lt k k ≡ false
 int_not_less k =
     sym (is_lt-int_cmp k k)
     ∙ not_less (λ a b. is_lt (int_cmp a b)) (ranks_by int_cmp_total (λ a. a)) k

@@ -1,25 +1,29 @@
 -- Lines at places of a text, and lines added one by one.
-use Rattle.std.proofs.Common.{◌≡◌, ◌∙◌, ap, sym, subst, refl, ℕ, ℤ, ◌+◌, ◌-◌, ◌<◌, ◌≤◌, Bool, true, false, List, [], ◌∷◌, ◌++◌, length, take, drop, get_or, slice_index, All, arith, append_assoc, append-nil, Option, Some, None, if◌then◌else◌, Result, Ok, Err, is_err, OnOk, OnErr}
-use Rattle.std.proofs.lemmas.Bool.{false≢true, true≢false}
+use Rattle.std.proofs.Common.{◌≡◌, ◌∙◌, ap, sym, subst, refl, ℕ, ℤ, ◌+◌, ◌-◌, ◌<◌, ◌≤◌, Bool, true, false, List, [], ◌∷◌, ◌++◌, length, take, drop, get_or, slice_index, ◌==◌, All, arith, append_assoc, append-nil, map, Option, Some, None, if◌then◌else◌, Result, Ok, Err, is_err, OnOk, OnErr}
+use Rattle.std.proofs.lemmas.Bool.{eqb-true, false≢true, true≢false}
 use Rattle.std.proofs.lemmas.Grind.{take_at_read}
 use Rattle.std.specs.List.Sorted.{IsPermutation}
 use Rattle.std.proofs.lemmas.List.Sorted.{All-permutation}
-use Rattle.std.proofs.lemmas.List.{drop-append-le, take-append-le, length-drop, length-append, get_or-drop, drop_more, take-append-drop, take_rest, drop_all}
+use Rattle.std.proofs.lemmas.List.{drop-append-le, take-append-le, length-drop, length-append, get_or-drop, drop_more, map-append, take-append-drop, take_all, take_rest, drop_all}
 use Rattle.std.proofs.lemmas.List.Elements.{All-head, All-tail, All-nil, All-cons}
-use Rattle.speedate.specs.Ascii.{line_feed}
+use Rattle.speedate.specs.Ascii.{colon, line_feed}
 use Rattle.speedate.specs.Lines.{complete_lines, last_line, lines, unfinished_line}
 use Rattle.std.proofs.Math.Bool.{or-false}
+use Rattle.std.proofs.Math.Seq.{drop-append_seam}
 use Rattle.speedate_stream.specs.Machine.{head}
 use Rattle.speedate_stream.specs.Run.{AppendsBut, OnlyWrites}
 use Rattle.speedate_stream.specs.Watch.{Watch}
 use Rattle.speedate_stream.proofs.SentLemmas.{OnlyWrites-then}
-use Rattle.speedate_scan.specs.Print.{prefix_text}
-use Rattle.speedate_scan.specs.Scan.{keeps, line_of}
+use Rattle.speedate_scan.specs.Print.{prefix_text, shown_name}
+use Rattle.speedate_scan.specs.Scan.{keeps, line_of, passed}
 use Rattle.speedate_scan.specs.Entries.{printed_line}
 use Rattle.speedate_sort.specs.Base.{Line, Scan}
-use Rattle.speedate_sort.specs.Sort.{IsPlaced, Keyed, Keys, Place, file_lines, if_kept, in_order}
+use Rattle.speedate_sort.specs.Sort.{IsPlaced, Keyed, Keys, Place, bare_lines, file_lines, if_kept}
+use Rattle.speedate_sort.specs.Sort.{Adds, in_order}
 use Rattle.speedate_sort.specs.Sort.{instant_after, is_earlier, is_earlier_line, key_after, key_of}
-use Rattle.speedate_sort.specs.Sort.{keys_after, line_at, lines_at, no_prefix, part, texts}
+use Rattle.speedate_sort.specs.Sort.{keys_after, line_at, lines_at, name_text, no_prefix, part}
+use Rattle.speedate_sort.specs.Sort.{prefixed}
+use Rattle.speedate_sort.specs.Sort.{texts}
 use Rattle.speedate_sort.proofs.OrderLemmas.{map-in_order}
 
 -- a part of a text stays where more stands after it
@@ -83,7 +87,7 @@ kept_none false instant text is = refl
 
 -- one line of a file is added
 pub one-line : (keys : Keys) (line : List ℕ) (found : ℤ) → key_of keys line ≡ Some found
-    → file_lines keys (line ∷ []) ≡ record { instant = found; text = line ++ line_feed ∷ [] } ∷ []
+    → bare_lines keys (line ∷ []) ≡ record { instant = found; text = line ++ line_feed ∷ [] } ∷ []
 one-line keys line found is =
     let what : Line = line_of keys.scan (head line) in
     append-nil (if_kept (keeps keys.scan what) (instant_after keys.instant what)
@@ -95,7 +99,7 @@ one-line keys line found is =
 
 -- a line is left out
 pub no-line : (keys : Keys) (line : List ℕ) → key_of keys line ≡ None
-    → file_lines keys (line ∷ []) ≡ []
+    → bare_lines keys (line ∷ []) ≡ []
 no-line keys line is =
     let what : Line = line_of keys.scan (head line) in
     append-nil (if_kept (keeps keys.scan what) (instant_after keys.instant what)
@@ -104,27 +108,64 @@ no-line keys line is =
     (printed_line no_prefix keys.scan line) is
 
 -- a first line, and then others
-pub file_lines-cons : (keys : Keys) (line : List ℕ) (lines : List (List ℕ))
-    → file_lines keys (line ∷ lines)
-    ≡ file_lines keys (line ∷ []) ++ file_lines (key_after keys line) lines
-file_lines-cons keys line lines =
+pub bare_lines-cons : (keys : Keys) (line : List ℕ) (lines : List (List ℕ))
+    → bare_lines keys (line ∷ lines)
+    ≡ bare_lines keys (line ∷ []) ++ bare_lines (key_after keys line) lines
+bare_lines-cons keys line lines =
     let what : Line = line_of keys.scan (head line) in
-    ap (λ (l : List Keyed). l ++ file_lines (key_after keys line) lines)
+    ap (λ (l : List Keyed). l ++ bare_lines (key_after keys line) lines)
     (sym (append-nil (if_kept (keeps keys.scan what) (instant_after keys.instant what)
     (printed_line no_prefix keys.scan line))))
 
 -- lines, and then others
-pub file_lines-append : (keys : Keys) (lines others : List (List ℕ))
-    → file_lines keys (lines ++ others)
-    ≡ file_lines keys lines ++ file_lines (keys_after keys lines) others
-file_lines-append keys [] others = refl
-file_lines-append keys (line ∷ lines) others =
+pub bare_lines-append : (keys : Keys) (lines others : List (List ℕ))
+    → bare_lines keys (lines ++ others)
+    ≡ bare_lines keys lines ++ bare_lines (keys_after keys lines) others
+bare_lines-append keys [] others = refl
+bare_lines-append keys (line ∷ lines) others =
     let what : Line = line_of keys.scan (head line) in
     let first = if_kept (keeps keys.scan what) (instant_after keys.instant what)
     (printed_line no_prefix keys.scan line) in
-    ap (λ (l : List Keyed). first ++ l) (file_lines-append (key_after keys line) lines others)
-    ∙ sym (append_assoc first (file_lines (key_after keys line) lines)
-    (file_lines (keys_after (key_after keys line) lines) others))
+    ap (λ (l : List Keyed). first ++ l) (bare_lines-append (key_after keys line) lines others)
+    ∙ sym (append_assoc first (bare_lines (key_after keys line) lines)
+    (bare_lines (keys_after (key_after keys line) lines) others))
+
+pub no_named-line : (keys : Keys) (line : List ℕ) → key_of keys line ≡ None
+    → file_lines keys (line ∷ []) ≡ []
+unfolding file_lines
+no_named-line keys line is = ap (map (prefixed (name_text keys))) (no-line keys line is)
+
+passed-name : (scan : Scan) (what : Line) → (passed scan what).name ≡ scan.name
+unfolding passed
+passed-name scan Line.Late = refl
+passed-name scan Line.Header = refl
+passed-name scan Line.Undated = refl
+passed-name scan (Line.Value found) = refl
+passed-name scan (Line.Bad bad) = refl
+passed-name scan Line.Unfit = refl
+
+-- a line does not change the name of its file
+pub name-after : (keys : Keys) (line : List ℕ) → name_text (key_after keys line) ≡ name_text keys
+name-after keys line = rw (passed-name keys.scan (line_of keys.scan (head line))) refl
+
+-- the same of lines after the name of their file
+pub file_lines-cons : (keys : Keys) (line : List ℕ) (lines : List (List ℕ))
+    → file_lines keys (line ∷ lines)
+    ≡ file_lines keys (line ∷ []) ++ file_lines (key_after keys line) lines
+unfolding file_lines
+file_lines-cons keys line lines =
+    ap (map (prefixed (name_text keys))) (bare_lines-cons keys line lines)
+    ∙ map-append (prefixed (name_text keys)) (bare_lines keys (line ∷ []))
+    (bare_lines (key_after keys line) lines)
+    ∙ ap (λ (name : List ℕ). file_lines keys (line ∷ [])
+    ++ map (prefixed name) (bare_lines (key_after keys line) lines)) (sym (name-after keys line))
+
+pub named-line : (keys : Keys) (line : List ℕ) (found : ℤ) → key_of keys line ≡ Some found
+    → file_lines keys (line ∷ [])
+    ≡ record { instant = found; text = name_text keys ++ (line ++ line_feed ∷ []) } ∷ []
+unfolding file_lines
+named-line keys line found is =
+    ap (map (prefixed (name_text keys))) (one-line keys line found is)
 
 pub keys_after-append : (keys : Keys) (lines others : List (List ℕ))
     → keys_after keys (lines ++ others) ≡ keys_after (keys_after keys lines) others
@@ -240,3 +281,89 @@ OnlyWrites-after {result = result} failed flushes sent call =
       };
       unflushed = flushes;
     }) call
+
+-- Lines after what is printed before them.
+
+-- a line was added at the end of a text
+pub line-added : (old more : List ℕ) (places : List Place) (instant : ℤ) (from to : ℕ)
+    → All (IsPlaced old) places → from ≡ length old → to ≡ length (old ++ more)
+    → lines_at (old ++ more) (places ++ record { instant = instant; from = from; to = to } ∷ [])
+    ≡ lines_at old places ++ record { instant = instant; text = more } ∷ []
+line-added old more places instant from to within begins ends =
+    let place : Place = record { instant = instant; from = from; to = to } in
+    let size : to - from ≡ length more =
+    omega (arith, begins, ends, length-append old more) in
+    let bytes : part (old ++ more) from to ≡ more =
+    ap (λ (n : ℕ). take n (drop from (old ++ more))) size
+    ∙ ap (λ (n : ℕ). take (length more) (drop n (old ++ more))) begins
+    ∙ ap (take (length more)) (drop-append_seam old more)
+    ∙ take_all (length more) more (omega arith) in
+    map-append (line_at (old ++ more)) places (place ∷ [])
+    ∙ ap (λ (lines : List Keyed). lines ++ line_at (old ++ more) place ∷ [])
+    (lines_at-grown old more places within)
+    ∙ ap (λ (text : List ℕ). lines_at old places ++ record { instant = instant; text = text } ∷ [])
+    bytes
+
+-- the line at the next place, and the lines at the others
+pub places-step : (prefix from : List ℕ) (others : List Place) (index : ℕ) (default : Place)
+    (so_far : List Keyed) → index < length others
+    → so_far ++ map (prefixed prefix) (lines_at from (drop index others))
+    ≡ (so_far ++ prefixed prefix (line_at from (get_or others index default)) ∷ [])
+    ++ map (prefixed prefix) (lines_at from (drop (index + 1) others))
+places-step prefix from others index default so_far below =
+    ap (λ (l : List Place). so_far ++ map (prefixed prefix) (lines_at from l))
+    (drop_more others index default below)
+    ∙ sym (append_assoc so_far (prefixed prefix (line_at from (get_or others index default)) ∷ [])
+    (map (prefixed prefix) (lines_at from (drop (index + 1) others))))
+
+-- no place is left
+pub places-end : (prefix from : List ℕ) (others : List Place) (index : ℕ) (so_far : List Keyed)
+    → length others ≤ index
+    → so_far ++ map (prefixed prefix) (lines_at from (drop index others)) ≡ so_far
+places-end prefix from others index so_far past =
+    ap (λ (l : List Place). so_far ++ map (prefixed prefix) (lines_at from l))
+    (drop_all index others past)
+    ∙ append-nil so_far
+
+-- nothing is printed before them
+pub bare-prefixed : (lines : List Keyed) → map (prefixed []) lines ≡ lines
+bare-prefixed [] = refl
+bare-prefixed (line ∷ lines) = ap (λ (l : List Keyed). line ∷ l) (bare-prefixed lines)
+
+-- what is printed before a line
+pub name-asked : (keys : Keys) → keys.has_name ≡ true
+    → name_text keys ≡ shown_name keys.scan.name.now ++ colon ∷ []
+name-asked keys is = rw is refl
+
+pub name-unasked : (keys : Keys) → keys.has_name ≡ false → name_text keys ≡ []
+name-unasked keys is = rw is refl
+
+bare-file : (keys : Keys) (lines : List (List ℕ)) → keys.has_name ≡ false
+    → bare_lines keys lines ≡ file_lines keys lines
+unfolding file_lines
+bare-file keys lines none =
+    let no_name = name-unasked keys none in
+    sym (ap (λ (prefix : List ℕ). map (prefixed prefix) (bare_lines keys lines)) no_name
+    ∙ bare-prefixed (bare_lines keys lines))
+
+pub adds-bare : {lines_of : List ℕ → List (List ℕ)} {before after : List Keyed} {old new : Keys}
+    {a b : Option (List ℕ)} → old.has_name ≡ false
+    → Adds bare_lines lines_of before after old new a b
+    → Adds file_lines lines_of before after old new a b
+adds-bare {lines_of = lines_of} {before = before} {old = old} none adds = record {
+  text = adds.text;
+  consumed = adds.consumed;
+  keys = adds.keys;
+  lines = adds.lines
+      ∙ ap (λ (l : List Keyed). before ++ l) (bare-file old (lines_of adds.text) none);
+}
+
+pub on_ok : {T E P Q : Type 0} (result : Result T E) → OnOk result P → (P → Q) → OnOk result Q
+on_ok (Ok value) holds follows = follows holds
+on_ok (Err fault) holds follows = tt
+
+-- a list of so many elements as none
+pub empty_list : {size : ℕ} (list : List ℕ) → length list ≡ size → (size == 0) ≡ true → list ≡ []
+empty_list [] is none = refl
+empty_list (item ∷ items) is none =
+    absurd (omega (arith, is, eqb-true _ 0 none))

@@ -16,14 +16,18 @@ use Rattle.speedate_stream.specs.Run.{AppendsBut}
 use Rattle.speedate_stream.proofs.SentLemmas.{Appends-all, AppendsBut-kept, AppendsBut-more}
 use Rattle.speedate_stream.proofs.SentLemmas.{AppendsBut-same, AppendsBut-trans}
 use Rattle.speedate_scan.specs.Scan.{keeps, line_of}
-use Rattle.speedate_sort.specs.Base.{Line, Offsets}
+use Rattle.speedate_sort.specs.Base.{Line, Offsets, Scan}
 use Rattle.speedate_sort.specs.Sort.{Keyed, Keys, file_lines, instant_after, key_after, key_of}
+use Rattle.speedate_sort.specs.Sort.{name_text}
 use Rattle.speedate_sort.specs.Merge.{AreAlike, AreAllInOrder, AreKnown, Best, Halt, Halted, IsLate}
 use Rattle.speedate_sort.specs.Merge.{IsLateIn, Merges, Moves, ReadsLine, Source}
 use Rattle.speedate_sort.specs.Merge.{StaysSettled, are_unlike, bare, best_of, bytes_of, due, ended}
+use Rattle.speedate_sort.specs.Merge.{number_after, number_of}
 use Rattle.speedate_sort.specs.Merge.{files_left, instant_of, instants, line_and, lines_left}
+use Rattle.speedate_sort.specs.Merge.{printed_first}
 use Rattle.speedate_sort.specs.Merge.{merged_text, unread, with_feed}
-use Rattle.speedate_sort.proofs.SortLemmas.{file_lines-cons, one-line}
+use Rattle.speedate_sort.proofs.SortLemmas.{file_lines-cons, name-after, named-line, no_named-line}
+use Rattle.speedate_sort.proofs.OrderLemmas.{int_not_less}
 use Rattle.speedate_sort.proofs.MergeLemmas.{BeginsNotBefore, IsFirst, best-is_first, due-all}
 use Rattle.speedate_sort.proofs.MergeLemmas.{due-line, due-none, due-step, first_instant}
 use Rattle.speedate_sort.proofs.MergeLemmas.{first_instants}
@@ -197,9 +201,80 @@ unread-kept before after keys (byte ∷ bytes) reads some kept =
     ap (file_lines keys) reads.lines
     ∙ file_lines-cons keys text others
     ∙ ap (λ (l : List Keyed). l ++ file_lines (key_after keys text) others)
-    (one-line keys text instant (kept_found (keeps keys.scan what) instant kept))
-    ∙ ap (λ (l : List ℕ). record { instant = instant; text = l }
+    (named-line keys text instant (kept_found (keeps keys.scan what) instant kept))
+    ∙ ap (λ (l : List ℕ). record { instant = instant; text = name_text keys ++ l }
     ∷ file_lines (key_after keys text) others) (sym reads.feed)
+    ∙ ap (λ (name : List ℕ). record { instant = instant; text = name ++ byte ∷ bytes }
+    ∷ file_lines (key_after keys text) others) (sym (name-after keys text))
+
+no_key : (kept : Bool) (instant : ℤ) → is_some (if kept then Some instant else None) ≡ false
+    → kept ≡ false
+no_key true instant is = absurd (false≢true (sym is))
+no_key false instant is = refl
+
+none_kept : (kept : Bool) (instant : ℤ) → kept ≡ false
+    → (if kept then Some instant else None) ≡ None
+none_kept true instant is = cc
+none_kept false instant is = refl
+
+-- a line that is left out
+pub unread-left : (before after : Option (List ℕ)) (keys : Keys) (line : List ℕ)
+    → ReadsLine before after line → 0 < length line
+    → is_some (key_of keys (take (length line - 1) line)) ≡ false
+    → unread before keys ≡ unread after (key_after keys (take (length line - 1) line))
+unread-left before after keys [] reads some left = absurd (omega (arith, some))
+unread-left before after keys (byte ∷ bytes) reads some left =
+    let text : List ℕ = take (length (byte ∷ bytes) - 1) (byte ∷ bytes) in
+    let others : List (List ℕ) = lines (bytes_of after) in
+    let what : Line = line_of keys.scan (head text) in
+    let instant : ℤ = instant_after keys.instant what in
+    let none = none_kept (keeps keys.scan what) instant
+    (no_key (keeps keys.scan what) instant left) in
+    ap (file_lines keys) reads.lines
+    ∙ file_lines-cons keys text others
+    ∙ ap (λ (l : List Keyed). l ++ file_lines (key_after keys text) others)
+    (no_named-line keys text none)
+
+left-instant : (scan : Scan) (instant : ℤ) (what : Line) → keeps scan what ≡ false
+    → instant_after instant what ≡ instant
+left-instant scan instant (Line.Value found) left = cc
+left-instant scan instant Line.Late left = refl
+left-instant scan instant Line.Header left = refl
+left-instant scan instant (Line.Bad bad) left = refl
+left-instant scan instant Line.Unfit left = refl
+left-instant scan instant Line.Undated left = refl
+
+left-number : (scan : Scan) (number : ℕ) (what : Line) → keeps scan what ≡ false
+    → number_after scan number what ≡ number
+left-number scan number (Line.Value found) left = cc
+left-number scan number Line.Late left = refl
+left-number scan number Line.Header left = refl
+left-number scan number (Line.Bad bad) left = refl
+left-number scan number Line.Unfit left = refl
+left-number scan number Line.Undated left = refl
+
+-- it changes neither the value of the entry nor the number of the last line that has one
+pub left-same : (keys : Keys) (number : ℕ) (text : List ℕ) → is_some (key_of keys text) ≡ false
+    → ((key_after keys text).instant ≡ keys.instant) × (number_of keys number text ≡ number)
+left-same keys number text left =
+    let what : Line = line_of keys.scan (head text) in
+    let gone = no_key (keeps keys.scan what) (instant_after keys.instant what) left in
+    (left-instant keys.scan keys.instant what gone, left-number keys.scan number what gone)
+
+no_lines : (keys : Keys) → let none : List Keyed = [] in file_lines keys [] ≡ none
+unfolding file_lines
+no_lines keys = refl
+
+-- no line is left
+pub moves-end : (first before after : Option (List ℕ)) (old keys : Keys) (line : List ℕ)
+    → line ≡ [] → ReadsLine before after line → unread first old ≡ unread before keys
+    → keys.instant ≡ old.instant → Moves first after old keys line
+moves-end first before after old keys (byte ∷ bytes) is reads same instant = cc
+moves-end first before after old keys [] is reads same instant = record {
+  known = reads.known;
+  lines = same ∙ ap (file_lines keys) (reads.lines ∙ ap lines (reads.end refl)) ∙ no_lines keys;
+  order = ap (λ (n : ℤ). int_lt n old.instant) instant ∙ int_not_less old.instant;
+}
 
 -- a line was read that is not left out
 pub moves-line : (first before after : Option (List ℕ)) (old keys new : Keys) (line : List ℕ)
@@ -222,17 +297,17 @@ module _ {R : Type 0} (remaining : R → Option (List ℕ)) where
   abbrev pub file_of : Source R → List Keyed
   file_of source = lines_left (remaining source.input) source.keys source.line.items
 
-  first-file : (instant : ℤ) (line : List ℕ) (others : List Keyed)
-      → first_instant (line_and instant line others) ≡ instant_of instant line
-  first-file instant [] others = refl
-  first-file instant (byte ∷ bytes) others = refl
+  first-file : (prefix : List ℕ) (instant : ℤ) (line : List ℕ) (others : List Keyed)
+      → first_instant (line_and prefix instant line others) ≡ instant_of instant line
+  first-file prefix instant [] others = refl
+  first-file prefix instant (byte ∷ bytes) others = refl
 
   pub first-files : (sources : List (Source R))
       → first_instants (files_left remaining sources) ≡ instants sources
   first-files [] = refl
   first-files (source ∷ sources) =
       ap (λ (instant : Option ℤ). instant ∷ first_instants (files_left remaining sources))
-      (first-file source.keys.instant source.line.items
+      (first-file (name_text source.keys) source.keys.instant source.line.items
       (unread (remaining source.input) source.keys))
       ∙ ap (λ (l : List (Option ℤ)). instant_of source.keys.instant source.line.items ∷ l)
       (first-files sources)
@@ -260,9 +335,10 @@ module _ {R : Type 0} (remaining : R → Option (List ℕ)) where
   pub sources-line : (sources : List (Source R)) (best : Best) (source : Source R)
       → best_of (instants sources) ≡ Some best → best.index < length sources
       → source ≡ get_or sources best.index source
-      → (left : List ℕ) × (due (files_left remaining sources) ≡ source.line.items ++ left)
+      → (left : List ℕ)
+      × (due (files_left remaining sources) ≡ printed_first source ++ left)
   sources-line sources best source is below at =
-      due-line best source.keys.instant source.line.items
+      due-line best (name_text source.keys) source.keys.instant source.line.items
       (unread (remaining source.input) source.keys) (files_left remaining sources)
       (sources-first sources best is) (file-at sources best.index source below at)
 
@@ -277,19 +353,19 @@ module _ {R : Type 0} (remaining : R → Option (List ℕ)) where
       → source ≡ get_or sources best.index source
       → Moves (remaining source.input) (remaining new.input) source.keys new.keys new.line.items
       → (due (files_left remaining sources)
-      ≡ source.line.items ++ due (files_left remaining (set sources best.index new)))
+      ≡ printed_first source ++ due (files_left remaining (set sources best.index new)))
       × (AreAllInOrder (files_left remaining (set sources best.index new))
       → AreAllInOrder (files_left remaining sources))
   sources-step sources best source new is below at moves =
       let files : List (List Keyed) = files_left remaining sources in
-      let step = due-step best source.keys.instant source.line.items
+      let step = due-step best (name_text source.keys) source.keys.instant source.line.items
       (unread (remaining source.input) source.keys) (file_of new) files
       (sources-first sources best is) (file-at sources best.index source below at) moves.lines
       (begins-moves source.keys.instant (remaining new.input) new.keys new.line.items
       moves.order) in
       let same : files_left remaining (set sources best.index new)
       ≡ set files best.index (file_of new) = map-set file_of sources best.index new in (
-        step.0 ∙ ap (λ (l : List (List Keyed)). source.line.items ++ due l) (sym same),
+        step.0 ∙ ap (λ (l : List (List Keyed)). printed_first source ++ due l) (sym same),
         λ ordered. step.1 (subst AreAllInOrder same ordered),
       )
 

@@ -7,7 +7,7 @@ use Rattle.speedate_stream.specs.Run.{AppendsBut}
 use Rattle.speedate_stream.specs.Watch.{one_more}
 use Rattle.speedate_scan.specs.Scan.{is_value, line_of}
 use Rattle.speedate_sort.specs.Base.{Line, Offsets, Scan}
-use Rattle.speedate_sort.specs.Sort.{Keyed, Keys, file_lines, key_after, sorted_text}
+use Rattle.speedate_sort.specs.Sort.{Keyed, Keys, file_lines, key_after, name_text, sorted_text}
 pub use Rattle.speedate_sort.specs.declared.merge.Before.{Before}
 pub use Rattle.speedate_sort.specs.declared.merge.Best.{Best}
 pub use Rattle.speedate_sort.specs.declared.merge.Halt.{Halt}
@@ -73,16 +73,21 @@ bytes_of (Some bytes) = bytes
 abbrev pub unread : Option (List ℕ) → Keys → List Keyed
 unread remaining keys = file_lines keys (lines (bytes_of remaining))
 
--- the line that was read last, with the value of its entry, and others after it; no line is left if
--- it is empty
-abbrev pub line_and : ℤ → List ℕ → List Keyed → List Keyed
-line_and instant [] others = []
-line_and instant (byte ∷ bytes) others =
-    record { instant = instant; text = byte ∷ bytes } ∷ others
+-- the line that was read last, after what is printed before it, with the value of its entry, and
+-- others after it; no line is left if it is empty
+abbrev pub line_and : List ℕ → ℤ → List ℕ → List Keyed → List Keyed
+line_and prefix instant [] others = []
+line_and prefix instant (byte ∷ bytes) others =
+    record { instant = instant; text = prefix ++ byte ∷ bytes } ∷ others
 
 -- the line that was read last, and those that are left to be read
 abbrev pub lines_left : Option (List ℕ) → Keys → List ℕ → List Keyed
-lines_left remaining keys line = line_and keys.instant line (unread remaining keys)
+lines_left remaining keys line =
+    line_and (name_text keys) keys.instant line (unread remaining keys)
+
+-- the line that was read last, after what is printed before it
+abbrev pub printed_first : {R : Type 0} → Source R → List ℕ
+printed_first source = name_text source.keys ++ source.line.items
 
 -- the value of the line that was read last, if it is not empty
 abbrev pub instant_of : ℤ → List ℕ → Option ℤ

@@ -2,6 +2,7 @@
 use Rattle.std.specs.Prelude.{◌≡◌, ℕ, ℤ, ◌-◌, ◌≤◌, Bool, true, false, List, [], ◌∷◌, ◌++◌, length, take, drop, map, int_lt, Option, Some, None, Result, Ok, Err, if◌then◌else◌}
 use Rattle.std.specs.Io.KnownBytes.{Consumes}
 use Rattle.speedate_stream.specs.Machine.{head}
+use Rattle.speedate_scan.specs.Print.{shown_name, with_colon}
 use Rattle.speedate_scan.specs.Scan.{keeps, line_of, passed}
 use Rattle.speedate_scan.specs.Entries.{Entry, Marked, entries, lines_text, marked, up_to_value}
 use Rattle.speedate_sort.specs.Base.{Line, Prefix}
@@ -88,14 +89,26 @@ abbrev pub no_prefix : Prefix
 no_prefix = record { has_name = false; has_number = false }
 
 -- the lines of a file that are not left out, each with the value of its entry
-abbrev pub file_lines : Keys → List (List ℕ) → List Keyed
-file_lines keys lines = keyed keys.instant (marked no_prefix keys.scan lines)
+abbrev pub bare_lines : Keys → List (List ℕ) → List Keyed
+bare_lines keys lines = keyed keys.instant (marked no_prefix keys.scan lines)
+
+-- a line after a text, such as the name of its file
+abbrev pub prefixed : List ℕ → Keyed → Keyed
+prefixed prefix line = record line { text = prefix ++ line.text }
+
+-- what is printed before each line of a file: its name and a colon, if that is asked for
+abbrev pub name_text : Keys → List ℕ
+name_text keys = with_colon keys.has_name (shown_name keys.scan.name.now)
+
+-- the same, each after the name of the file, if that is asked for
+unfoldable pub file_lines : Keys → List (List ℕ) → List Keyed
+file_lines keys lines = map (prefixed (name_text keys)) (bare_lines keys lines)
 
 -- what is known after a line
 abbrev pub key_after : Keys → List ℕ → Keys
 key_after keys line =
     let what = line_of keys.scan (head line) in
-    record { scan = passed keys.scan what; instant = instant_after keys.instant what }
+    record keys { scan = passed keys.scan what; instant = instant_after keys.instant what }
 
 -- the value of the entry of a line by what it is, unless the line is left out
 abbrev pub kept_instant : Keys → Line → Option ℤ
@@ -130,13 +143,15 @@ FailsBy (Ok ended) output = output ≡ false
 FailsBy (Err Unsorted.Memory) output = output ≡ false
 FailsBy (Err Unsorted.Write) output = output ≡ true
 
--- an input was read, and its lines, or those of them that are complete, were added to others
-pub record Adds (lines_of : List ℕ → List (List ℕ)) (before after : List Keyed)
+-- an input was read, and its lines, or those of them that are complete, were added to others in a
+-- form
+pub record Adds (form : Keys → List (List ℕ) → List Keyed)
+    (lines_of : List ℕ → List (List ℕ)) (before after : List Keyed)
     (keys_before keys_after_them : Keys) (unread_old unread_new : Option (List ℕ)) : Type 0 where
   pub text : List ℕ
   pub consumed : Consumes unread_old unread_new text
   pub keys : keys_after_them ≡ keys_after keys_before (lines_of text)
-  pub lines : after ≡ before ++ file_lines keys_before (lines_of text)
+  pub lines : after ≡ before ++ form keys_before (lines_of text)
 
 -- Places of lines in a text.
 

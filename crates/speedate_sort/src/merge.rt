@@ -6,12 +6,13 @@ ghost use Rattle.speedate_sort.specs.Merge.{AreAlike, AreAllInOrder, AreKnown, H
 ghost use Rattle.speedate_sort.specs.Merge.{IsLateIn, IsNumbered, Merges, Moves, ReadsLine};
 ghost use Rattle.speedate_sort.specs.Merge.{StaysSettled, are_unlike, bare, best_of, better, due};
 ghost use Rattle.speedate_sort.specs.Merge.{ended, files_left, instant_of, instants, merged_text};
-ghost use Rattle.speedate_sort.specs.Merge.{number_of};
+ghost use Rattle.speedate_sort.specs.Merge.{number_of, printed_first};
 ghost use Rattle.speedate_scan.specs.Scan.{is_stopped};
-ghost use Rattle.speedate_sort.specs.Sort.{key_after, key_of};
+ghost use Rattle.speedate_sort.specs.Sort.{key_after, key_of, name_text};
 ghost use Rattle.speedate_stream.specs.Run.{AppendsBeginning, OnlyWrites};
 
 use crate::sort::{Keys, Unread};
+use speedate_scan::reading::seen;
 use speedate_scan::scan::{Offsets, Scan};
 use speedate_stream::run::{head, pass, send};
 use speedate_stream::{Failed, Pending, Watched};
@@ -264,6 +265,37 @@ fn is_unlike(first: Offsets, second: Offsets) -> bool
     }
 }
 
+/// Prints bytes, and then others.
+fn pass_both<W: Write>(
+    first: &[u8],
+    second: &[u8],
+    pending: &mut Pending,
+    output: &mut Watched<W>,
+) -> Result<(), Failed>
+    ensures printed { OnlyWrites W.contents output.old output.new result pending.new.items
+        (pending.old.items ++ (first.now ++ second.now)) }
+{
+    pass(first, pending, output)?;
+    pass(second, pending, output)
+}
+
+/// Prints a line, after the name of its file if that is asked for.
+fn pass_named<W: Write>(
+    keys: &Keys<'_>,
+    line: &[u8],
+    pending: &mut Pending,
+    output: &mut Watched<W>,
+) -> Result<(), Failed>
+    ensures printed { OnlyWrites W.contents output.old output.new result pending.new.items
+        (pending.old.items ++ (name_text keys.now ++ line.now)) }
+{
+    if !keys.has_name {
+        return pass(line, pending, output);
+    }
+    pass_both(seen(keys.scan.name), b":", pending, output)?;
+    pass(line, pending, output)
+}
+
 /// Prints the line of a source, and reads up to the next one that is not left out.
 fn step<R: BufRead, W: Write, P: Reporter>(
     source: &mut Source<'_, R>,
@@ -273,7 +305,7 @@ fn step<R: BufRead, W: Write, P: Reporter>(
     reporter: &mut P,
 ) -> Result<Option<Halt>, Failed>
     ensures printed { OnlyWrites W.contents output.old output.new result pending.new.items
-        (pending.old.items ++ source.old.line.items) }
+        (pending.old.items ++ printed_first source.old) }
     ensures moves { IfOk result (λ halt. IsNone halt → IsSome (R.remaining source.old.input) →
         Moves (R.remaining source.old.input) (R.remaining source.new.input)
         source.old.keys source.new.keys source.new.line.items) }
@@ -283,7 +315,7 @@ fn step<R: BufRead, W: Write, P: Reporter>(
         are_unlike offsets.old source.new.keys.scan.offsets ≡ false) }
     ensures settled { StaysSettled offsets.old offsets.new }
 {
-    pass(&source.line, pending, output)?;
+    pass_named(&source.keys, &source.line, pending, output)?;
     Ok(match source.next(offsets, reporter) {
         Ok(()) => None,
         Err(halt) => Some(halt),

@@ -1,19 +1,21 @@
 //! The command `sort`: the entries of all files in the order of their values.
 
-ghost use Rattle.std.specs.Prelude.{◌≡◌, ◌-◌, ◌++◌, ◌<◌, ◌≤◌, ℤ, All, Err, IfOk, List, OnOk, [], ◌∷◌, drop, false, length, slice_index, true};
+ghost use Rattle.std.specs.Prelude.{◌≡◌, ◌-◌, ◌++◌, ◌<◌, ◌≤◌, ℤ, All, Err, IfOk, List, OnOk, [], ◌∷◌, drop, false, length, map, slice_index, true};
 ghost use Rattle.std.specs.Io.KnownBytes.{Appends, IsAtEnd};
 ghost use Rattle.std.specs.List.Sorted.{IsPermutation};
 ghost use Rattle.speedate.specs.Ascii.{line_feed};
 ghost use Rattle.speedate.specs.Lines.{complete_lines, lines, unfinished_line};
 ghost use Rattle.speedate_scan.specs.Entries.{Marked};
-ghost use Rattle.speedate_sort.specs.Sort.{Adds, AreKept, FailsBy, IsPlaced, Keyed, file_lines, in_order};
+ghost use Rattle.speedate_scan.specs.Print.{shown_name, with_colon};
+ghost use Rattle.speedate_sort.specs.Sort.{Adds, AreKept, FailsBy, IsPlaced, Keyed, bare_lines, file_lines, in_order, prefixed};
 ghost use Rattle.speedate_sort.specs.Sort.{instant_after, is_earlier, kept_instant, key_after};
-ghost use Rattle.speedate_sort.specs.Sort.{key_of, keyed, keys_after, lines_at, part};
+ghost use Rattle.speedate_sort.specs.Sort.{key_of, keyed, keys_after, line_at, lines_at, part};
 ghost use Rattle.speedate_sort.specs.Sort.{sorted_entries, sorted_text, texts};
 ghost use Rattle.speedate_scan.specs.Scan.{passed};
 ghost use Rattle.speedate_stream.specs.Run.{AppendsBeginning, OnlyWrites, Writes};
 
 use speedate::line_end;
+use speedate_scan::reading::seen;
 use speedate_scan::scan::{Line, Scan};
 use speedate_stream::run::{head, pass, send};
 use speedate_stream::{Failed, Pending, Watched};
@@ -29,6 +31,8 @@ pub struct Keys<'a> {
     /// The value of the entry that has begun, in nanoseconds as `Found::instant` counts them; the least
     /// number before the first entry.
     pub instant: i128,
+    /// Whether the name of its file is printed before each line.
+    pub has_name: bool,
 }
 
 /// Where a line stands in a text.
@@ -65,6 +69,7 @@ pub enum Unsorted {
 pub struct Lines {
     text: Vec<u8>,
     places: Vec<Place>,
+    alloc: Global,
 }
 
 impl Model for Lines {
@@ -99,7 +104,7 @@ impl Keys<'_> {
     /// out.
     pub fn pass_line(&mut self, line: Line) -> Option<i128>
         ensures key { result ≡ kept_instant self.old line }
-        ensures after { self.new ≡ record {
+        ensures after { self.new ≡ record self.old {
           scan = passed self.old.scan line;
           instant = instant_after self.old.instant line;
         } }
@@ -110,6 +115,16 @@ impl Keys<'_> {
         self.instant = instant;
         if is_kept { Some(instant) } else { None }
     }
+}
+
+/// The name of a file and a colon.
+fn name_prefix(name: &[u8], alloc: Global) -> Result<Vec<u8>, AllocError>
+    ensures prefix { IfOk result (λ prefix. prefix.items ≡ with_colon true (shown_name name.now)) }
+{
+    let mut prefix = Vec::new(alloc);
+    prefix.extend_from_slice(seen(name))?;
+    prefix.push(b':')?;
+    Ok(prefix)
 }
 
 /// Adds a line of a text, which is ended by the line feed at `end`, unless it is left out.
@@ -128,7 +143,7 @@ fn place_line(
     ensures keys { keys.new ≡ key_after keys.old (part text.now from end) }
     ensures placed { OnOk result (lines_at text.now places.new.items
         ≡ lines_at text.now places.old.items
-        ++ file_lines keys.old (part text.now from end ∷ [])) }
+        ++ bare_lines keys.old (part text.now from end ∷ [])) }
 {
     if let Some(instant) = keys.pass(&text[from..end]) {
         places.push(Place {
@@ -153,7 +168,7 @@ fn place_complete(
     ensures keys { OnOk result (keys.new ≡ keys_after keys.old (complete_lines (drop from text.now))) }
     ensures placed { OnOk result (lines_at text.now places.new.items
         ≡ lines_at text.now places.old.items
-        ++ file_lines keys.old (complete_lines (drop from text.now))) }
+        ++ bare_lines keys.old (complete_lines (drop from text.now))) }
     ensures start { IfOk result (λ start. start ≤ length text.now) }
     ensures rest { IfOk result (λ start. drop start text.now ≡ unfinished_line (drop from text.now)) }
 {
@@ -178,7 +193,7 @@ fn place_all(
     ensures keys { OnOk result (keys.new ≡ keys_after keys.old (lines (drop from text.old.items))) }
     ensures placed { OnOk result (lines_at text.new.items places.new.items
         ≡ lines_at text.old.items places.old.items
-        ++ file_lines keys.old (lines (drop from text.old.items))) }
+        ++ bare_lines keys.old (lines (drop from text.old.items))) }
 {
     let start = place_complete(keys, text, from, places)?;
     let end = text.len();
@@ -195,6 +210,51 @@ fn sort_places(places: &mut Vec<Place>) -> Result<(), AllocError>
     ensures sorted { OnOk result (places.new.items ≡ in_order is_earlier places.old.items) }
 {
     places.sort_by_key(|place| place.instant)
+}
+
+/// Adds the line at a place of another text, after a prefix.
+fn append_line(
+    text: &mut Vec<u8>,
+    places: &mut Vec<Place>,
+    prefix: &[u8],
+    other: &[u8],
+    place: &Place,
+) -> Result<(), AllocError>
+    requires within { All (IsPlaced text.old.items) places.old.items }
+    requires other { IsPlaced other.now place.now }
+    ensures within { All (IsPlaced text.new.items) places.new.items }
+    ensures appended { OnOk result (lines_at text.new.items places.new.items
+        ≡ lines_at text.old.items places.old.items
+        ++ prefixed prefix.now (line_at other.now place.now) ∷ []) }
+{
+    let from = text.len();
+    text.extend_from_slice(prefix)?;
+    text.extend_from_slice(&other[place.from..place.to])?;
+    let to = text.len();
+    let instant = place.instant;
+    places.push(Place { instant, from, to })?;
+    Ok(())
+}
+
+/// Adds the lines at places of another text, each after a prefix.
+fn append_places(
+    text: &mut Vec<u8>,
+    places: &mut Vec<Place>,
+    prefix: &[u8],
+    other: &[u8],
+    others: &[Place],
+) -> Result<(), AllocError>
+    requires within { All (IsPlaced text.old.items) places.old.items }
+    requires others { All (IsPlaced other.now) others.now }
+    ensures within { All (IsPlaced text.new.items) places.new.items }
+    ensures appended { OnOk result (lines_at text.new.items places.new.items
+        ≡ lines_at text.old.items places.old.items
+        ++ map (prefixed prefix.now) (lines_at other.now others.now)) }
+{
+    for place in others {
+        append_line(text, places, prefix, other, place)?;
+    }
+    Ok(())
 }
 
 /// Writes the lines at places of a text, one after the other.
@@ -237,19 +297,69 @@ impl Lines {
         Lines {
             text: Vec::new(alloc),
             places: Vec::new(alloc),
+            alloc,
         }
     }
 
-    /// Adds the lines of an input, which is read to its end.
+    /// Adds the lines of an input, which is read to its end, each after the name of its file if `keys` asks for that.
     ///
     /// Fails with `Unread::Read` if a read fails: the complete lines that were read are added. Fails
     /// with `Unread::Memory` if memory runs out.
     pub fn add<R: Read>(&mut self, keys: &mut Keys<'_>, input: &mut R) -> Result<(), Unread>
-        ensures added { OnOk result (Adds lines self.old self.new keys.old keys.new
+        ensures added { OnOk result (Adds file_lines lines self.old self.new keys.old keys.new
             (R.remaining input.old) (R.remaining input.new)) }
         ensures ended { OnOk result (IsAtEnd (R.remaining input.new)) }
-        ensures read_failed { result ≡ Err Unread.Read → Adds complete_lines self.old self.new
-            keys.old keys.new (R.remaining input.old) (R.remaining input.new) }
+        ensures read_failed { result ≡ Err Unread.Read → Adds file_lines complete_lines self.old
+            self.new keys.old keys.new (R.remaining input.old) (R.remaining input.new) }
+    {
+        if keys.has_name {
+            return self.add_named(keys, input);
+        }
+        self.add_bare(keys, input)
+    }
+
+    /// Adds the lines of an input, each after the name of its file.
+    #[tactic(auto, unfolding(crate::specs::Sort::file_lines))]
+    fn add_named<R: Read>(&mut self, keys: &mut Keys<'_>, input: &mut R) -> Result<(), Unread>
+        requires named { keys.old.has_name ≡ true }
+        ensures added { OnOk result (Adds file_lines lines self.old self.new keys.old keys.new
+            (R.remaining input.old) (R.remaining input.new)) }
+        ensures ended { OnOk result (IsAtEnd (R.remaining input.new)) }
+        ensures read_failed { result ≡ Err Unread.Read → Adds file_lines complete_lines self.old
+            self.new keys.old keys.new (R.remaining input.old) (R.remaining input.new) }
+    {
+        let Ok(prefix) = name_prefix(keys.scan.name, self.alloc) else {
+            return Err(Unread::Memory);
+        };
+        let mut bare = Lines::new(self.alloc);
+        let added = bare.add_bare(keys, input);
+        if self.append(&bare, &prefix).is_err() {
+            return Err(Unread::Memory);
+        }
+        added
+    }
+
+    /// Adds other lines, each after a prefix.
+    fn append(&mut self, others: &Lines, prefix: &[u8]) -> Result<(), AllocError>
+        ensures appended { OnOk result (self.new
+            ≡ self.old ++ map (prefixed prefix.now) others.now) }
+    {
+        append_places(
+            &mut self.text,
+            &mut self.places,
+            prefix,
+            &others.text,
+            &others.places,
+        )
+    }
+
+    /// Adds the lines of an input as they are.
+    fn add_bare<R: Read>(&mut self, keys: &mut Keys<'_>, input: &mut R) -> Result<(), Unread>
+        ensures added { OnOk result (Adds bare_lines lines self.old self.new keys.old keys.new
+            (R.remaining input.old) (R.remaining input.new)) }
+        ensures ended { OnOk result (IsAtEnd (R.remaining input.new)) }
+        ensures read_failed { result ≡ Err Unread.Read → Adds bare_lines complete_lines self.old
+            self.new keys.old keys.new (R.remaining input.old) (R.remaining input.new) }
     {
         let from = self.text.len();
         match input.read_to_end(&mut self.text) {

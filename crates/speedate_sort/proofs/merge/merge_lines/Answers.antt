@@ -4,7 +4,7 @@ use Rattle.std.proofs.lemmas.Bool.{true≢false}
 use Rattle.speedate_stream.proofs.SentLemmas.{AppendsBeginning-left, AppendsBeginning-more}
 use Rattle.speedate_stream.proofs.SentLemmas.{AppendsBut-more, AppendsBut-same, AppendsBut-trans}
 use Rattle.speedate_stream.proofs.SentLemmas.{on_err}
-use Rattle.speedate_sort.specs.Merge.{AreKnown, Best, due, files_left}
+use Rattle.speedate_sort.specs.Merge.{AreKnown, Best, due, files_left, printed_first}
 use Rattle.speedate_sort.proofs.SourceLemmas.{late-in, settled-alike, settled-trans, source-known}
 use Rattle.speedate_sort.proofs.SourceLemmas.{sources-alike, sources-known}
 use Rattle.speedate_sort.proofs.SourceLemmas.{sources-line}
@@ -31,7 +31,7 @@ returns-in_err-halt-clause-beginning g c =
     let line = sources-line g.R.Read.remaining c.loop.sources best source
     (sym c.in-Some.ensures.best) c.in-Some.ensures.within at in
     let same = ap (λ (l : List ℕ). waiting ++ l) line.1
-    ∙ sym (append_assoc waiting source.line.items line.0) in
+    ∙ sym (append_assoc waiting (printed_first source) line.0) in
     on_err c.from_residual.result (λ known. AppendsBeginning-left
     (AppendsBut-same (c.loop.invariant.sent known) same)
     (AppendsBeginning-more line.0 c.in_err-halt.ensures.printed.writes.beginning))
@@ -45,7 +45,7 @@ returns-in-Some-2-clause-merged g c =
     let line = sources-line g.R.Read.remaining c.loop.sources best source
     (sym c.in-Some.ensures.best) c.in-Some.ensures.within at in
     let same = ap (λ (l : List ℕ). waiting ++ l) line.1
-    ∙ sym (append_assoc waiting source.line.items line.0) in
+    ∙ sym (append_assoc waiting (printed_first source) line.0) in
     λ known. record {
       left = line.0;
       sent = AppendsBut-trans (AppendsBut-same (c.loop.invariant.sent known) same)
@@ -84,7 +84,7 @@ loop-preserved g c =
           due (files_left g.R.Read.remaining (set c.loop.sources best.index new)) in
           AppendsBut-trans (AppendsBut-same (c.loop.invariant.sent known)
           (ap (λ (l : List ℕ). waiting ++ l) (step known).0
-          ∙ sym (append_assoc waiting source.line.items left)))
+          ∙ sym (append_assoc waiting (printed_first source) left)))
           (AppendsBut-more left c.in_ok-halt.ensures.printed.writes.sent);
       order = λ known ordered. c.loop.invariant.order known ((step known).1 ordered);
       failed = c.in_ok-halt.ensures.printed.writes.failed ∙ or-false c.loop.output.failed

@@ -1,9 +1,9 @@
 use Rattle.std.proofs.Common.{rules, ◌≡◌, ◌∙◌, ◌++◌, ◌∷◌, [], ap, sym, List, ℕ, drop, length, append_assoc}
 use Rattle.speedate.specs.Ascii.{line_feed}
 use Rattle.speedate.specs.Lines.{complete_lines}
-use Rattle.speedate_sort.specs.Sort.{Keyed, Keys, Place, file_lines, key_after, keys_after}
+use Rattle.speedate_sort.specs.Sort.{Keyed, Keys, Place, bare_lines, key_after, keys_after}
 use Rattle.speedate_sort.specs.Sort.{lines_at, part}
-use Rattle.speedate_sort.proofs.SortLemmas.{file_lines-append, keys_after-append, lines-ended}
+use Rattle.speedate_sort.proofs.SortLemmas.{bare_lines-append, keys_after-append, lines-ended}
 use Rattle.speedate_sort.proofs.SortLemmas.{lines_at-grown}
 use Rattle.speedate_sort.proofs.sort.place_all.Goals as goal
 
@@ -51,15 +51,15 @@ returns-in_ok-place_line-clause-placed c =
     ∙ lines_at-grown text (line_feed ∷ []) middle c.in_ok-start.ensures.within
     ∙ c.in_ok-start.ensures.placed in
     let last =
-    ap (λ (now : Keys). file_lines now (part new start end ∷ [])) c.in_ok-start.ensures.keys
-    ∙ ap (λ (bytes : List ℕ). file_lines (keys_after keys complete) (part bytes start end ∷ []))
+    ap (λ (now : Keys). bare_lines now (part new start end ∷ [])) c.in_ok-start.ensures.keys
+    ∙ ap (λ (bytes : List ℕ). bare_lines (keys_after keys complete) (part bytes start end ∷ []))
     grown in
     rw (sym c.deref.ensures.value, sym c.deref-then-start-end.ensures.value)
     (c.in_ok-place_line.ensures.placed
     ∙ ap (λ (l : List Keyed). l
-    ++ file_lines c.place_complete.new.keys (part new start end ∷ [])) so_far
-    ∙ ap (λ (l : List Keyed). (before ++ file_lines keys complete) ++ l) last
-    ∙ append_assoc before (file_lines keys complete)
-    (file_lines (keys_after keys complete) (line ∷ []))
-    ∙ sym (ap (λ (l : List (List ℕ)). before ++ file_lines keys l) all
-    ∙ ap (λ (l : List Keyed). before ++ l) (file_lines-append keys complete (line ∷ []))))
+    ++ bare_lines c.place_complete.new.keys (part new start end ∷ [])) so_far
+    ∙ ap (λ (l : List Keyed). (before ++ bare_lines keys complete) ++ l) last
+    ∙ append_assoc before (bare_lines keys complete)
+    (bare_lines (keys_after keys complete) (line ∷ []))
+    ∙ sym (ap (λ (l : List (List ℕ)). before ++ bare_lines keys l) all
+    ∙ ap (λ (l : List Keyed). before ++ l) (bare_lines-append keys complete (line ∷ []))))

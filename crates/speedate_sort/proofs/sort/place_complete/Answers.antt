@@ -1,8 +1,8 @@
 use Rattle.std.proofs.Common.{◌∙◌, ◌+◌, ◌++◌, ◌∷◌, [], ap, sym, List, ℕ, drop, append_assoc, append-nil, arith}
 use Rattle.speedate.specs.Lines.{Pieces, complete_lines}
 use Rattle.speedate.proofs.LineLemmas.{pieces-from, pieces-rest}
-use Rattle.speedate_sort.specs.Sort.{Keyed, Keys, file_lines, key_after, keys_after, lines_at, part}
-use Rattle.speedate_sort.proofs.SortLemmas.{file_lines-cons}
+use Rattle.speedate_sort.specs.Sort.{Keyed, Keys, bare_lines, key_after, keys_after, lines_at, part}
+use Rattle.speedate_sort.proofs.SortLemmas.{bare_lines-cons}
 use Rattle.speedate_sort.proofs.sort.place_complete.Goals as goal
 
 pub loop-end-preserved : goal.loop-end-preserved
@@ -25,14 +25,14 @@ loop-end-preserved c =
           ∙ ap (λ (all : Pieces). keys_after keys all.complete) here
           ∙ ap (λ (now : Keys). keys_after now others) is_after;
       placed = before.placed
-          ∙ ap (λ (all : Pieces). lines ++ file_lines keys all.complete) here
-          ∙ ap (λ (l : List Keyed). lines ++ l) (file_lines-cons keys line others)
-          ∙ sym (append_assoc lines (file_lines keys (line ∷ []))
-          (file_lines (key_after keys line) others))
-          ∙ ap (λ (l : List Keyed). l ++ file_lines (key_after keys line) others)
+          ∙ ap (λ (all : Pieces). lines ++ bare_lines keys all.complete) here
+          ∙ ap (λ (l : List Keyed). lines ++ l) (bare_lines-cons keys line others)
+          ∙ sym (append_assoc lines (bare_lines keys (line ∷ []))
+          (bare_lines (key_after keys line) others))
+          ∙ ap (λ (l : List Keyed). l ++ bare_lines (key_after keys line) others)
           (sym c.in_ok-place_line.ensures.placed)
           ∙ ap (λ (now : Keys). lines_at text c.place_line.new.places.items
-          ++ file_lines now others) is_after;
+          ++ bare_lines now others) is_after;
       rest = before.rest ∙ ap (λ (all : Pieces). all.unfinished) here;
     }
 
@@ -51,7 +51,7 @@ returns-clause-placed c =
     let here = pieces-rest c.args.text.now start start
     (λ k after below same. absurd (omega (arith, after, below))) c.in_default.ensures.found in
     sym (c.loop-end.invariant.placed
-    ∙ ap (λ (all : Pieces). lines ++ file_lines c.loop-end.keys all.complete) here
+    ∙ ap (λ (all : Pieces). lines ++ bare_lines c.loop-end.keys all.complete) here
     ∙ append-nil lines)
 
 pub returns-clause-rest : goal.returns-clause-rest

@@ -1,6 +1,6 @@
 use Rattle.std.proofs.Common.{◌≡◌, ◌-◌, ◌++◌, ◌≤◌, All, length, drop}
 use Rattle.speedate.specs.Lines.{complete_lines, unfinished_line}
-use Rattle.speedate_sort.specs.Sort.{IsPlaced, file_lines, keys_after, lines_at}
+use Rattle.speedate_sort.specs.Sort.{IsPlaced, bare_lines, keys_after, lines_at}
 use Rattle.speedate_sort.proofs.sort.place_complete.Given as goal
 
 -- the lines so far, and those from `start` on, are the lines from `from` on
@@ -11,9 +11,9 @@ invariant-loop-end l = record {
   keys : keys_after l.initial.keys (complete_lines (drop l.from l.text))
       ≡ keys_after l.keys (complete_lines (drop l.start l.text));
   placed : lines_at l.text l.initial.places.items
-      ++ file_lines l.initial.keys (complete_lines (drop l.from l.text))
+      ++ bare_lines l.initial.keys (complete_lines (drop l.from l.text))
       ≡ lines_at l.text l.places.items
-      ++ file_lines l.keys (complete_lines (drop l.start l.text));
+      ++ bare_lines l.keys (complete_lines (drop l.start l.text));
   rest : unfinished_line (drop l.from l.text) ≡ unfinished_line (drop l.start l.text);
 }
 
