@@ -12,7 +12,7 @@ use std::io::{self, ErrorKind, Read};
 use std::process::Abort;
 
 /// Command lines, two inputs of each, and what is printed of them.
-const SORTED: [(&str, &str, &str, &str); 8] = [
+const SORTED: [(&str, &str, &str, &str); 7] = [
     (
         "sort",
         LOG,
