@@ -1,4 +1,5 @@
 pub mod Bound
+pub mod Choice
 pub mod Field
 pub mod Idle
 pub mod Offset

@@ -7,13 +7,15 @@ ghost use Rattle.speedate_options.specs.Field.{separator_of};
 ghost use Rattle.speedate_options.specs.Offset.{is_utc, offset_of};
 
 use self::Refusal::Usage;
+use crate::choice::{
+    BadGap, bad_of, digits_of, form_of, fraction_of, gap_of, hours_of, kind_of, undated_of,
+};
 use crate::idle::{Asked, BoundsKind, Idle, Kind};
 use clap::ArgMatches;
 use speedate::{CallKind, MicrosecondsPrecisionOverflowBehavior, Refused, TimestampUnit};
 use speedate_base::numbers::byte_at;
 use speedate_commands::between::Bounds;
 use speedate_commands::convert::Target;
-use speedate_scan::amount::exact_between;
 use speedate_scan::claim::{claims_date, field_claims};
 use speedate_scan::field::{NthField, QUOTE};
 use speedate_scan::form::Form;
@@ -102,15 +104,19 @@ pub fn common<'a>(
 
 /// What is asked for that may make an option idle.
 fn asked(matches: &ArgMatches<'_>, kind: Kind) -> Result<Asked, Refusal> {
+    let form = form(matches)?;
     Ok(Asked {
         kind,
         has_field: matches.get_str("field").is_some(),
         compares: matches.get_flag("order") || matches.get_str("gap").is_some(),
         bounds: bounds_kind(matches)?,
         is_in_order: matches.get_flag("in-order"),
-        is_date: matches.get_str("kind") == Some("date"),
-        is_timestamp: timestamp_unit(matches.get_str("kind")).is_some(),
-        is_whole: matches!(matches.get_str("kind"), Some("date" | "microseconds")),
+        is_date: form == Form::Date,
+        is_timestamp: matches!(form, Form::Timestamp(_)),
+        is_whole: matches!(
+            form,
+            Form::Date | Form::Timestamp(TimestampUnit::Microsecond)
+        ),
         is_strict: matches.get_flag("strict"),
         has_offset: matches.get_str("offset").is_some(),
         has_target: matches.get_str("to").is_some(),
@@ -230,25 +236,9 @@ fn separator_of(text: &[u8]) -> Option<u8>
 
 /// What a value is.
 fn form(matches: &ArgMatches<'_>) -> Result<Form, Refusal> {
-    let kind = matches.get_str("kind");
-    if let Some(unit) = timestamp_unit(kind) {
-        return Ok(Form::Timestamp(unit));
-    }
-    match kind {
-        None | Some("datetime") if matches.get_flag("strict") => Ok(Form::Strict),
-        None | Some("datetime") => Ok(Form::DateTime),
-        Some("date") => Ok(Form::Date),
-        _ => Err(Usage("--kind is datetime, date, seconds, milliseconds or microseconds")),
-    }
-}
-
-/// The unit of Unix timestamps, if values are of this kind.
-fn timestamp_unit(kind: Option<&str>) -> Option<TimestampUnit> {
-    match kind {
-        Some("seconds") => Some(TimestampUnit::Second),
-        Some("milliseconds") => Some(TimestampUnit::Millisecond),
-        Some("microseconds") => Some(TimestampUnit::Microsecond),
-        _ => None,
+    match kind_of(matches.get_str("kind").unwrap_or("datetime").as_bytes()) {
+        Some(kind) => Ok(form_of(kind, matches.get_flag("strict"))),
+        None => Err(Usage("--kind is datetime, date, seconds, milliseconds or microseconds")),
     }
 }
 
@@ -256,10 +246,12 @@ fn timestamp_unit(kind: Option<&str>) -> Option<TimestampUnit> {
 pub fn behavior(
     matches: &ArgMatches<'_>,
 ) -> Result<MicrosecondsPrecisionOverflowBehavior, Refusal> {
-    match matches.get_str("digits") {
-        None => Ok(MicrosecondsPrecisionOverflowBehavior::Truncate),
-        Some("6") => Ok(MicrosecondsPrecisionOverflowBehavior::Error),
-        _ => Err(Usage("--digits is 6")),
+    let Some(text) = matches.get_str("digits") else {
+        return Ok(MicrosecondsPrecisionOverflowBehavior::Truncate);
+    };
+    match digits_of(text.as_bytes()) {
+        Some(behavior) => Ok(behavior),
+        None => Err(Usage("--digits is 6")),
     }
 }
 
@@ -278,30 +270,27 @@ fn offset(matches: &ArgMatches<'_>) -> Result<Option<i32>, Refusal> {
 
 /// What is done with lines that have no value.
 fn undated_lines(matches: &ArgMatches<'_>) -> Result<UndatedLines, Refusal> {
-    match matches.get_str("undated") {
-        None if matches.get_str("field").is_some() => Ok(UndatedLines::Bad),
-        None | Some("join") => Ok(UndatedLines::Join),
-        Some("drop") => Ok(UndatedLines::Drop),
-        Some("bad") => Ok(UndatedLines::Bad),
-        _ => Err(Usage("--undated is join, drop or bad")),
+    let has_field = matches.get_str("field").is_some();
+    let default = if has_field { "bad" } else { "join" };
+    match undated_of(matches.get_str("undated").unwrap_or(default).as_bytes()) {
+        Some(undated) => Ok(undated),
+        None => Err(Usage("--undated is join, drop or bad")),
     }
 }
 
 /// What is done with lines whose value is bad.
 fn bad_lines(matches: &ArgMatches<'_>) -> Result<BadLines, Refusal> {
-    match matches.get_str("bad") {
-        None | Some("keep") => Ok(BadLines::Keep),
-        Some("stop") => Ok(BadLines::Stop),
-        _ => Err(Usage("--bad is keep or stop")),
+    match bad_of(matches.get_str("bad").unwrap_or("keep").as_bytes()) {
+        Some(bad) => Ok(bad),
+        None => Err(Usage("--bad is keep or stop")),
     }
 }
 
 /// Whether a total is printed in hours.
 pub fn has_hours(matches: &ArgMatches<'_>) -> Result<bool, Refusal> {
-    match matches.get_str("to") {
-        None | Some("text") => Ok(false),
-        Some("hours") => Ok(true),
-        _ => Err(Usage("--to is text or hours")),
+    match hours_of(matches.get_str("to").unwrap_or("text").as_bytes()) {
+        Some(has_hours) => Ok(has_hours),
+        None => Err(Usage("--to is text or hours")),
     }
 }
 
@@ -310,25 +299,21 @@ pub fn gap(matches: &ArgMatches<'_>) -> Result<Option<i128>, Refusal> {
     let Some(text) = matches.get_str("gap") else {
         return Ok(None);
     };
-    let text = text.as_bytes();
-    match exact_between(text, 0, text.len()) {
-        Ok(duration) if duration.positive => {
-            Ok(Some(1000 * duration.signed_total_microseconds()))
-        }
-        Ok(_) => Err(Usage("--gap is a duration without a minus")),
-        Err(bad) => Err(Refusal::Gap(bad)),
+    match gap_of(text.as_bytes()) {
+        Ok(gap) => Ok(Some(gap)),
+        Err(BadGap::Negative) => Err(Usage("--gap is a duration without a minus")),
+        Err(BadGap::Bad(bad)) => Err(Refusal::Gap(bad)),
     }
 }
 
 /// With how many digits after their second values are written, if not with as many as they have.
 pub fn fraction_digits(matches: &ArgMatches<'_>) -> Result<Option<usize>, Refusal> {
-    match matches.get_str("fraction") {
-        None => Ok(None),
-        Some("0") => Ok(Some(0)),
-        Some("3") => Ok(Some(3)),
-        Some("6") => Ok(Some(6)),
-        Some("9") => Ok(Some(9)),
-        _ => Err(Usage("--fraction is 0, 3, 6 or 9")),
+    let Some(text) = matches.get_str("fraction") else {
+        return Ok(None);
+    };
+    match fraction_of(text.as_bytes()) {
+        Some(count) => Ok(Some(count)),
+        None => Err(Usage("--fraction is 0, 3, 6 or 9")),
     }
 }
 
