@@ -10,12 +10,13 @@ ghost use Rattle.speedate.specs.Duration.{duration_numbers};
 ghost use Rattle.speedate.specs.Time.{time_of_day};
 
 use speedate::{
-    CallKind, ConfigError, Date, DateConfig, DateConfigBuilder, DateReader, DateTime,
-    DateTimeClockReader, DateTimeConfig, DateTimeConfigBuilder, DateTimeFront, DateTimeFrontReader,
-    DateTimeOffsetReader, DateTimeParser, DateTimeReader, Decimal, Duration, DurationReader,
-    IntFloat, IsoOrder, LineConfig, LineError, MicrosecondsPrecisionOverflowBehavior, Moment,
-    ParseError, Progress, Refused, Time, TimeConfig, TimeConfigBuilder, TimeOffsetReader,
-    TimeParser, TimeReader, TimestampUnit,
+    CallKind, ConfigError, Date, DateConfig, DateConfigBuilder, DatePrinter, DateReader, DateTime,
+    DateTimeClockPrinter, DateTimeClockReader, DateTimeConfig, DateTimeConfigBuilder,
+    DateTimeFront, DateTimeFrontReader, DateTimeOffsetReader, DateTimeParser, DateTimePrinter,
+    DateTimeReader, Decimal, Duration, DurationPrinter, DurationReader, DurationSum,
+    FractionDigits, IntFloat, IsoOrder, LineConfig, LineError,
+    MicrosecondsPrecisionOverflowBehavior, Moment, ParseError, Progress, Refused, Time, TimeConfig,
+    TimeConfigBuilder, TimeOffsetReader, TimeParser, TimePrinter, TimeReader, TimestampUnit,
 };
 use speedate_base::numbers::{DigitRun, Fraction};
 use speedate_base::util::{UnixTime, UnixUnit};
@@ -40,7 +41,9 @@ pub struct Each<'a> {
     /// The builders of configurations.
     pub builders: (DateConfigBuilder, TimeConfigBuilder, DateTimeConfigBuilder),
     /// What is parsed and computed.
-    pub values: (Date, Time, DateTime, Moment, Duration),
+    pub values: (Date, Time, DateTime, Moment, Duration, DurationSum),
+    /// With how many digits a second is printed.
+    pub digits: FractionDigits,
     /// How columns are read.
     pub readers: (LineConfig, DateReader, DateTimeReader, DurationReader),
     /// How columns of clocks and of offsets are read.
@@ -54,6 +57,14 @@ pub struct Each<'a> {
     pub fronts: (DateTimeFrontReader, DateTimeFront),
     /// How columns parse their lines.
     pub parsers: (DateTimeParser, TimeParser),
+    /// How columns are printed.
+    pub printers: (
+        DatePrinter,
+        DateTimePrinter,
+        DateTimeClockPrinter,
+        TimePrinter,
+        DurationPrinter,
+    ),
     /// How far they come.
     pub columns: (Progress, LineError),
     /// What is parsed as a number.
@@ -165,6 +176,27 @@ pub fn same_moment(first: &Moment, second: &Moment) -> bool
 /// Whether two durations are equal: false for `PT0S` and `-PT0S`.
 pub fn same_duration(first: &Duration, second: &Duration) -> bool
     ensures same { IsTrue result ↔ (duration_numbers first.now ≡ duration_numbers second.now) }
+{
+    first == second
+}
+
+/// Whether two sums of durations are equal: false for 1 second and 1,000,000 microseconds.
+pub fn same_sum(first: &DurationSum, second: &DurationSum) -> bool
+    ensures same { IsTrue result ↔ (first.now ≡ second.now) }
+{
+    first == second
+}
+
+/// Whether two numbers of digits are equal: false for three and six.
+pub fn same_digits(first: &FractionDigits, second: &FractionDigits) -> bool
+    ensures same { IsTrue result ↔ (first.now ≡ second.now) }
+{
+    first == second
+}
+
+/// Whether two instants are equal: false if their microseconds differ.
+pub fn same_unix_time(first: &UnixTime, second: &UnixTime) -> bool
+    ensures same { IsTrue result ↔ (first.now ≡ second.now) }
 {
     first == second
 }
