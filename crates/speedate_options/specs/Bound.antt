@@ -1,6 +1,5 @@
 -- A bound of `between`.
-use Rattle.std.specs.Prelude.{ℕ, ℤ, ◌&&◌, ◌||◌, not, Bool, true, false, List, codes, int_lt, length, nat_eq, nat_lt, Option, Some, None, is_some, Result, Ok, Err, if◌then◌else◌}
-use Rattle.std.specs.Cmp.Lexicographic.{pointwise}
+use Rattle.std.specs.Prelude.{ℕ, ℤ, ◌&&◌, ◌||◌, not, Bool, true, false, List, codes, int_lt, length, nat_lt, Option, Some, None, is_some, Result, Ok, Err, if◌then◌else◌}
 use Rattle.speedate.specs.Base.{Behavior}
 use Rattle.speedate.specs.DateTime.{DateAndTime}
 use Rattle.speedate_base.specs.declared.refusal.Refused.{Refused}
@@ -9,6 +8,7 @@ use Rattle.speedate_scan.specs.Print.{call_kind}
 use Rattle.speedate_scan.specs.Reading.{assumed, claims_date, field_claims, instant_of, whole_of}
 use Rattle.speedate_commands.specs.declared.between.Bounds.{Bounds}
 use Rattle.speedate_scan.specs.declared.scan.Offsets.{Offsets}
+use Rattle.speedate_options.specs.Word.{is_word}
 pub use Rattle.speedate_options.specs.declared.options.Unordered.{Unordered}
 pub use Rattle.speedate_options.specs.declared.idle.BoundsKind.{BoundsKind}
 pub use Rattle.speedate_options.specs.declared.options.BadBound.{BadBound}
@@ -75,7 +75,7 @@ bounds_of (Some from) (Some to) =
 
 -- a bound is open
 abbrev pub is_open : List ℕ → Bool
-is_open text = pointwise nat_eq text (codes "..")
+is_open text = is_word text (codes "..")
 
 -- a bound is a date or a date-time
 abbrev pub is_time : Form → List ℕ → Bool

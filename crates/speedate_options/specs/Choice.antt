@@ -1,6 +1,5 @@
 -- What the text of an option chooses.
-use Rattle.std.specs.Prelude.{ℕ, ℤ, pos, ◌*ℤ◌, Bool, true, false, List, codes, length, nat_eq, Option, Some, None, option_map, Result, Ok, Err, if◌then◌else◌}
-use Rattle.std.specs.Cmp.Lexicographic.{pointwise}
+use Rattle.std.specs.Prelude.{ℕ, ℤ, pos, ◌*ℤ◌, Bool, true, false, List, codes, length, Option, Some, None, option_map, Result, Ok, Err, if◌then◌else◌}
 use Rattle.speedate.specs.Base.{Behavior, TimestampUnit}
 use Rattle.speedate.specs.Duration.{signed_amount}
 use Rattle.speedate.specs.DurationNumbers.{DurationNumbers}
@@ -9,25 +8,22 @@ use Rattle.speedate_scan.specs.declared.form.Form.{Form}
 use Rattle.speedate_scan.specs.declared.reading.Bad.{Bad}
 use Rattle.speedate_scan.specs.declared.scan.BadLines.{BadLines}
 use Rattle.speedate_scan.specs.declared.scan.UndatedLines.{UndatedLines}
+use Rattle.speedate_options.specs.Word.{is_word}
 pub use Rattle.speedate_options.specs.declared.choice.BadGap.{BadGap}
-
--- a text is a word
-abbrev pub is : List ℕ → List ℕ → Bool
-is word text = pointwise nat_eq text word
 
 -- the unit of Unix timestamps of a kind
 abbrev pub unit_of : List ℕ → Option TimestampUnit
 unit_of text =
-    if is (codes "seconds") text then Some TimestampUnit.Second
-    else if is (codes "milliseconds") text then Some TimestampUnit.Millisecond
-    else if is (codes "microseconds") text then Some TimestampUnit.Microsecond
+    if is_word text (codes "seconds") then Some TimestampUnit.Second
+    else if is_word text (codes "milliseconds") then Some TimestampUnit.Millisecond
+    else if is_word text (codes "microseconds") then Some TimestampUnit.Microsecond
     else None
 
 -- what values of a kind are
 abbrev pub kind_of : List ℕ → Option Form
 kind_of text =
-    if is (codes "datetime") text then Some Form.DateTime
-    else if is (codes "date") text then Some Form.Date
+    if is_word text (codes "datetime") then Some Form.DateTime
+    else if is_word text (codes "date") then Some Form.Date
     else option_map Form.Timestamp (unit_of text)
 
 -- what values of a kind are, by whether a date-time has to be one of RFC 3339 alone
@@ -39,37 +35,37 @@ form_of (Form.Timestamp unit) is_strict = Form.Timestamp unit
 
 -- what is done with digits past the microsecond: six digits of a second are the most
 abbrev pub digits_of : List ℕ → Option Behavior
-digits_of text = if is (codes "6") text then Some Behavior.Error else None
+digits_of text = if is_word text (codes "6") then Some Behavior.Error else None
 
 -- what is done with lines that have no value
 abbrev pub undated_of : List ℕ → Option UndatedLines
 undated_of text =
-    if is (codes "join") text then Some UndatedLines.Join
-    else if is (codes "drop") text then Some UndatedLines.Drop
-    else if is (codes "bad") text then Some UndatedLines.Bad
+    if is_word text (codes "join") then Some UndatedLines.Join
+    else if is_word text (codes "drop") then Some UndatedLines.Drop
+    else if is_word text (codes "bad") then Some UndatedLines.Bad
     else None
 
 -- what is done with lines whose value is bad
 abbrev pub bad_of : List ℕ → Option BadLines
 bad_of text =
-    if is (codes "keep") text then Some BadLines.Keep
-    else if is (codes "stop") text then Some BadLines.Stop
+    if is_word text (codes "keep") then Some BadLines.Keep
+    else if is_word text (codes "stop") then Some BadLines.Stop
     else None
 
 -- a total is printed in hours
 abbrev pub hours_of : List ℕ → Option Bool
 hours_of text =
-    if is (codes "text") text then Some false
-    else if is (codes "hours") text then Some true
+    if is_word text (codes "text") then Some false
+    else if is_word text (codes "hours") then Some true
     else None
 
 -- with how many digits after their second values are written
 abbrev pub fraction_of : List ℕ → Option ℕ
 fraction_of text =
-    if is (codes "0") text then Some 0
-    else if is (codes "3") text then Some 3
-    else if is (codes "6") text then Some 6
-    else if is (codes "9") text then Some 9
+    if is_word text (codes "0") then Some 0
+    else if is_word text (codes "3") then Some 3
+    else if is_word text (codes "6") then Some 6
+    else if is_word text (codes "9") then Some 9
     else None
 
 -- the nanoseconds of a duration without a minus

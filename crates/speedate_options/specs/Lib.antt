@@ -3,3 +3,4 @@ pub mod Choice
 pub mod Field
 pub mod Idle
 pub mod Offset
+pub mod Word
