@@ -51,7 +51,7 @@
 //!
 //! # Documents
 //!
-//! `docs/GRAMMAR.md` has the texts and the errors, as tables; `docs/CALLING.md` the first check,
+//! `docs/GRAMMAR.md` has the texts and the errors, as tables; `docs/RATTLE.md` the first check,
 //! which call does what, and callers; `docs/DIFFERENCES.md` what differs from the Rust crate. Some of its calls
 //! have another name here: `to_string` is `to_text`, `from_float_with_config` is
 //! [`DateTime::from_decimal_with_config`], and `<` of times and date-times is `cmp_instant`.

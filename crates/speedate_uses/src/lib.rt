@@ -1,5 +1,5 @@
 //! Uses of the library, as crates of other workspaces would write them: each file is one use, with
-//! its tests in `speedate_uses_tests`. `docs/CALLING.md` shows parts of two.
+//! its tests in `speedate_uses_tests`. `docs/RATTLE.md` shows parts of two.
 #![tactic(auto)]
 
 pub mod calendar;
