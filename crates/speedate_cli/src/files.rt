@@ -1,19 +1,21 @@
 //! Runs of a command over files, one after the other, and what is told of them on standard error.
 
-use crate::input::{Input, Looking, open_input, tell_unread, tell_without_value};
+ghost use Rattle.std.specs.Prelude.{◌≡◌, ℕ, [], List, OnOk, Option, Some, true};
+ghost use Rattle.speedate_cli.specs.Files.{Leaves, Prints, RunsFile, RunsFiles, is_over};
+ghost use Rattle.speedate_stream.specs.Run.{Writes};
+
+use crate::input::{Input, Reasoned, open_input, tell_unread, tell_without_value};
 use crate::reason::Reason;
 use crate::seeking::Seeking;
-use crate::session::Session;
 use speedate::CallKind;
-use speedate_commands::first::First;
-use speedate_commands::search::Window;
-use speedate_commands::status::{READ, USAGE, WRITE, file_status, is_due, lines_status};
+use speedate_commands::command::Command;
+use speedate_commands::status::{READ, USAGE, WRITE, file_status, is_due, lines_status, worse};
 use speedate_scan::form::Form;
 use speedate_scan::print::{push_line_place, push_report};
 use speedate_scan::scan::{Offsets, Report, Scan, Stop};
-use speedate_stream::run::RunError;
-use speedate_stream::{Observer, Pending, Watched, push_bytes};
-use std::io::{self, ErrorKind, Seek, SeekFrom, Write};
+use speedate_stream::run::{RunError, send};
+use speedate_stream::{Failed, Observer, Pending, Watched, push_bytes};
+use std::io::{self, ErrorKind, Read, Seek, SeekFrom, Stdout, Write};
 
 /// Standard output, which remembers whether its reader has gone.
 #[derive(Drop)]
@@ -38,141 +40,205 @@ impl<W: Write> Write for Output<W> {
     }
 }
 
-/// Runs a command over files, and returns the exit status. Without files it reads standard input.
-pub fn run_files<'a, M: Session<'a>>(rt: &HostRuntime, machine: &mut M, files: &[&'a str]) -> u8 {
-    let mut output = Watched::new(Output {
+/// Standard output.
+pub fn standard_output(rt: &HostRuntime) -> Watched<Output<Stdout>> {
+    Watched::new(Output {
         inner: rt.stdout(),
         is_closed: false,
-    });
-    let scan = machine.scan();
-    let kind = machine.call_kind(scan.reader.form);
-    let has_durations = matches!(kind, CallKind::Duration);
-    let mut first = First::new(scan, has_durations);
-    let mut status = 0;
-    for name in if files.is_empty() { &["-"] } else { files } {
-        if status == WRITE || machine.scan().is_stopped() {
-            break;
-        }
-        status = status.max(run_file(rt, machine, &mut first, name, &mut output));
-    }
-    let mut output = output.into_inner();
-    if status != WRITE && write_end(machine, &mut output).is_err() {
-        status = WRITE;
-    }
-    if status == WRITE && !output.is_closed {
+    })
+}
+
+/// Tells that the output failed, unless its reader has gone.
+pub fn tell_output(rt: &HostRuntime, output: Watched<Output<Stdout>>) {
+    if !output.into_inner().is_closed {
         let _ = eprintln!(rt; "speedate: output failed");
     }
-    status.max(tell_end(rt, machine, &first))
+}
+
+/// The names of the files: without any, standard input.
+pub fn names_or_input<'n, 'a>(names: &'n [&'a str]) -> &'n [&'a str] {
+    if names.is_empty() { &["-"] } else { names }
+}
+
+/// Where files are.
+pub trait Files<R: Read> {
+    ghost use Rattle.std.specs.Prelude.{◌≡◌, ℕ, IfSome, List, Option};
+
+    // What a file with a name holds, where that is known.
+    ghost contents: { Self → List ℕ → Option (List ℕ) };
+
+    /// Opens a file, or tells why it cannot be read.
+    fn open(&self, name: &str) -> Option<R>
+        ensures contents { IfSome result (λ input. R.remaining input ≡ contents self.now name.now) };
+}
+
+/// The files of the system, and standard input.
+#[derive(Clone, Copy)]
+pub struct System<'r> {
+    /// The system.
+    pub rt: &'r HostRuntime,
+}
+
+impl Files<Input> for System<'_> {
+    ghost use Rattle.std.specs.Prelude.{None};
+
+    ghost contents = { λ _ _. None };
+
+    fn open(&self, name: &str) -> Option<Input> {
+        open_input(self.rt, name)
+    }
+}
+
+/// Runs a command over files, and returns the exit status. Without files it reads standard input.
+pub fn run_files<'a, C: Command<'a>>(rt: &HostRuntime, command: &mut C, names: &[&'a str]) -> u8 {
+    let mut output = standard_output(rt);
+    let names = names_or_input(names);
+    let mut status = run_each(rt, command, &System { rt }, names, &mut output);
+    if status != WRITE && write_end(command, &mut output).is_err() {
+        status = WRITE;
+    }
+    if status == WRITE {
+        tell_output(rt, output);
+    }
+    worse(status, tell_end(rt, command))
+}
+
+/// Runs a command over files, and returns the exit status as far as it is about each of them.
+pub fn run_each<'a, C: Command<'a>, R: Read + Seek + Drop, F: Files<R>, W: Write>(
+    rt: &HostRuntime,
+    command: &mut C,
+    files: &F,
+    names: &[&'a str],
+    output: &mut Watched<W>,
+) -> u8
+    ensures ran { RunsFiles C.machine C.scan C.begun C.Says C.about (F.contents files.now) names.now
+        command.old command.new (W.contents output.old.inner) (W.contents output.new.inner) 0 result }
+{
+    let mut status = 0;
+    for name in names {
+        if is_over(command, status) {
+            return status;
+        }
+        let one = run_file(rt, command, files, name, output);
+        status = worse(status, one);
+    }
+    status
+}
+
+/// Whether no further file is opened: a write failed, or the command wants no further line.
+fn is_over<'a, C: Command<'a>>(command: &C, status: u8) -> bool
+    ensures over { result ≡ is_over C.machine C.scan C.begun C.Says C.about command.now status }
+{
+    status == WRITE || command.is_done()
 }
 
 /// Writes what is printed after the last file.
-pub fn write_end<'a, M: Session<'a>, W: Write>(machine: &M, output: &mut W) -> io::Result<()> {
+pub fn write_end<'a, C: Command<'a>, W: Write>(
+    command: &C,
+    output: &mut Watched<W>,
+) -> Result<(), Failed>
+    ensures written { Writes W.contents output.old output.new result [] (C.end_text command.now) }
+    ensures flushed { OnOk result (output.new.flushed ≡ true) }
+{
     let mut end = Pending::new();
-    machine.push_end(&mut end);
-    output.write_all(end.as_slice())?;
+    command.push_end(&mut end);
+    send(&mut end, output)?;
     output.flush()
 }
 
 /// Runs a command over a file, and returns the exit status as far as it is about the file.
-fn run_file<'a, M: Session<'a>, W: Write>(
+fn run_file<'a, C: Command<'a>, R: Read + Seek + Drop, F: Files<R>, W: Write>(
     rt: &HostRuntime,
-    machine: &mut M,
-    first: &mut First<'a>,
+    command: &mut C,
+    files: &F,
     name: &'a str,
     output: &mut Watched<W>,
-) -> u8 {
-    machine.begin(name.as_bytes());
-    let Some(input) = open_input(rt, name) else {
+) -> u8
+    ensures ran { RunsFile C.machine C.scan C.begun C.Says C.about name.now
+        (F.contents files.now name.now) command.old command.new
+        (W.contents output.old.inner) (W.contents output.new.inner) result }
+{
+    command.begin(name.as_bytes());
+    let Some(input) = files.open(name) else {
         return READ;
     };
-    first.begin(machine.scan());
     let mut reports = Reports {
         rt,
         name: name.as_bytes(),
-        told: machine.scan().bad,
+        told: command.scan().bad,
     };
-    let ended = print_input(machine, *first, input, output, &mut reports);
-    reports.before_read(machine);
-    *first = ended.first;
-    match ended.result {
-        Ok(()) if ended.is_without_value => tell_without_value(rt, name),
-        Err(RunError::Read) => tell_unread(rt, name, ended.reason),
-        Ok(()) | Err(RunError::Write) => {}
-    }
-    file_status(ended.result, ended.is_without_value)
+    let (ended, reason) = run_input(command, input, output, &mut reports);
+    reports.before_read(command);
+    let is_without_value = command.scan().is_without_value();
+    tell_file(rt, name, ended, is_without_value, reason);
+    file_status(ended, is_without_value)
 }
 
-/// How a run of a command over a file ended.
-#[derive(Clone, Copy)]
-struct Ended<'a> {
-    /// Which end failed, if one did.
-    result: Result<(), RunError>,
-    /// What is known of the lines up to the first value.
-    first: First<'a>,
-    /// Whether no line of the file has a value.
-    is_without_value: bool,
-    /// Why a read failed, if one did.
-    reason: Option<Reason>,
-}
-
-impl<'a> Ended<'a> {
-    /// How a run ended that left a reader.
-    fn new<R>(ended: Result<(), RunError>, looking: &Looking<'a, R>) -> Self {
-        Ended {
-            result: ended,
-            first: looking.lines.first,
-            is_without_value: looking.lines.is_without_value(),
-            reason: looking.reason,
-        }
-    }
-}
-
-/// Prints what a command prints of an input. One that cannot be moved in is read as a whole.
-fn print_input<'a, M: Session<'a>, W: Write, O: Observer<M>>(
-    machine: &mut M,
-    first: First<'a>,
-    input: Input,
+/// Prints what a command prints of an input, and returns also why a read failed, if one did.
+fn run_input<'a, C: Command<'a>, R: Read + Seek + Drop, W: Write, O: Observer<C>>(
+    command: &mut C,
+    input: R,
     output: &mut Watched<W>,
     observer: &mut O,
-) -> Ended<'a> {
-    let mut input = input;
-    if machine.is_in_order() {
-        if let Ok(size) = input.seek(SeekFrom::End(0)) {
-            return search_input(machine, first, &Seeking::new(input), size, output);
-        }
+) -> (Result<(), RunError>, Option<Reason>)
+    ensures left { Leaves C.machine C.scan C.begun C.Says C.about (Some result.0)
+        command.old command.new (R.remaining input)
+        (W.contents output.old.inner) (W.contents output.new.inner) }
+{
+    if command.about().is_in_order {
+        return search_input(command, input, output, observer);
     }
-    let mut input = Watched::new(Looking::new(input, first));
-    let result = machine.print(&mut input, output, observer);
-    Ended::new(result, &input.into_inner())
+    read_input(command, input, output, observer)
 }
 
-/// Prints what a command prints of a file that is searched. If no value was found, its lines are looked
-/// at from the first one on.
-fn search_input<'a, M: Session<'a>, W: Write>(
-    machine: &mut M,
-    first: First<'a>,
-    source: &Seeking<Input>,
-    size: u64,
+/// Prints what a command prints of an input that is searched. One that cannot be moved in is read as a whole.
+fn search_input<'a, C: Command<'a>, R: Read + Seek + Drop, W: Write, O: Observer<C>>(
+    command: &mut C,
+    mut input: R,
     output: &mut Watched<W>,
-) -> Ended<'a> {
-    let searched = machine.search(source, size, output);
-    let mut looking = Looking::new(
-        Window {
-            source,
-            at: 0,
-            end: u64::MAX,
-        },
-        first,
-    );
-    if searched == Ok(false) {
-        looking.look();
+    observer: &mut O,
+) -> (Result<(), RunError>, Option<Reason>) {
+    let Ok(size) = input.seek(SeekFrom::End(0)) else {
+        return read_input(command, input, output, observer);
+    };
+    let source = Seeking::new(input);
+    let ended = command.search(&source, size, output);
+    (ended, source.reason())
+}
+
+/// Prints what a command prints of an input that is read as a whole.
+fn read_input<'a, C: Command<'a>, R: Read + Drop, W: Write, O: Observer<C>>(
+    command: &mut C,
+    input: R,
+    output: &mut Watched<W>,
+    observer: &mut O,
+) -> (Result<(), RunError>, Option<Reason>)
+    ensures left { (rest : Option (List ℕ)) × Prints C.machine C.scan C.begun C.Says C.about result.0
+        command.old command.new (R.remaining input) rest
+        (W.contents output.old.inner) (W.contents output.new.inner) }
+{
+    let mut input = Watched::new(Reasoned::new(input));
+    let ended = command.print(&mut input, output, observer);
+    (ended, input.into_inner().reason)
+}
+
+/// Tells what is to be told of a file.
+fn tell_file(
+    rt: &HostRuntime,
+    name: &str,
+    ended: Result<(), RunError>,
+    is_without_value: bool,
+    reason: Option<Reason>,
+) {
+    match ended {
+        Ok(()) => {
+            if is_without_value {
+                tell_without_value(rt, name);
+            }
+        }
+        Err(RunError::Read) => tell_unread(rt, name, reason),
+        Err(RunError::Write) => {}
     }
-    let mut ended = Ended::new(Ok(()), &looking);
-    if let Err(error) = searched {
-        ended.result = Err(error);
-        ended.reason = source.reason();
-    }
-    ended
 }
 
 /// Tells the bad values of a file on standard error: those that are among the first, once each.
@@ -186,11 +252,12 @@ pub struct Reports<'r, 'a> {
     pub told: u64,
 }
 
-impl<'a, M: Session<'a>> Observer<M> for Reports<'_, 'a> {
-    fn before_read(&mut self, machine: &M) {
-        let scan = machine.scan();
-        if machine.reports_bad() {
-            self.tell(&scan, machine.call_kind(scan.reader.form));
+impl<'a, C: Command<'a>> Observer<C> for Reports<'_, 'a> {
+    fn before_read(&mut self, command: &C) {
+        let scan = command.scan();
+        let about = command.about();
+        if about.tells_bad {
+            self.tell(&scan, about.kind);
         }
         self.told = scan.bad;
     }
@@ -216,21 +283,21 @@ impl Reports<'_, '_> {
 
 /// Tells on standard error what is to be told at the end, and returns the exit status as far as it is
 /// about the lines.
-fn tell_end<'a, M: Session<'a>>(rt: &HostRuntime, machine: &M, first: &First<'_>) -> u8 {
-    let scan = machine.scan();
+fn tell_end<'a, C: Command<'a>>(rt: &HostRuntime, command: &C) -> u8 {
+    let scan = command.scan();
     if let (Stop::AtUnfit, Offsets::AsBounds(has_offset)) = (scan.stop, scan.offsets) {
         tell_unfit(rt, &scan, has_offset);
         return USAGE;
     }
-    if machine.reports_bad() {
+    let about = command.about();
+    if about.tells_bad {
         tell_count(rt, scan.bad, "bad line", "bad lines");
     }
-    tell_lines_before(rt, machine.lines_before(first));
-    let is_too_large = machine.is_too_large();
-    if is_too_large {
+    tell_lines_before(rt, about.before);
+    if about.is_too_large {
         let _ = eprintln!(rt; "speedate: the total has more than 999,999,999 days");
     }
-    lines_status(scan.bad, machine.late_or_after_gap(), is_too_large)
+    lines_status(scan.bad, about.reported, about.is_too_large)
 }
 
 /// Tells that the first value does not fit the bounds, which have an offset or have none.

@@ -1,7 +1,8 @@
 //! What is read: standard input or a file, and what is told of it on standard error.
 
+ghost use Rattle.std.specs.Prelude.{◌≡◌};
+
 use crate::reason::Reason;
-use speedate_commands::first::{First, FirstLines};
 use speedate_commands::status::are_one;
 use std::fs::{self, File};
 use std::io::{self, ErrorKind, Read, Seek, SeekFrom, Stdin};
@@ -79,55 +80,33 @@ pub fn tell_without_value(rt: &HostRuntime, name: &str) {
     let _ = eprintln!(rt; "speedate: {name}: no line has a value");
 }
 
-/// A reader whose lines are looked at up to the first value. It remembers why a read failed.
+/// A reader that remembers why a read failed.
 #[derive(Drop)]
-pub struct Looking<'a, R> {
+pub struct Reasoned<R> {
     /// The reader.
     pub inner: R,
-    /// What is known of its lines.
-    pub lines: FirstLines<'a>,
     /// Why a read failed, if one did.
     pub reason: Option<Reason>,
 }
 
-impl<'a, R> Looking<'a, R> {
+impl<R> Reasoned<R> {
     /// A reader of which nothing was read.
-    pub fn new(inner: R, first: First<'a>) -> Self {
-        Looking {
+    pub fn new(inner: R) -> Self
+        ensures inner { result.inner ≡ inner }
+    {
+        Reasoned {
             inner,
-            lines: FirstLines::new(first),
             reason: None,
         }
     }
 }
 
-impl<R: Read> Looking<'_, R> {
-    /// Reads up to the first value, or up to the end.
-    pub fn look(&mut self) {
-        let mut buffer = [0; 16_384];
-        for _ in 0..u64::MAX {
-            if self.lines.first.is_found() {
-                return;
-            }
-            match self.read(&mut buffer) {
-                Ok(0) | Err(_) => return,
-                Ok(_) => {}
-            }
-        }
-    }
-}
+impl<R: Read> Read for Reasoned<R> {
+    ghost remaining = { λ reader. R.remaining reader.inner };
 
-impl<R: Read> Read for Looking<'_, R> {
     fn read(&mut self, buffer: &mut [u8]) -> io::Result<usize> {
         match self.inner.read(buffer) {
-            Ok(count) => {
-                if count > 0 {
-                    self.lines.read(&buffer[..count]);
-                } else if !buffer.is_empty() {
-                    self.lines.end();
-                }
-                Ok(count)
-            }
+            Ok(count) => Ok(count),
             Err(error) => {
                 self.reason = Some(Reason::new(&error));
                 Err(error)

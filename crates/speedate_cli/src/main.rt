@@ -6,7 +6,6 @@ mod input;
 mod merge_session;
 mod reason;
 mod seeking;
-mod session;
 mod sort_session;
 #[cfg(test)]
 mod tests;

@@ -3,26 +3,27 @@
 ghost use Rattle.std.specs.Prelude.{◌+◌, ◌≤◌};
 ghost use Rattle.arrayvec.specs.ArrayVec.{array_vec_len};
 
-use crate::files::{Output, Reports, tell_count, tell_lines_before};
-use crate::input::{Input, Looking, open_input, tell_unread, tell_without_value};
-use speedate_commands::first::First;
+use crate::files::{
+    Reports, names_or_input, standard_output, tell_count, tell_lines_before, tell_output,
+};
+use crate::input::{Input, Reasoned, open_input, tell_unread, tell_without_value};
 use speedate_commands::order::{Latest, push_late};
 use speedate_commands::status::{BAD, READ, WRITE, lines_status};
 use speedate_scan::print::push_line_place;
 use speedate_scan::scan::{Offsets, REPORTS_MAX, Scan};
 use speedate_sort::merge::{Before, Halt, Halted, Reporter, Source, merge};
 use speedate_sort::sort::{Keys, Unread};
-use speedate_stream::{PENDING_MAX, Pending, STEP_MAX, Watched, push_bytes};
+use speedate_stream::{PENDING_MAX, Pending, STEP_MAX, push_bytes};
 use std::alloc::AllocError;
 use std::io::{BufReader, Write};
 
 /// A source of a file, or of standard input.
-type FileSource<'a> = Source<'a, BufReader<Looking<'a, Input>>>;
+type FileSource<'a> = Source<'a, BufReader<Reasoned<Input>>>;
 
 /// Runs `merge` over files, and returns the exit status. Without files it reads standard input. All are
 /// opened before a line is printed, and none is printed if one cannot be opened or its first line not read.
 pub fn run_merge<'a>(rt: &HostRuntime, keys: &Keys<'a>, files: &[&'a str]) -> u8 {
-    let files = if files.is_empty() { &["-"] } else { files };
+    let files = names_or_input(files);
     let mut sources = Vec::new(rt.alloc());
     let mut status = 0;
     for name in files {
@@ -97,8 +98,7 @@ fn open_source<'a>(
     let Some(input) = open_input(rt, name) else {
         return Ok(None);
     };
-    let input = Looking::new(input, First::new(keys.scan, false));
-    match BufReader::new(rt.alloc(), input) {
+    match BufReader::new(rt.alloc(), Reasoned::new(input)) {
         Ok(input) => Ok(Some(Source::new(keys, input, rt.alloc()))),
         Err(_) => Err(AllocError),
     }
@@ -112,16 +112,11 @@ fn merge_sources(
     offsets: Offsets,
     first_bad: &mut FirstBad<'_>,
 ) -> u8 {
-    let mut output = Watched::new(Output {
-        inner: rt.stdout(),
-        is_closed: false,
-    });
+    let mut output = standard_output(rt);
     match merge(sources, offsets, &mut output, first_bad) {
         Ok(halted) => tell_end(rt, files, sources, halted),
         Err(_) => {
-            if !output.into_inner().is_closed {
-                let _ = eprintln!(rt; "speedate: output failed");
-            }
+            tell_output(rt, output);
             tell_end(rt, files, sources, None).max(WRITE)
         }
     }
@@ -137,14 +132,11 @@ fn tell_end(
     let mut status = 0;
     let mut bad = 0u64;
     let mut before = 0u64;
-    for (name, source) in files.iter().zip(sources) {
-        let lines = &source.input.get_ref().lines;
-        bad = bad.saturating_add(source.keys.scan.bad);
-        // What was read ahead of the line in memory does not count.
-        if source.number > 0 {
-            before = before.saturating_add(lines.first.lines_before());
-        }
-        if source.line.is_empty() && lines.is_without_value() {
+    for (index, (name, source)) in files.iter().zip(sources).enumerate() {
+        let scan = &source.keys.scan;
+        bad = bad.saturating_add(scan.bad);
+        before = before.saturating_add(scan.first.lines_before());
+        if source.line.is_empty() && !is_unread(halted, index) && scan.is_without_value() {
             tell_without_value(rt, name);
             status = BAD;
         }
@@ -158,6 +150,11 @@ fn tell_end(
     tell_count(rt, bad, "bad line", "bad lines");
     tell_lines_before(rt, before);
     status
+}
+
+/// Whether a merge ended since this source could not be read.
+fn is_unread(halted: Option<Halted>, source: usize) -> bool {
+    matches!(halted, Some(Halted { index, halt: Halt::Unread(_) }) if index == source)
 }
 
 /// Tells why a source ended a merge, and returns the exit status for that.

@@ -1,8 +1,9 @@
 //! The inputs of `sort`, and what is told of them on standard error.
 
-use crate::files::{Output, Reports, tell_count, tell_lines_before};
-use crate::input::{Looking, open_input, tell_unread, tell_without_value};
-use speedate_commands::first::First;
+use crate::files::{
+    Reports, names_or_input, standard_output, tell_count, tell_lines_before, tell_output,
+};
+use crate::input::{Reasoned, open_input, tell_unread, tell_without_value};
 use speedate_commands::status::{BAD, READ, WRITE, lines_status};
 use speedate_sort::sort::{Keys, Lines, Unread, Unsorted};
 use speedate_stream::Watched;
@@ -10,13 +11,12 @@ use speedate_stream::Watched;
 /// Runs `sort` over files, and returns the exit status. Without files it sorts standard input.
 pub fn run_sort<'a>(rt: &HostRuntime, keys: &mut Keys<'a>, files: &[&'a str]) -> u8 {
     let mut lines = Lines::new(rt.alloc());
-    let mut first = First::new(keys.scan, false);
     let mut status = 0;
-    for name in if files.is_empty() { &["-"] } else { files } {
+    for name in names_or_input(files) {
         if keys.scan.is_stopped() {
             break;
         }
-        match add_file(rt, keys, &mut first, name, &mut lines) {
+        match add_file(rt, keys, name, &mut lines) {
             Ok(is_without_value) => status = status.max(if is_without_value { BAD } else { 0 }),
             Err(Unread::Read) => status = READ,
             Err(Unread::Memory) => return tell_memory(rt),
@@ -26,7 +26,7 @@ pub fn run_sort<'a>(rt: &HostRuntime, keys: &mut Keys<'a>, files: &[&'a str]) ->
         status = status.max(print_lines(rt, &mut lines));
     }
     tell_count(rt, keys.scan.bad, "bad line", "bad lines");
-    tell_lines_before(rt, first.lines_before());
+    tell_lines_before(rt, keys.scan.first.lines_before());
     status.max(lines_status(keys.scan.bad, 0, false))
 }
 
@@ -34,7 +34,6 @@ pub fn run_sort<'a>(rt: &HostRuntime, keys: &mut Keys<'a>, files: &[&'a str]) ->
 fn add_file<'a>(
     rt: &HostRuntime,
     keys: &mut Keys<'a>,
-    first: &mut First<'a>,
     name: &'a str,
     lines: &mut Lines,
 ) -> Result<bool, Unread> {
@@ -42,26 +41,24 @@ fn add_file<'a>(
     let Some(input) = open_input(rt, name) else {
         return Err(Unread::Read);
     };
-    first.begin(keys.scan);
     let reports = Reports {
         rt,
         name: name.as_bytes(),
         told: keys.scan.bad,
     };
-    let mut looking = Looking::new(input, *first);
-    let added = lines.add(keys, &mut looking);
-    *first = looking.lines.first;
+    let mut input = Watched::new(Reasoned::new(input));
+    let added = lines.add(keys, &mut input);
     reports.tell(&keys.scan, keys.scan.reader.form.call_kind());
     match added {
         Ok(()) => {
-            let is_without_value = looking.lines.is_without_value();
+            let is_without_value = keys.scan.is_without_value();
             if is_without_value {
                 tell_without_value(rt, name);
             }
             Ok(is_without_value)
         }
         Err(Unread::Read) => {
-            tell_unread(rt, name, looking.reason);
+            tell_unread(rt, name, input.into_inner().reason);
             Err(Unread::Read)
         }
         Err(Unread::Memory) => Err(Unread::Memory),
@@ -70,17 +67,12 @@ fn add_file<'a>(
 
 /// Prints the lines in order, and returns the exit status as far as it is about that.
 fn print_lines(rt: &HostRuntime, lines: &mut Lines) -> u8 {
-    let mut output = Watched::new(Output {
-        inner: rt.stdout(),
-        is_closed: false,
-    });
+    let mut output = standard_output(rt);
     match lines.print(&mut output) {
         Ok(()) => 0,
         Err(Unsorted::Memory) => tell_memory(rt),
         Err(Unsorted::Write) => {
-            if !output.into_inner().is_closed {
-                let _ = eprintln!(rt; "speedate: output failed");
-            }
+            tell_output(rt, output);
             WRITE
         }
     }

@@ -1,6 +1,7 @@
 //! The commands over readers and writers in memory.
 
 mod ends;
+mod files;
 mod merged;
 mod option_rows;
 mod rows;
@@ -8,14 +9,11 @@ mod searched;
 mod sorted;
 
 use crate::files::write_end;
-use crate::input::Looking;
-use crate::session::Session;
 use clap::ArgMatches;
 use ends::{Sink, Source};
 use option_rows::OPTIONS;
 use rows::{COMMANDS, DURATIONS, LOG};
-use speedate::CallKind;
-use speedate_commands::first::First;
+use speedate_commands::command::Command;
 use speedate_options::commands::{
     first_between, first_check, first_convert, first_sum, first_summary,
 };
@@ -41,11 +39,11 @@ const COUNTS: [(&str, &str, (u64, u64, u64)); 15] = [
     ("check --header", BEGINNING, (1, 2, 0)),
     ("convert --to utc", BEGINNING, (1, 3, 0)),
     ("check --order", BEGINNING, (1, 3, 0)),
-    // The second value cannot be written, but is one.
+    // The second value cannot be written, so it is bad.
     (
         "convert --to utc",
-        "2026-02-30T06:10\n2026-11-22T06:10\n",
-        (2, 1, 0),
+        "2026-02-30T06:10\n2026-11-22T06:10\n2026-11-22T06:10Z\n",
+        (2, 2, 0),
     ),
     ("check --order", LOG, (1, 0, 1)),
     ("check --gap PT10M", LOG, (1, 0, 1)),
@@ -103,31 +101,22 @@ struct Ended {
 }
 
 /// A run of a command over a reader and a writer.
-fn run_command<'a, M: Session<'a>>(machine: &mut M, source: Source<'_>, sink: Sink) -> Ended {
-    machine.begin(b"app.log");
-    let scan = machine.scan();
-    let kind = machine.call_kind(scan.reader.form);
-    let has_durations = matches!(kind, CallKind::Duration);
-    let looking = Looking::new(source, First::new(scan, has_durations));
-    let mut input = Watched::new(looking);
+fn run_command<'a, C: Command<'a>>(command: &mut C, source: Source<'_>, sink: Sink) -> Ended {
+    command.begin(b"app.log");
+    let mut input = Watched::new(source);
     let mut output = Watched::new(sink);
-    let mut result = machine.print(&mut input, &mut output, &mut NoObserver);
-    let mut sink = output.into_inner();
-    let looking = input.into_inner();
-    let first = looking.lines.first;
-    if result != Err(RunError::Write) && write_end(machine, &mut sink).is_err() {
+    let mut result = command.print(&mut input, &mut output, &mut NoObserver);
+    if result != Err(RunError::Write) && write_end(command, &mut output).is_err() {
         result = Err(RunError::Write);
     }
+    let scan = command.scan();
+    let about = command.about();
     Ended {
         result,
-        reads: looking.inner.calls,
-        taken: sink.taken,
-        counts: (
-            machine.scan().bad,
-            machine.lines_before(&first),
-            machine.late_or_after_gap(),
-        ),
-        is_without_value: looking.lines.is_without_value(),
+        reads: input.into_inner().calls,
+        taken: output.into_inner().taken,
+        counts: (scan.bad, about.before, about.reported),
+        is_without_value: result == Ok(()) && scan.is_without_value(),
     }
 }
 

@@ -2,9 +2,11 @@
 use Rattle.std.proofs.Common.{◌≡◌, ◌∙◌, ℕ, ℤ, ◌==◌, ◌++◌, Bool, true, false, List, [], refl, sym, ap, append-nil, if◌then◌else◌}
 use Rattle.std.specs.Prelude.{Option, Some, None, not, is_some, int_lt, ◌&&◌, ◌||◌}
 use Rattle.speedate_scan.specs.Reading.{read}
-use Rattle.speedate_scan.specs.Scan.{bad_of, counted, fits, is_stopped, judged, line_of, passed}
-use Rattle.speedate_scan.specs.Scan.{settled, undated_line, unfit_line}
+use Rattle.speedate_scan.specs.Scan.{bad_of, counted, first_after, first_found, fits, is_found}
+use Rattle.speedate_scan.specs.Scan.{is_stopped, judged, line_of, passed, settled, undated_line}
+use Rattle.speedate_scan.specs.Scan.{unfit_line, valued}
 use Rattle.speedate_scan.specs.declared.reading.Reading.{Reading}
+use Rattle.speedate_scan.specs.declared.scan.First.{First}
 use Rattle.speedate_scan.specs.declared.scan.Offsets.{Offsets}
 use Rattle.speedate_scan.specs.declared.scan.UndatedLines.{UndatedLines}
 use Rattle.speedate_commands.specs.Base.{Bad, Form, Found, Line, Scan}
@@ -14,12 +16,14 @@ use Rattle.speedate_commands.specs.Order.{Latest}
 
 -- What is plain.
 
-plain_parts : (compares any stopped : Bool) → (not compares && (any && not stopped)) ≡ true
-    → (compares ≡ false) × ((any ≡ true) × (stopped ≡ false))
-plain_parts false true false is = (refl, (refl, refl))
-plain_parts false true true is = cc
-plain_parts false false stopped is = cc
-plain_parts true any stopped is = cc
+plain_parts : (compares any found stopped : Bool)
+    → (not compares && (any && (found && not stopped))) ≡ true
+    → (compares ≡ false) × ((any ≡ true) × ((found ≡ true) × (stopped ≡ false)))
+plain_parts false true true false is = (refl, (refl, (refl, refl)))
+plain_parts false true true true is = cc
+plain_parts false true false stopped is = cc
+plain_parts false false found stopped is = cc
+plain_parts true any found stopped is = cc
 
 any_of : (offsets : Offsets) → takes_any offsets ≡ true → offsets ≡ Offsets.Any
 any_of Offsets.Any is = refl
@@ -28,10 +32,11 @@ any_of (Offsets.Only has_offset) is = cc
 any_of (Offsets.AsBounds has_offset) is = cc
 
 plain : (check : Check) → is_plain check ≡ true → (compares check ≡ false)
-    × ((takes_any check.order.scan.offsets ≡ true) × (is_stopped check.order.scan.stop ≡ false))
+    × ((takes_any check.order.scan.offsets ≡ true)
+    × ((is_found check.order.scan.first ≡ true) × (is_stopped check.order.scan.stop ≡ false)))
 plain check is =
     plain_parts (compares check) (takes_any check.order.scan.offsets)
-    (is_stopped check.order.scan.stop) is
+    (is_found check.order.scan.first) (is_stopped check.order.scan.stop) is
 
 pub plain_offsets : (check : Check) → is_plain check ≡ true
     → check.order.scan.offsets ≡ Offsets.Any
@@ -133,19 +138,40 @@ plain_bad_text check line items bad is =
 
 -- What is known after a line.
 
+value_stays : (value entry : Bool) (before : ℕ) → (value && entry) ≡ true
+    → first_found (record { has_value = value; has_entry = entry; before = before })
+    ≡ record { has_value = value; has_entry = entry; before = before }
+value_stays true true before is = refl
+value_stays true false before is = cc
+value_stays false entry before is = cc
+
+entry_stays : (value entry : Bool) (before : ℕ) → (value && entry) ≡ true
+    → first_after (record { has_value = value; has_entry = entry; before = before }) Line.Undated
+    ≡ record { has_value = value; has_entry = entry; before = before }
+entry_stays true true before is = refl
+entry_stays true false before is = cc
+entry_stays false entry before is = cc
+
 any_stays : (scan : Scan) (found : Found) → scan.offsets ≡ Offsets.Any
-    → record (counted scan) { offsets = settled scan.offsets found } ≡ counted scan
-any_stays scan found any = rw any refl
+    → is_found scan.first ≡ true
+    → record (valued scan) { offsets = settled scan.offsets found } ≡ counted scan
+any_stays scan found any came =
+    ap (λ (offsets : Offsets). record (valued scan) { offsets = settled offsets found }) any
+    ∙ ap (λ (offsets : Offsets). record (valued scan) { offsets = offsets }) (sym any)
+    ∙ ap (λ (first : First). record (counted scan) { first = first })
+    (value_stays scan.first.has_value scan.first.has_entry scan.first.before came)
 
 line_passed : (scan : Scan) (line : Line) → IsPlainLine line → scan.offsets ≡ Offsets.Any
-    → bad_of line ≡ None → counted scan ≡ passed scan line
+    → is_found scan.first ≡ true → bad_of line ≡ None → counted scan ≡ passed scan line
 unfolding passed
-line_passed scan (Line.Value found) is any none = sym (any_stays scan found any)
-line_passed scan (Line.Bad bad) is any none = cc
-line_passed scan Line.Late is any none = absurd is
-line_passed scan Line.Header is any none = refl
-line_passed scan Line.Unfit is any none = absurd is
-line_passed scan Line.Undated is any none = refl
+line_passed scan (Line.Value found) is any came none = sym (any_stays scan found any came)
+line_passed scan (Line.Bad bad) is any came none = cc
+line_passed scan Line.Late is any came none = absurd is
+line_passed scan Line.Header is any came none = refl
+line_passed scan Line.Unfit is any came none = absurd is
+line_passed scan Line.Undated is any came none =
+    sym (ap (λ (first : First). record (counted scan) { first = first })
+    (entry_stays scan.first.has_value scan.first.has_entry scan.first.before came))
 
 abbrev with_scan : Check → Scan → Check
 with_scan check scan = record check { order = record check.order { scan = scan } }
@@ -161,8 +187,9 @@ pub plain_after : (check : Check) (line : List ℕ) → is_plain check ≡ true
 plain_after check line is none =
     let parts = plain check is in
     let what : Line = line_of check.order.scan line in
-    let came = line_plain check.order.scan line parts.1.1 parts.1.0 in
-    ap (with_scan check) (line_passed check.order.scan what came (plain_offsets check is) none)
+    let came = line_plain check.order.scan line parts.1.1.1 parts.1.0 in
+    ap (with_scan check)
+    (line_passed check.order.scan what came (plain_offsets check is) parts.1.1.0 none)
     ∙ line_after check what parts.0
 
 bad_line : (line : Line) (bad : Bad) → bad_of line ≡ Some bad → Line.Bad bad ≡ line

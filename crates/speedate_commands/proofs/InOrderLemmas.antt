@@ -368,6 +368,7 @@ fixed scan = record scan {
   number = 0;
   offsets = Offsets.Any;
   stop = Stop.No;
+  first = record { has_value = false; has_entry = false; before = 0 };
   bad = 0;
   reports = [];
 }

@@ -7,4 +7,3 @@ mod SumLemmas
 mod InOrderLemmas
 mod SearchLemmas
 mod FoundLemmas
-mod FirstLemmas

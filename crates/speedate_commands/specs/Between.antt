@@ -1,12 +1,14 @@
 -- The command `between`: the entries whose value lies between two bounds.
-use Rattle.std.specs.Prelude.{ℕ, ℤ, ◌==◌, ◌&&◌, ◌||◌, not, Bool, true, false, List, [], ◌∷◌, ◌++◌, Option, Some, None, int_le, int_lt, if◌then◌else◌}
-use Rattle.speedate_stream.specs.Machine.{Machine}
+use Rattle.std.specs.Prelude.{◌≡◌, ℕ, ℤ, ◌==◌, ◌&&◌, not, Bool, true, false, List, [], ◌∷◌, ◌++◌, Option, Some, None, int_le, int_lt, if◌then◌else◌}
+use Rattle.std.specs.Borrow.{Bor}
+use Rattle.speedate_stream.specs.Machine.{Machine, state_after}
 use Rattle.speedate_stream.specs.Watch.{one_more}
 use Rattle.speedate_scan.specs.Entries.{Entry, Marked, entries, lines_text, marked, printed_line}
 use Rattle.speedate_scan.specs.Entries.{up_to_value}
-use Rattle.speedate_scan.specs.Print.{prefix_text}
-use Rattle.speedate_scan.specs.Scan.{is_stopped, is_value, keeps, line_of, passed}
+use Rattle.speedate_scan.specs.Print.{call_kind, prefix_text}
+use Rattle.speedate_scan.specs.Scan.{begun, is_stopped, keeps, line_of, passed}
 use Rattle.speedate_commands.specs.Base.{Line, Scan}
+use Rattle.speedate_commands.specs.Runs.{About}
 pub use Rattle.speedate_commands.specs.declared.between.Bounds.{Bounds}
 pub use Rattle.speedate_commands.specs.declared.between.Between.{Between}
 
@@ -43,24 +45,11 @@ kept_after between Line.Undated = between.is_kept
 kept_after between Line.Late = between.is_kept
 kept_after between Line.Unfit = between.is_kept
 
--- how many lines came before the first value
-abbrev pub before_after : Between → Line → ℕ
-before_after between (Line.Bad bad) =
-    if between.has_value then between.before else one_more between.before
-before_after between Line.Undated =
-    if between.has_value then between.before else one_more between.before
-before_after between (Line.Value found) = between.before
-before_after between Line.Header = between.before
-before_after between Line.Late = between.before
-before_after between Line.Unfit = between.before
-
 -- what is known after a line
 abbrev pub between_after : Between → Line → Between
 between_after between line = record between {
   scan = passed between.scan line;
   is_kept = kept_after between line;
-  has_value = between.has_value || is_value line;
-  before = before_after between line;
 }
 
 -- the prefix of a line that is printed
@@ -115,3 +104,25 @@ file_text between (line ∷ lines) =
     (marked between.prefix (passed between.scan Line.Header) lines)
     else between_lines between.bounds between.is_kept
     (marked between.prefix between.scan (line ∷ lines))
+
+-- What a run over files knows.
+
+-- what is known when a file with a name begins
+abbrev pub between_begun : Between → Bor (List ℕ) → Between
+between_begun between name = record between { scan = begun between.scan name }
+
+-- what a run over files has to know of the command
+abbrev pub between_about : Between → About
+between_about between = record {
+  kind = call_kind between.scan.reader.form;
+  tells_bad = true;
+  before = between.scan.first.before;
+  reported = 0;
+  is_too_large = false;
+  is_in_order = between.is_in_order;
+}
+
+-- what is known after the lines of a file, and what is printed of them
+abbrev pub between_says : Between → List (List ℕ) → Between → List ℕ → Type 0
+between_says before lines after printed =
+    (after ≡ state_after between_machine before lines) × (printed ≡ file_text before lines)

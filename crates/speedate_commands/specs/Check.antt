@@ -1,14 +1,16 @@
 -- The command `check`: a report of each bad value and, if these are asked for, of each value that
 -- is earlier than the one before, or comes too long after it.
-use Rattle.std.specs.Prelude.{ℕ, ℤ, ◌&&◌, ◌||◌, Bool, true, false, not, List, [], ◌∷◌, ◌++◌, Option, Some, None, is_some, int_lt, if◌then◌else◌}
-use Rattle.speedate_stream.specs.Machine.{Machine, head}
+use Rattle.std.specs.Prelude.{◌≡◌, ℕ, ℤ, ◌+◌, ◌-◌, ◌^◌, min, ◌&&◌, ◌||◌, Bool, true, false, not, List, [], ◌∷◌, ◌++◌, Option, Some, None, is_some, int_lt, if◌then◌else◌}
+use Rattle.std.specs.Borrow.{Bor}
+use Rattle.speedate_stream.specs.Machine.{Machine, head, state_after}
 use Rattle.speedate_stream.specs.Watch.{one_more}
 use Rattle.speedate_scan.specs.Print.{call_kind, report_text}
-use Rattle.speedate_scan.specs.Scan.{is_stopped, line_of, passed}
+use Rattle.speedate_scan.specs.Scan.{begun, is_found, is_stopped, line_of, lines_before, passed}
 use Rattle.speedate_scan.specs.declared.scan.Offsets.{Offsets}
 use Rattle.speedate_commands.specs.Base.{Bad, Line, Scan}
 use Rattle.speedate_commands.specs.Nanosecond.{distance}
 use Rattle.speedate_commands.specs.Order.{Latest, gap_text, late_text, order_after}
+use Rattle.speedate_commands.specs.Runs.{About}
 pub use Rattle.speedate_commands.specs.declared.check.Check.{Check}
 
 -- values are compared with the one before
@@ -71,11 +73,12 @@ takes_any Offsets.AsFirst = false
 takes_any (Offsets.Only has_offset) = false
 takes_any (Offsets.AsBounds has_offset) = false
 
--- each value is looked at by itself, and all fit, and the run has not ended
+-- each value is looked at by itself, all fit, the first one came, and the run has not ended
 abbrev pub is_plain : Check → Bool
 is_plain check =
     not (compares check)
-    && (takes_any check.order.scan.offsets && not (is_stopped check.order.scan.stop))
+    && (takes_any check.order.scan.offsets
+    && (is_found check.order.scan.first && not (is_stopped check.order.scan.stop)))
 
 -- the reports, and no line itself
 abbrev pub check_machine : Machine Check
@@ -92,3 +95,31 @@ check_lines check [] = []
 check_lines check (line ∷ lines) =
     let what = line_of check.order.scan (head line) in
     check_text check what ++ check_lines (check_after check what) lines
+
+-- What a run over files knows.
+
+-- what is known when a file with a name begins
+abbrev pub check_begun : Check → Bor (List ℕ) → Check
+check_begun check name =
+    record check { order = record check.order { scan = begun check.order.scan name } }
+
+-- how many values were reported as earlier than the one before, or as after a gap
+abbrev pub reported : Check → ℕ
+reported check =
+    min ((if check.reports_late then check.order.late else 0) + check.gaps) (2 ^ 64 - 1)
+
+-- what a run over files has to know of the command
+abbrev pub check_about : Check → About
+check_about check = record {
+  kind = call_kind check.order.scan.reader.form;
+  tells_bad = false;
+  before = lines_before check.order.scan.first;
+  reported = reported check;
+  is_too_large = false;
+  is_in_order = false;
+}
+
+-- what is known after the lines of a file, and what is printed of them
+abbrev pub check_says : Check → List (List ℕ) → Check → List ℕ → Type 0
+check_says before lines after printed =
+    (after ≡ state_after check_machine before lines) × (printed ≡ check_lines before lines)

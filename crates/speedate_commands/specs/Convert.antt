@@ -1,18 +1,20 @@
 -- The command `convert`: each line with its value written anew.
-use Rattle.std.specs.Prelude.{ℕ, ℤ, ◌==◌, ◌∷◌, ◌++◌, List, [], min, take, Option, Some, None, is_some, Result, Ok, Err, if◌then◌else◌}
+use Rattle.std.specs.Prelude.{◌≡◌, ℕ, ℤ, true, false, ◌==◌, ◌∷◌, ◌++◌, List, [], min, take, Option, Some, None, is_some, Result, Ok, Err, if◌then◌else◌}
 use Rattle.std.specs.Result.{result_ok}
 use Rattle.speedate.specs.Base.{ParseError}
 use Rattle.speedate.specs.Date.{date_text}
 use Rattle.speedate.specs.DateTime.{DateAndTime, date_time_in_timezone, date_time_text_with}
 use Rattle.speedate.specs.declared.FractionDigits.{FractionDigits}
-use Rattle.speedate_stream.specs.Machine.{Machine, head, rest_of}
+use Rattle.std.specs.Borrow.{Bor}
+use Rattle.speedate_stream.specs.Machine.{Machine, head, rest_of, state_after}
 use Rattle.speedate_stream.specs.Watch.{one_more}
-use Rattle.speedate_scan.specs.Print.{prefix_text}
+use Rattle.speedate_scan.specs.Print.{call_kind, prefix_text}
 use Rattle.speedate_scan.specs.Fraction.{fraction_size}
 use Rattle.speedate_scan.specs.Reading.{part, value_of}
-use Rattle.speedate_scan.specs.Scan.{is_stopped, keeps, line_of, passed}
+use Rattle.speedate_scan.specs.Scan.{begun, is_stopped, keeps, line_of, lines_before, passed}
 use Rattle.speedate_commands.specs.Base.{Bad, Form, Found, Line, Why}
 use Rattle.speedate_commands.specs.Nanosecond.{date_time_with, past_second}
+use Rattle.speedate_commands.specs.Runs.{About}
 pub use Rattle.speedate_commands.specs.declared.convert.Target.{Target}
 pub use Rattle.speedate_commands.specs.declared.convert.Convert.{Convert}
 
@@ -180,3 +182,25 @@ convert_lines convert (line ∷ lines) =
     let what = convert_line convert (head line) in
     converted convert line what
     ++ convert_lines (record convert { scan = passed convert.scan what }) lines
+
+-- What a run over files knows.
+
+-- what is known when a file with a name begins
+abbrev pub convert_begun : Convert → Bor (List ℕ) → Convert
+convert_begun convert name = record convert { scan = begun convert.scan name }
+
+-- what a run over files has to know of the command
+abbrev pub convert_about : Convert → About
+convert_about convert = record {
+  kind = call_kind convert.scan.reader.form;
+  tells_bad = true;
+  before = lines_before convert.scan.first;
+  reported = 0;
+  is_too_large = false;
+  is_in_order = false;
+}
+
+-- what is known after the lines of a file, and what is printed of them
+abbrev pub convert_says : Convert → List (List ℕ) → Convert → List ℕ → Type 0
+convert_says before lines after printed =
+    (after ≡ state_after convert_machine before lines) × (printed ≡ convert_lines before lines)

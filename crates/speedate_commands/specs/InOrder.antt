@@ -7,7 +7,7 @@ use Rattle.speedate.specs.Lines.{IsLineEnd, complete_lines, lines}
 use Rattle.speedate_stream.specs.Machine.{head, state_after}
 use Rattle.speedate_stream.specs.declared.run.RunError.{RunError}
 use Rattle.speedate_scan.specs.Reading.{part, read}
-use Rattle.speedate_scan.specs.Scan.{has_as, has_offsets, is_stopped, line_of, passed, stop_at_bad}
+use Rattle.speedate_scan.specs.Scan.{first_found, has_as, has_offsets, is_stopped, line_of, passed, stop_at_bad}
 use Rattle.speedate_scan.specs.Entries.{Entry, entries, marked}
 use Rattle.speedate_commands.specs.Base.{Offsets, Reader, Reading, Report, Scan}
 use Rattle.speedate_commands.specs.Between.{Between, between_machine, file_text}
@@ -131,9 +131,11 @@ renumbered scan skipped reports = record scan {
 -- what is known after an entry that is not printed
 abbrev pub entry_passed : Between → Between
 entry_passed between = record between {
-  scan = record between.scan { offsets = Offsets.Only (has_offsets between.scan.offsets) };
+  scan = record between.scan {
+    offsets = Offsets.Only (has_offsets between.scan.offsets);
+    first = first_found between.scan.first;
+  };
   is_kept = false;
-  has_value = true;
 }
 
 -- the lines of a part of a file were printed, unless the run has ended

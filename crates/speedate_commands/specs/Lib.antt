@@ -8,5 +8,4 @@ pub mod Convert
 pub mod Runs
 pub mod Sum
 pub mod InOrder
-pub mod First
 pub mod Status

@@ -14,6 +14,10 @@ file_status (Ok done) is_without_value = if is_without_value then 1 else 0
 file_status (Err RunError.Read) is_without_value = 3
 file_status (Err RunError.Write) is_without_value = 4
 
+-- the larger of two statuses
+abbrev pub worse : ℕ → ℕ → ℕ
+worse one other = if nat_lt one other then other else one
+
 -- the report at an index is one of those of the bad values, and comes after those that were told
 abbrev pub is_due : ℕ → ℕ → ℕ → Bool
 is_due index told bad = nat_le told index && nat_lt index bad

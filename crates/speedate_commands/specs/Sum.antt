@@ -1,9 +1,10 @@
 -- The command `sum`: the total of the durations of lines.
-use Rattle.std.specs.Prelude.{◌≡◌, ℕ, ℤ, ◌+◌, ◌*◌, ◌/◌, ◌%◌, ◌+ℤ◌, ◌^◌, ◌&&◌, Bool, List, [], ◌∷◌, ◌++◌, Option, Some, None, Result, Ok, Err, is_err, not, nat_lt, decimal, unsigned_abs, if◌then◌else◌}
+use Rattle.std.specs.Prelude.{◌≡◌, ℕ, ℤ, true, false, ◌+◌, ◌*◌, ◌/◌, ◌%◌, ◌+ℤ◌, ◌^◌, ◌&&◌, Bool, List, [], ◌∷◌, ◌++◌, Option, Some, None, Result, Ok, Err, is_err, not, nat_lt, decimal, unsigned_abs, if◌then◌else◌}
+use Rattle.std.specs.Borrow.{Bor}
 use Rattle.std.specs.List.{fold}
 use Rattle.std.specs.Result.{result_unwrap_or}
 use Rattle.speedate.specs.Ascii.{capital_d, colon, hyphen, line_feed}
-use Rattle.speedate.specs.Base.{ParseError}
+use Rattle.speedate.specs.Base.{CallKind, ParseError}
 use Rattle.speedate.specs.Duration.{amount_answer, counted_text, rest_text, signed_amount}
 use Rattle.speedate.specs.Duration.{start_text}
 use Rattle.speedate.specs.DurationNumbers.{DurationNumbers}
@@ -11,15 +12,16 @@ use Rattle.speedate.specs.Requirement.{result_map}
 use Rattle.speedate.specs.Time.{fraction_text, minute_text}
 use Rattle.speedate_stream.specs.Machine.{Machine, head}
 use Rattle.speedate_scan.specs.Amount.{amount_of}
-use Rattle.speedate_scan.specs.Scan.{counted, is_stopped, passed}
+use Rattle.speedate_scan.specs.Scan.{begun, is_stopped, passed, valued}
 use Rattle.speedate_commands.specs.Base.{Line, Scan}
+use Rattle.speedate_commands.specs.Runs.{About}
 pub use Rattle.speedate_commands.specs.declared.sum.Sum.{Sum}
 
 -- What is added.
 
 -- what is known of the lines after one more
 abbrev pub scan_after : Scan → Result DurationNumbers Line → Scan
-scan_after scan (Ok numbers) = counted scan
+scan_after scan (Ok numbers) = valued scan
 scan_after scan (Err line) = passed scan line
 
 -- the durations of lines, in order
@@ -121,3 +123,25 @@ unfoldable pub total_text : Sum → List ℕ
 total_text sum =
     if is_stopped sum.scan.stop then []
     else result_unwrap_or (result_map (duration_line sum.has_hours) (total_answer sum.total)) []
+
+-- What a run over files knows.
+
+-- what is known when a file with a name begins
+abbrev pub sum_begun : Sum → Bor (List ℕ) → Sum
+sum_begun sum name = record sum { scan = begun sum.scan name }
+
+-- what a run over files has to know of the command
+abbrev pub sum_about : Sum → About
+sum_about sum = record {
+  kind = CallKind.Duration;
+  tells_bad = true;
+  before = 0;
+  reported = 0;
+  is_too_large = is_too_large sum;
+  is_in_order = false;
+}
+
+-- what is known after the lines of a file, of which nothing is printed
+abbrev pub sum_says : Sum → List (List ℕ) → Sum → List ℕ → Type 0
+sum_says before lines after printed =
+    IsSumAfter before lines after × (printed ≡ [])

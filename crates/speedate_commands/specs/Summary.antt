@@ -1,6 +1,7 @@
 -- The command `summary`: how many lines and values there are, the earliest and the latest, and the
 -- longest gap.
 use Rattle.std.specs.Prelude.{◌≡◌, ℕ, ℤ, pos, negsuc, ◌+ℤ◌, Bool, true, false, List, [], ◌∷◌, ◌++◌, Option, Some, None, unwrap_or, Result, Ok, Err, int_lt, codes, decimal, if◌then◌else◌}
+use Rattle.std.specs.Borrow.{Bor}
 use Rattle.std.specs.Int.{int_div_euclid}
 use Rattle.std.specs.Result.{result_or}
 use Rattle.speedate.specs.Ascii.{line_feed}
@@ -13,9 +14,10 @@ use Rattle.speedate_stream.specs.Watch.{one_more}
 use Rattle.speedate_commands.specs.Nanosecond.{date_time_with, digits_needed, distance}
 use Rattle.speedate_commands.specs.Nanosecond.{duration_between, past_second}
 use Rattle.speedate_commands.specs.Order.{Latest, latest_of, order_after}
-use Rattle.speedate_scan.specs.Print.{line_place}
-use Rattle.speedate_scan.specs.Scan.{is_counted, is_stopped, is_value, line_of}
+use Rattle.speedate_scan.specs.Print.{call_kind, line_place}
+use Rattle.speedate_scan.specs.Scan.{begun, is_counted, is_stopped, is_value, line_of}
 use Rattle.speedate_commands.specs.Base.{Line, Scan}
+use Rattle.speedate_commands.specs.Runs.{About}
 pub use Rattle.speedate_commands.specs.declared.summary.Gap.{Gap}
 pub use Rattle.speedate_commands.specs.declared.summary.Summary.{Summary}
 
@@ -186,3 +188,26 @@ unfoldable pub summary_text : Summary → List ℕ
 summary_text summary =
     counts_text summary ++ named_text (codes "earliest ") summary.earliest
     ++ named_text (codes "latest ") summary.latest ++ longest_text summary.longest
+
+-- What a run over files knows.
+
+-- what is known when a file with a name begins
+abbrev pub summary_begun : Summary → Bor (List ℕ) → Summary
+summary_begun summary name =
+    record summary { order = record summary.order { scan = begun summary.order.scan name } }
+
+-- what a run over files has to know of the command
+abbrev pub summary_about : Summary → About
+summary_about summary = record {
+  kind = call_kind summary.order.scan.reader.form;
+  tells_bad = true;
+  before = 0;
+  reported = summary.order.late;
+  is_too_large = false;
+  is_in_order = false;
+}
+
+-- what is known after the lines of a file, of which nothing is printed
+abbrev pub summary_says : Summary → List (List ℕ) → Summary → List ℕ → Type 0
+summary_says before lines after printed =
+    IsSummaryAfter before lines after × (printed ≡ [])

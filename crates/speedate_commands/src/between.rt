@@ -1,13 +1,14 @@
 //! The command `between`: the entries whose value lies between two bounds.
 
-ghost use Rattle.std.specs.Prelude.{◌≡◌, ◌+◌, ◌++◌, ◌≤◌, Err, IfSome, OnOk, false, true};
+ghost use Rattle.std.specs.Prelude.{◌≡◌, ◌+◌, ◌++◌, ◌≤◌, IfSome};
 ghost use Rattle.arrayvec.specs.ArrayVec.{array_vec_len};
-ghost use Rattle.speedate_commands.specs.Between.{before_after, between_machine, between_rest};
-ghost use Rattle.speedate_commands.specs.Between.{between_text, file_text, is_begun, is_open};
+ghost use Rattle.speedate_commands.specs.Between.{between_machine, between_rest};
+ghost use Rattle.speedate_commands.specs.Between.{between_text, is_begun, is_open};
 ghost use Rattle.speedate_commands.specs.Between.{kept_after, lies_between, prints};
-ghost use Rattle.speedate_commands.specs.Runs.{EndsWith};
-ghost use Rattle.speedate_stream.specs.Run.{EndsBy, PrintsBeginning, PrintsProgress};
 
+use crate::command::{About, Command};
+use crate::in_order::between_in_order;
+use crate::search::ReadAt;
 use speedate_scan::print::{PREFIX_MAX, Prefix};
 use speedate_scan::reading::Found;
 use speedate_scan::scan::{Line, Scan};
@@ -36,10 +37,6 @@ pub struct Between<'a> {
     pub prefix: Prefix,
     /// Whether the entry is printed.
     pub is_kept: bool,
-    /// Whether a value has come.
-    pub has_value: bool,
-    /// How many lines came before the first value.
-    pub before: u64,
     /// Whether the values of a file never fall, so that it is searched.
     pub is_in_order: bool,
 }
@@ -114,16 +111,6 @@ impl Between<'_> {
             .push_onto(self.scan.name, self.scan.next_number(), pending);
         Some(0)
     }
-
-    /// How many lines came before the first value, after a line.
-    fn before_after(&self, line: &Line) -> u64
-        ensures before { result ≡ before_after self.now line.now }
-    {
-        match line {
-            Line::Bad(_) | Line::Undated if !self.has_value => self.before.saturating_add(1),
-            _ => self.before,
-        }
-    }
 }
 
 impl LineMachine for Between<'_> {
@@ -144,43 +131,62 @@ impl LineMachine for Between<'_> {
         let line = self.scan.line(head);
         let kept = self.kept_after(&line);
         let rest = self.push_prefix(&line, kept, pending);
-        self.before = self.before_after(&line);
         self.is_kept = kept;
-        self.has_value |= line.is_value();
         self.scan.pass(line);
         rest
     }
 }
 
-/// Prints the header of an input, if it has one, and the entries whose value lies between the bounds, each
-/// whole.
-///
-/// Fails with `RunError::Read` if a read fails, with `RunError::Write` if a write or the flush does.
-pub fn print_entries<'a, R: Read, W: Write, O: Observer<Between<'a>>>(
-    command: &mut Between<'a>,
-    input: &mut Watched<R>,
-    output: &mut Watched<W>,
-    observer: &mut O,
-) -> Result<(), RunError>
-    // If neither end had failed before, one has failed if and only if the answer says so.
-    ensures failed { input.old.failed ≡ false → output.old.failed ≡ false →
-        EndsBy result input.new.failed output.new.failed }
-    ensures ended { OnOk result (EndsWith between_machine (file_text command.old)
-        command.old command.new
-        (R.remaining input.old.inner) (R.remaining input.new.inner)
-        (W.contents output.old.inner) (W.contents output.new.inner)) }
-    ensures flushed { OnOk result (output.new.flushed ≡ true) }
-    // After a failed read what was written is what is printed for all that was read.
-    ensures read_failed { result ≡ Err RunError.Read → PrintsProgress between_machine command.old
-        command.new (R.remaining input.old.inner) (R.remaining input.new.inner)
-        (W.contents output.old.inner) (W.contents output.new.inner) }
-    // After a failed write it is a beginning of what was due.
-    ensures write_failed { result ≡ Err RunError.Write → PrintsBeginning between_machine command.old
-        (R.remaining input.old.inner) (R.remaining input.new.inner)
-        (W.contents output.old.inner) (W.contents output.new.inner) }
-{
-    match run(command, input, output, observer) {
-        Ok(()) => Ok(()),
-        Err(error) => Err(error),
+impl<'a> Command<'a> for Between<'a> {
+    ghost use Rattle.std.specs.Prelude.{[]};
+    ghost use Rattle.speedate_commands.specs.Between.{between_about, between_begun, between_says};
+
+    ghost scan = { λ between. between.scan };
+
+    ghost begun = { between_begun };
+
+    ghost Says = { between_says };
+
+    ghost about = { between_about };
+
+    ghost end_text = { λ _. [] };
+
+    fn scan(&self) -> Scan<'a> {
+        self.scan
     }
+
+    fn begin(&mut self, name: &'a [u8]) {
+        self.scan.begin(name);
+    }
+
+    fn about(&self) -> About {
+        About {
+            kind: self.scan.reader.form.call_kind(),
+            tells_bad: true,
+            before: self.scan.first.before,
+            reported: 0,
+            is_too_large: false,
+            is_in_order: self.is_in_order,
+        }
+    }
+
+    fn print<R: Read, W: Write, O: Observer<Self>>(
+        &mut self,
+        input: &mut Watched<R>,
+        output: &mut Watched<W>,
+        observer: &mut O,
+    ) -> Result<(), RunError> {
+        run(self, input, output, observer)
+    }
+
+    fn search<S: ReadAt, W: Write>(
+        &mut self,
+        source: &S,
+        size: u64,
+        output: &mut Watched<W>,
+    ) -> Result<(), RunError> {
+        between_in_order(self, source, size, output)
+    }
+
+    fn push_end(&self, _pending: &mut Pending) {}
 }

@@ -1,21 +1,21 @@
 //! The command `check`: a report of each bad value and, if these are asked for, of each value that is
 //! earlier than the one before, or comes too long after it.
 
-ghost use Rattle.std.specs.Prelude.{◌≡◌, ◌+◌, ◌++◌, ◌≤◌, Err, OnOk, false, int_lt, true};
+ghost use Rattle.std.specs.Prelude.{◌≡◌, ◌+◌, ◌++◌, ◌≤◌, int_lt, true};
 ghost use Rattle.arrayvec.specs.ArrayVec.{array_vec_len};
-ghost use Rattle.speedate_commands.specs.Check.{bad_report, check_after, check_lines, check_machine};
+ghost use Rattle.speedate_commands.specs.Check.{bad_report, check_after, check_machine};
 ghost use Rattle.speedate_commands.specs.Check.{check_text, compares, gaps_after, is_after_gap};
-ghost use Rattle.speedate_commands.specs.Check.{is_plain, value_report};
+ghost use Rattle.speedate_commands.specs.Check.{is_plain, reported, value_report};
 ghost use Rattle.speedate_scan.specs.Scan.{line_of};
 ghost use Rattle.speedate_commands.specs.Nanosecond.{distance};
-ghost use Rattle.speedate_commands.specs.Runs.{EndsWith};
-ghost use Rattle.speedate_stream.specs.Run.{EndsBy, PrintsBeginning, PrintsProgress};
 
+use crate::command::{About, Command};
 use crate::nanosecond::distance;
 use crate::order::{Order, push_gap, push_late};
+use crate::search::ReadAt;
 use speedate_scan::print::push_report;
 use speedate_scan::reading::Bad;
-use speedate_scan::scan::{Line, Offsets};
+use speedate_scan::scan::{Line, Offsets, Scan};
 use speedate_stream::run::{RunError, run};
 use speedate_stream::{LineMachine, Observer, PENDING_MAX, Pending, STEP_MAX, Watched};
 use std::io::{Read, Write};
@@ -107,6 +107,18 @@ impl Check<'_> {
         }
     }
 
+    /// How many values were reported as earlier than the one before, or as after a gap.
+    fn reported(&self) -> u64
+        ensures reported { result ≡ reported self.now }
+    {
+        let late = if self.reports_late {
+            self.order.late
+        } else {
+            0
+        };
+        late.saturating_add(self.gaps)
+    }
+
     /// How many values came after a gap, after a line.
     fn gaps_after(&self, line: &Line) -> u64
         ensures gaps { result ≡ gaps_after self.now line.now }
@@ -117,13 +129,14 @@ impl Check<'_> {
         }
     }
 
-    /// Whether each value is looked at by itself, and all fit, and the run has not ended.
+    /// Whether each value is looked at by itself, all fit, the first one came, and the run has not ended.
     #[inline(always)]
     fn is_plain(&self) -> bool
         ensures plain { result ≡ is_plain self.now }
     {
         !self.compares()
             && matches!(self.order.scan.offsets, Offsets::Any)
+            && self.order.scan.first.is_found()
             && !self.order.scan.is_stopped()
     }
 
@@ -200,34 +213,56 @@ impl LineMachine for Check<'_> {
     }
 }
 
-/// Prints the reports of the lines of an input.
-///
-/// Fails with `RunError::Read` if a read fails, with `RunError::Write` if a write or the flush does.
-pub fn print_reports<'a, R: Read, W: Write, O: Observer<Check<'a>>>(
-    command: &mut Check<'a>,
-    input: &mut Watched<R>,
-    output: &mut Watched<W>,
-    observer: &mut O,
-) -> Result<(), RunError>
-    // If neither end had failed before, one has failed if and only if the answer says so.
-    ensures failed { input.old.failed ≡ false → output.old.failed ≡ false →
-        EndsBy result input.new.failed output.new.failed }
-    ensures ended { OnOk result (EndsWith check_machine (check_lines command.old)
-        command.old command.new
-        (R.remaining input.old.inner) (R.remaining input.new.inner)
-        (W.contents output.old.inner) (W.contents output.new.inner)) }
-    ensures flushed { OnOk result (output.new.flushed ≡ true) }
-    // After a failed read what was written is what is printed for all that was read.
-    ensures read_failed { result ≡ Err RunError.Read → PrintsProgress check_machine command.old
-        command.new (R.remaining input.old.inner) (R.remaining input.new.inner)
-        (W.contents output.old.inner) (W.contents output.new.inner) }
-    // After a failed write it is a beginning of what was due.
-    ensures write_failed { result ≡ Err RunError.Write → PrintsBeginning check_machine command.old
-        (R.remaining input.old.inner) (R.remaining input.new.inner)
-        (W.contents output.old.inner) (W.contents output.new.inner) }
-{
-    match run(command, input, output, observer) {
-        Ok(()) => Ok(()),
-        Err(error) => Err(error),
+impl<'a> Command<'a> for Check<'a> {
+    ghost use Rattle.std.specs.Prelude.{[]};
+    ghost use Rattle.speedate_commands.specs.Check.{check_about, check_begun, check_says};
+
+    ghost scan = { λ check. check.order.scan };
+
+    ghost begun = { check_begun };
+
+    ghost Says = { check_says };
+
+    ghost about = { check_about };
+
+    ghost end_text = { λ _. [] };
+
+    fn scan(&self) -> Scan<'a> {
+        self.order.scan
     }
+
+    fn begin(&mut self, name: &'a [u8]) {
+        self.order.scan.begin(name);
+    }
+
+    fn about(&self) -> About {
+        About {
+            kind: self.order.scan.reader.form.call_kind(),
+            tells_bad: false,
+            before: self.order.scan.first.lines_before(),
+            reported: self.reported(),
+            is_too_large: false,
+            is_in_order: false,
+        }
+    }
+
+    fn print<R: Read, W: Write, O: Observer<Self>>(
+        &mut self,
+        input: &mut Watched<R>,
+        output: &mut Watched<W>,
+        observer: &mut O,
+    ) -> Result<(), RunError> {
+        run(self, input, output, observer)
+    }
+
+    fn search<S: ReadAt, W: Write>(
+        &mut self,
+        _source: &S,
+        _size: u64,
+        _output: &mut Watched<W>,
+    ) -> Result<(), RunError> {
+        Ok(())
+    }
+
+    fn push_end(&self, _pending: &mut Pending) {}
 }

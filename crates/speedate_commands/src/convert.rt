@@ -1,20 +1,20 @@
 //! The command `convert`: each line with its value written anew.
 
-ghost use Rattle.std.specs.Prelude.{◌≡◌, ◌+◌, ◌++◌, ◌≤◌, IfSome, length, take, Err, OnOk, false, true};
+ghost use Rattle.std.specs.Prelude.{◌≡◌, ◌+◌, ◌++◌, ◌≤◌, IfSome, length, take};
 ghost use Rattle.std.specs.Option.{option_map};
 ghost use Rattle.arrayvec.specs.ArrayVec.{array_vec_len};
 ghost use Rattle.speedate.specs.DateTime.{date_and_time};
 ghost use Rattle.speedate.specs.Requirement.{result_map};
-ghost use Rattle.speedate_commands.specs.Convert.{convert_line, convert_lines, convert_machine};
+ghost use Rattle.speedate_commands.specs.Convert.{convert_line};
 ghost use Rattle.speedate_commands.specs.Convert.{convert_rest, convert_text, library_digits, own_digits};
 ghost use Rattle.speedate_commands.specs.Convert.{target_place, targeted, text_of, text_with, written_digits};
 ghost use Rattle.speedate_commands.specs.Convert.{written_of, written_text, written_value};
 ghost use Rattle.speedate_scan.specs.Reading.{IsWithin};
 ghost use Rattle.speedate_scan.specs.Scan.{IsFoundWithin};
-ghost use Rattle.speedate_commands.specs.Runs.{EndsWith};
-ghost use Rattle.speedate_stream.specs.Run.{EndsBy, PrintsBeginning, PrintsProgress};
 
+use crate::command::{About, Command};
 use crate::nanosecond::{DATE_TIME_MAX, past_second, push_date_time};
+use crate::search::ReadAt;
 use speedate::{DateTime, FractionDigits};
 use speedate_scan::form::Form;
 use speedate_scan::fraction::fraction_size;
@@ -251,34 +251,56 @@ impl LineMachine for Convert<'_> {
     }
 }
 
-/// Prints each line of an input with its value written anew, and its other bytes as they are.
-///
-/// Fails with `RunError::Read` if a read fails, with `RunError::Write` if a write or the flush does.
-pub fn print_converted<'a, R: Read, W: Write, O: Observer<Convert<'a>>>(
-    command: &mut Convert<'a>,
-    input: &mut Watched<R>,
-    output: &mut Watched<W>,
-    observer: &mut O,
-) -> Result<(), RunError>
-    // If neither end had failed before, one has failed if and only if the answer says so.
-    ensures failed { input.old.failed ≡ false → output.old.failed ≡ false →
-        EndsBy result input.new.failed output.new.failed }
-    ensures ended { OnOk result (EndsWith convert_machine (convert_lines command.old)
-        command.old command.new
-        (R.remaining input.old.inner) (R.remaining input.new.inner)
-        (W.contents output.old.inner) (W.contents output.new.inner)) }
-    ensures flushed { OnOk result (output.new.flushed ≡ true) }
-    // After a failed read what was written is what is printed for all that was read.
-    ensures read_failed { result ≡ Err RunError.Read → PrintsProgress convert_machine command.old
-        command.new (R.remaining input.old.inner) (R.remaining input.new.inner)
-        (W.contents output.old.inner) (W.contents output.new.inner) }
-    // After a failed write it is a beginning of what was due.
-    ensures write_failed { result ≡ Err RunError.Write → PrintsBeginning convert_machine command.old
-        (R.remaining input.old.inner) (R.remaining input.new.inner)
-        (W.contents output.old.inner) (W.contents output.new.inner) }
-{
-    match run(command, input, output, observer) {
-        Ok(()) => Ok(()),
-        Err(error) => Err(error),
+impl<'a> Command<'a> for Convert<'a> {
+    ghost use Rattle.std.specs.Prelude.{[]};
+    ghost use Rattle.speedate_commands.specs.Convert.{convert_about, convert_begun, convert_says};
+
+    ghost scan = { λ convert. convert.scan };
+
+    ghost begun = { convert_begun };
+
+    ghost Says = { convert_says };
+
+    ghost about = { convert_about };
+
+    ghost end_text = { λ _. [] };
+
+    fn scan(&self) -> Scan<'a> {
+        self.scan
     }
+
+    fn begin(&mut self, name: &'a [u8]) {
+        self.scan.begin(name);
+    }
+
+    fn about(&self) -> About {
+        About {
+            kind: self.scan.reader.form.call_kind(),
+            tells_bad: true,
+            before: self.scan.first.lines_before(),
+            reported: 0,
+            is_too_large: false,
+            is_in_order: false,
+        }
+    }
+
+    fn print<R: Read, W: Write, O: Observer<Self>>(
+        &mut self,
+        input: &mut Watched<R>,
+        output: &mut Watched<W>,
+        observer: &mut O,
+    ) -> Result<(), RunError> {
+        run(self, input, output, observer)
+    }
+
+    fn search<S: ReadAt, W: Write>(
+        &mut self,
+        _source: &S,
+        _size: u64,
+        _output: &mut Watched<W>,
+    ) -> Result<(), RunError> {
+        Ok(())
+    }
+
+    fn push_end(&self, _pending: &mut Pending) {}
 }

@@ -89,7 +89,8 @@ impl Between<'_> {
         ensures passed { self.new ≡ entry_passed self.old }
     {
         self.is_kept = false;
-        self.has_value = true;
+        self.scan.first.has_value = true;
+        self.scan.first.has_entry = true;
         self.scan.offsets = Offsets::Only(self.scan.has_offsets());
     }
 

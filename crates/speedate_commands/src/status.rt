@@ -1,7 +1,7 @@
 //! With which status a run ends, which bad values it tells, and which files are one.
 
 ghost use Rattle.std.specs.Prelude.{◌≡◌};
-ghost use Rattle.speedate_commands.specs.Status.{are_one, file_status, is_due, lines_status};
+ghost use Rattle.speedate_commands.specs.Status.{are_one, file_status, is_due, lines_status, worse};
 
 use speedate_stream::run::RunError;
 
@@ -38,6 +38,13 @@ pub fn file_status(ended: Result<(), RunError>, is_without_value: bool) -> u8
         Err(RunError::Read) => READ,
         Err(RunError::Write) => WRITE,
     }
+}
+
+/// The larger of two statuses.
+pub fn worse(one: u8, other: u8) -> u8
+    ensures worse { result ≡ worse one other }
+{
+    if one < other { other } else { one }
 }
 
 /// Whether the report at an index is to be told: it is one of those of the bad values, and comes after those that were told.

@@ -1,17 +1,17 @@
 //! The command `sum`: the total of the durations of lines.
 
-ghost use Rattle.std.specs.Prelude.{◌≡◌, ◌+◌, ◌++◌, ◌≤◌, Err, OnOk, false, true};
+ghost use Rattle.std.specs.Prelude.{◌≡◌, ◌+◌, ◌++◌, ◌≤◌};
 ghost use Rattle.arrayvec.specs.ArrayVec.{array_vec_len};
 ghost use Rattle.speedate.specs.Ascii.{capital_d};
 ghost use Rattle.speedate.specs.Duration.{counted_text, duration_numbers, rest_text, start_text};
 ghost use Rattle.speedate.specs.Requirement.{result_map};
-ghost use Rattle.speedate_commands.specs.Runs.{EndsAdded};
-ghost use Rattle.speedate_commands.specs.Sum.{IsSumAfter, after_hours, in_days, in_hours, is_too_large};
-ghost use Rattle.speedate_commands.specs.Sum.{sum_after, sum_machine};
+ghost use Rattle.speedate_commands.specs.Sum.{after_hours, in_days, in_hours, is_too_large};
+ghost use Rattle.speedate_commands.specs.Sum.{sum_after};
 ghost use Rattle.speedate_commands.specs.Sum.{total_after, total_answer, total_text, with_amount};
-ghost use Rattle.speedate_stream.specs.Run.{EndsBy, PrintsBeginning, PrintsProgress};
 
-use speedate::{Duration, ParseError, Time};
+use crate::command::{About, Command};
+use crate::search::ReadAt;
+use speedate::{CallKind, Duration, ParseError, Time};
 use speedate_scan::print::push_number;
 use speedate_scan::scan::{Line, Scan};
 use speedate_stream::run::{RunError, run};
@@ -145,7 +145,7 @@ impl Sum<'_> {
         match amount {
             Ok(duration) => {
                 self.total = with_amount(self.total, &duration);
-                self.scan.count();
+                self.scan.count_value();
             }
             Err(line) => self.scan.pass(line),
         }
@@ -164,7 +164,7 @@ impl Sum<'_> {
     }
 
     /// Whether no total is printed because it has more than 999,999,999 days.
-    pub fn is_too_large(&self) -> bool
+    fn is_too_large(&self) -> bool
         ensures large { result ≡ is_too_large self.now }
     {
         !self.scan.is_stopped() && self.total().is_err()
@@ -212,34 +212,57 @@ impl LineMachine for Sum<'_> {
     }
 }
 
-/// Adds the durations of the lines of an input to a sum, and prints nothing.
-///
-/// Fails with `RunError::Read` if a read fails, with `RunError::Write` if the flush does.
-pub fn add_durations<'a, R: Read, W: Write, O: Observer<Sum<'a>>>(
-    command: &mut Sum<'a>,
-    input: &mut Watched<R>,
-    output: &mut Watched<W>,
-    observer: &mut O,
-) -> Result<(), RunError>
-    // If neither end had failed before, one has failed if and only if the answer says so.
-    ensures failed { input.old.failed ≡ false → output.old.failed ≡ false →
-        EndsBy result input.new.failed output.new.failed }
-    // The durations of all lines were added, exactly, or the command wants no further line.
-    ensures ended { OnOk result (EndsAdded sum_machine IsSumAfter command.old command.new
-        (R.remaining input.old.inner) (R.remaining input.new.inner)
-        (W.contents output.old.inner) (W.contents output.new.inner)) }
-    ensures flushed { OnOk result (output.new.flushed ≡ true) }
-    // After a failed read all complete lines that were read have been added.
-    ensures read_failed { result ≡ Err RunError.Read → PrintsProgress sum_machine command.old
-        command.new (R.remaining input.old.inner) (R.remaining input.new.inner)
-        (W.contents output.old.inner) (W.contents output.new.inner) }
-    // After a failed write it is a beginning of what was due.
-    ensures write_failed { result ≡ Err RunError.Write → PrintsBeginning sum_machine command.old
-        (R.remaining input.old.inner) (R.remaining input.new.inner)
-        (W.contents output.old.inner) (W.contents output.new.inner) }
-{
-    match run(command, input, output, observer) {
-        Ok(()) => Ok(()),
-        Err(error) => Err(error),
+impl<'a> Command<'a> for Sum<'a> {
+    ghost use Rattle.speedate_commands.specs.Sum.{sum_about, sum_begun, sum_says, total_text};
+
+    ghost scan = { λ sum. sum.scan };
+
+    ghost begun = { sum_begun };
+
+    ghost Says = { sum_says };
+
+    ghost about = { sum_about };
+
+    ghost end_text = { total_text };
+
+    fn scan(&self) -> Scan<'a> {
+        self.scan
+    }
+
+    fn begin(&mut self, name: &'a [u8]) {
+        self.scan.begin(name);
+    }
+
+    fn about(&self) -> About {
+        About {
+            kind: CallKind::Duration,
+            tells_bad: true,
+            before: 0,
+            reported: 0,
+            is_too_large: self.is_too_large(),
+            is_in_order: false,
+        }
+    }
+
+    fn print<R: Read, W: Write, O: Observer<Self>>(
+        &mut self,
+        input: &mut Watched<R>,
+        output: &mut Watched<W>,
+        observer: &mut O,
+    ) -> Result<(), RunError> {
+        run(self, input, output, observer)
+    }
+
+    fn search<S: ReadAt, W: Write>(
+        &mut self,
+        _source: &S,
+        _size: u64,
+        _output: &mut Watched<W>,
+    ) -> Result<(), RunError> {
+        Ok(())
+    }
+
+    fn push_end(&self, pending: &mut Pending) {
+        self.push_onto(pending);
     }
 }

@@ -1,26 +1,26 @@
 //! The command `summary`: how many lines and values there are, the earliest and the latest, and the longest
 //! gap.
 
-ghost use Rattle.std.specs.Prelude.{◌≡◌, ◌+◌, ◌++◌, ◌≤◌, Err, OnOk, false, true, length};
+ghost use Rattle.std.specs.Prelude.{◌≡◌, ◌+◌, ◌++◌, ◌≤◌, length};
 ghost use Rattle.arrayvec.specs.ArrayVec.{array_vec_len};
 ghost use Rattle.speedate.specs.DateTime.{◌gives◌};
-ghost use Rattle.speedate_commands.specs.Runs.{EndsAdded};
-ghost use Rattle.speedate_commands.specs.Summary.{IsSummaryAfter, clock_at, clock_second, count_text};
+ghost use Rattle.speedate_commands.specs.Summary.{clock_at, clock_second, count_text};
 ghost use Rattle.speedate_commands.specs.Summary.{counts_text, earlier_of, gap_end, gap_length, gap_size, later_of};
 ghost use Rattle.speedate_commands.specs.Summary.{gap_text, within_64_bits};
 ghost use Rattle.speedate_commands.specs.Summary.{instant_text, is_undated, longest_size};
 ghost use Rattle.speedate_commands.specs.Summary.{longest_text, longest_with, one_more_if, shown_at};
 ghost use Rattle.speedate_commands.specs.Summary.{summary_after, summary_machine, summary_text, named_text};
-ghost use Rattle.speedate_stream.specs.Run.{EndsBy, PrintsBeginning, PrintsProgress};
 
+use crate::command::{About, Command};
 use crate::nanosecond::{
     DATE_TIME_MAX, digits_needed, distance, past_second, push_date_time, push_duration_between,
 };
 use crate::order::{Latest, Order};
+use crate::search::ReadAt;
 use speedate::{DateTime, DateTimeConfig, ParseError, TimeConfig, TimestampUnit};
 use speedate_scan::print::{push_line_place, push_number};
 use speedate_scan::reading::Found;
-use speedate_scan::scan::Line;
+use speedate_scan::scan::{Line, Scan};
 use speedate_stream::run::{RunError, run};
 use speedate_stream::{LineMachine, Observer, PENDING_MAX, Pending, Watched, push_bytes};
 use std::io::{Read, Write};
@@ -340,34 +340,57 @@ impl LineMachine for Summary<'_> {
     }
 }
 
-/// Adds the lines of an input to a summary, and prints nothing.
-///
-/// Fails with `RunError::Read` if a read fails, with `RunError::Write` if the flush does.
-pub fn add_lines<'a, R: Read, W: Write, O: Observer<Summary<'a>>>(
-    command: &mut Summary<'a>,
-    input: &mut Watched<R>,
-    output: &mut Watched<W>,
-    observer: &mut O,
-) -> Result<(), RunError>
-    // If neither end had failed before, one has failed if and only if the answer says so.
-    ensures failed { input.old.failed ≡ false → output.old.failed ≡ false →
-        EndsBy result input.new.failed output.new.failed }
-    // All lines were added, or the command wants no further one.
-    ensures ended { OnOk result (EndsAdded summary_machine IsSummaryAfter command.old command.new
-        (R.remaining input.old.inner) (R.remaining input.new.inner)
-        (W.contents output.old.inner) (W.contents output.new.inner)) }
-    ensures flushed { OnOk result (output.new.flushed ≡ true) }
-    // After a failed read all complete lines that were read have been added.
-    ensures read_failed { result ≡ Err RunError.Read → PrintsProgress summary_machine command.old
-        command.new (R.remaining input.old.inner) (R.remaining input.new.inner)
-        (W.contents output.old.inner) (W.contents output.new.inner) }
-    // After a failed write it is a beginning of what was due.
-    ensures write_failed { result ≡ Err RunError.Write → PrintsBeginning summary_machine command.old
-        (R.remaining input.old.inner) (R.remaining input.new.inner)
-        (W.contents output.old.inner) (W.contents output.new.inner) }
-{
-    match run(command, input, output, observer) {
-        Ok(()) => Ok(()),
-        Err(error) => Err(error),
+impl<'a> Command<'a> for Summary<'a> {
+    ghost use Rattle.speedate_commands.specs.Summary.{summary_about, summary_begun, summary_says, summary_text};
+
+    ghost scan = { λ summary. summary.order.scan };
+
+    ghost begun = { summary_begun };
+
+    ghost Says = { summary_says };
+
+    ghost about = { summary_about };
+
+    ghost end_text = { summary_text };
+
+    fn scan(&self) -> Scan<'a> {
+        self.order.scan
+    }
+
+    fn begin(&mut self, name: &'a [u8]) {
+        self.order.scan.begin(name);
+    }
+
+    fn about(&self) -> About {
+        About {
+            kind: self.order.scan.reader.form.call_kind(),
+            tells_bad: true,
+            before: 0,
+            reported: self.order.late,
+            is_too_large: false,
+            is_in_order: false,
+        }
+    }
+
+    fn print<R: Read, W: Write, O: Observer<Self>>(
+        &mut self,
+        input: &mut Watched<R>,
+        output: &mut Watched<W>,
+        observer: &mut O,
+    ) -> Result<(), RunError> {
+        run(self, input, output, observer)
+    }
+
+    fn search<S: ReadAt, W: Write>(
+        &mut self,
+        _source: &S,
+        _size: u64,
+        _output: &mut Watched<W>,
+    ) -> Result<(), RunError> {
+        Ok(())
+    }
+
+    fn push_end(&self, pending: &mut Pending) {
+        self.push_onto(pending);
     }
 }

@@ -12,7 +12,7 @@ use speedate_commands::order::Order;
 use speedate_commands::sum::Sum;
 use speedate_commands::summary::Summary;
 use speedate_scan::reading::{Bad, Why};
-use speedate_scan::scan::{Offsets, REPORTS_MAX, Report, Scan, Stop};
+use speedate_scan::scan::{First, Offsets, REPORTS_MAX, Report, Scan, Stop};
 use speedate_sort::sort::Keys;
 
 /// The command `between` before the first line.
@@ -24,8 +24,6 @@ pub fn first_between<'a>(given: &ArgMatches<'a>) -> Result<Between<'a>, Refusal>
         bounds,
         prefix: options.prefix,
         is_kept: false,
-        has_value: false,
-        before: 0,
         is_in_order: given.get_flag("in-order"),
     })
 }
@@ -139,6 +137,7 @@ fn first_scan<'a>(options: &Options<'a>, offsets: Offsets) -> Scan<'a> {
         number: 0,
         offsets,
         stop: Stop::No,
+        first: First::NOTHING,
         bad: 0,
         reports: [nothing; REPORTS_MAX],
     }

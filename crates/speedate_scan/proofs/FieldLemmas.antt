@@ -1,12 +1,22 @@
 -- Where the fields of a line are.
-use Rattle.std.proofs.Common.{◌≡◌, ◌≢◌, ◌∙◌, ℕ, ◌+◌, ◌-◌, ◌<◌, ◌≤◌, zero, suc, Bool, List, [], ◌∷◌, length, take, drop, true, false, Some, None, refl, ap, arith, get_or, length-drop}
+use Rattle.std.proofs.Common.{◌≡◌, ◌≢◌, ◌∙◌, ℕ, ◌+◌, ◌-◌, ◌<◌, ◌≤◌, zero, suc, Bool, List, [], ◌∷◌, length, take, drop, true, false, Some, None, refl, ap, arith, get_or, length-drop, inl, inr}
+use Rattle.std.proofs.Math.ListN.{get_or-eq_default}
+use Rattle.std.proofs.lemmas.Bool.{cases_lt}
 use Rattle.std.proofs.lemmas.Bool.Decides.{nat_tests}
-use Rattle.std.specs.Prelude.{◌==◌, nat_lt}
+use Rattle.std.specs.Prelude.{◌==◌, nat_lt, slice_index}
 use Rattle.std.specs.List.{position, position_or_len}
 use Rattle.std.proofs.lemmas.List.{drop_all, take_rest}
 use Rattle.std.proofs.lemmas.List.Sums.{prefix_len-le-length}
 use Rattle.speedate_scan.specs.Field.{before_quote, field_after, field_at, next_separator}
 use Rattle.speedate_scan.proofs.WordLemmas.{parts_at}
+
+-- a quote stands within its text
+pub quote_within : (text : List ℕ) (place : ℕ) → slice_index text place ≡ 34 → place < length text
+quote_within text place is = elim (cases_lt place (length text)) [
+  | inl less ↦ less
+  | inr past ↦ let none : slice_index text place ≡ 0 = get_or-eq_default text 0 past in
+      omega (arith, is, none)
+]
 
 is_other : (byte : ℕ) → byte ≢ 34 → (byte == 34) ≡ false
 is_other byte other = grind (arith, nat_tests)

@@ -1,7 +1,7 @@
 -- What is printed of names, numbers and bad values.
 use Rattle.std.specs.Prelude.{ℕ, ◌+◌, List, [], ◌∷◌, ◌++◌, take, drop, Bool, codes, decimal, if◌then◌else◌}
 use Rattle.speedate.specs.Ascii.{colon, line_feed}
-use Rattle.speedate.specs.Base.{CallKind}
+use Rattle.speedate.specs.Base.{CallKind, ParseError}
 use Rattle.speedate.specs.Expected.{expected_text}
 use Rattle.speedate_stream.specs.Machine.{longest_line}
 use Rattle.speedate_stream.specs.Watch.{one_more}
@@ -32,12 +32,19 @@ call_kind Form.Strict = CallKind.DateTimeStrict
 call_kind Form.Date = CallKind.Date
 call_kind (Form.Timestamp unit) = CallKind.DateTime
 
+-- what was expected of a line without a value
+abbrev pub expected_of : Form → CallKind → List ℕ
+expected_of Form.DateTime kind = expected_text ParseError.TooShort kind
+expected_of Form.Strict kind = expected_text ParseError.TooShort kind
+expected_of Form.Date kind = expected_text ParseError.TooShort kind
+expected_of (Form.Timestamp unit) kind = codes "a Unix timestamp, as --kind says"
+
 -- what was expected, as a phrase
 unfoldable pub expected_by : Why → CallKind → List ℕ
 expected_by (Why.Parse fault) kind = expected_text fault kind
 expected_by Why.Within kind = codes "a value within the first 4,080 bytes"
 expected_by Why.End kind = codes "the end of the value"
-expected_by Why.Timestamp kind = codes "a Unix timestamp, as --kind says"
+expected_by (Why.Undated form) kind = expected_of form kind
 expected_by Why.Clock kind = codes "a time, as in 2026-11-22T06:10, or --kind date"
 expected_by Why.NoOffset kind = codes "no offset"
 expected_by Why.NoYearsOrMonths kind = codes "a duration without years and months"

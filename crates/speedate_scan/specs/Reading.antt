@@ -287,13 +287,6 @@ refused_at form text refused from =
     then record { place = from + 10; why = Why.Clock }
     else record { place = from + refused.place; why = Why.Parse refused.fault }
 
--- what was expected of a line without a value
-abbrev pub why_undated : Form → Why
-why_undated Form.DateTime = Why.Parse ParseError.TooShort
-why_undated Form.Strict = Why.Parse ParseError.TooShort
-why_undated Form.Date = Why.Parse ParseError.TooShort
-why_undated (Form.Timestamp unit) = Why.Timestamp
-
 -- what was parsed at a byte of a line; on a longer line it may not reach too far
 abbrev pub parsed_at : Reader → List ℕ → ℕ → Result (DateAndTime × ℕ) Refused
     → Result (DateAndTime × ℕ) Bad

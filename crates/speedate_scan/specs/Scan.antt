@@ -1,5 +1,6 @@
 -- What each line is to a command, and what is counted of the lines.
 use Rattle.std.specs.Prelude.{ℕ, ◌+◌, ◌==◌, ◌&&◌, ◌||◌, Bool, true, false, not, List, drop, slice_index, slice_set, nat_lt, Option, Some, None, is_some, Result, if◌then◌else◌}
+use Rattle.std.specs.Borrow.{Bor}
 use Rattle.std.specs.Char.{is_ascii_digit}
 use Rattle.std.specs.List.{position}
 use Rattle.speedate_base.specs.Digits.{is_decimal_mark}
@@ -8,12 +9,13 @@ use Rattle.speedate.specs.Base.{ParseError}
 use Rattle.speedate.specs.DateTime.{DateAndTime}
 use Rattle.speedate_stream.specs.Watch.{one_more}
 use Rattle.speedate_scan.specs.Reading.{Bad, Form, Found, IsParsed, IsWithin, Reading, Why, part}
-use Rattle.speedate_scan.specs.Reading.{read, why_undated}
+use Rattle.speedate_scan.specs.Reading.{read}
 pub use Rattle.speedate_scan.specs.declared.scan.UndatedLines.{UndatedLines}
 pub use Rattle.speedate_scan.specs.declared.scan.BadLines.{BadLines}
 pub use Rattle.speedate_scan.specs.declared.scan.Offsets.{Offsets}
 pub use Rattle.speedate_scan.specs.declared.scan.Stop.{Stop}
 pub use Rattle.speedate_scan.specs.declared.scan.Report.{Report}
+pub use Rattle.speedate_scan.specs.declared.scan.First.{First}
 pub use Rattle.speedate_scan.specs.declared.scan.Line.{Line}
 pub use Rattle.speedate_scan.specs.declared.scan.Scan.{Scan}
 
@@ -75,7 +77,7 @@ unfit_line (Offsets.AsBounds has_offset) head found = Line.Unfit
 -- a line without a value, which would begin at this byte
 abbrev pub undated_line : UndatedLines → Form → ℕ → Line
 undated_line UndatedLines.Bad form place =
-    Line.Bad (record { place = place; why = why_undated form })
+    Line.Bad (record { place = place; why = Why.Undated form })
 undated_line UndatedLines.Join form place = Line.Undated
 undated_line UndatedLines.Drop form place = Line.Undated
 
@@ -138,9 +140,74 @@ keeps scan Line.Undated = keeps_undated scan.undated_lines
 keeps scan Line.Late = false
 keeps scan Line.Unfit = false
 
+-- What is known of the lines up to the first value.
+
+-- how many lines came before the first entry, after one more that begins none
+abbrev pub before_entry : First → ℕ
+before_entry first = if first.has_entry then first.before else one_more first.before
+
+-- a bad line has a value, which is bad
+abbrev pub is_dated : Why → Bool
+is_dated (Why.Undated form) = false
+is_dated (Why.Parse fault) = true
+is_dated Why.Within = true
+is_dated Why.End = true
+is_dated Why.Clock = true
+is_dated Why.NoOffset = true
+is_dated Why.NoYearsOrMonths = true
+is_dated Why.NoClock = true
+is_dated Why.SixDigits = true
+
+-- what is known after a line with a value
+abbrev pub first_found : First → First
+first_found first = record first { has_value = true; has_entry = true }
+
+-- what is known after a line
+abbrev pub first_after : First → Line → First
+first_after first Line.Late = first
+first_after first Line.Header = first
+first_after first (Line.Value found) = first_found first
+first_after first (Line.Bad bad) = record first {
+  has_value = first.has_value || is_dated bad.why;
+  before = before_entry first;
+}
+first_after first Line.Unfit = record first { has_value = true }
+first_after first Line.Undated = record first { before = before_entry first }
+
+-- no further line of the file changes what is known of the first value
+abbrev pub is_found : First → Bool
+is_found first = first.has_value && first.has_entry
+
+-- how many lines came before the first entry, if one has begun: otherwise 0
+abbrev pub lines_before : First → ℕ
+lines_before first = if first.has_entry then first.before else 0
+
+-- how many lines of a file are its header
+abbrev pub headers : Bool → ℕ
+headers true = 1
+headers false = 0
+
+-- what is known when a file with a name begins: its lines are counted anew
+abbrev pub begun : Scan → Bor (List ℕ) → Scan
+begun scan name = record scan {
+  name = name;
+  number = 0;
+  first = record scan.first { has_value = false };
+}
+
+-- the lines that were counted are all of a file without any value; a header is not counted
+abbrev pub is_without_value : Scan → Bool
+is_without_value scan =
+    not scan.first.has_value
+    && (not (is_stopped scan.stop) && nat_lt (headers scan.has_header) scan.number)
+
 -- a line was counted
 abbrev pub counted : Scan → Scan
 counted scan = record scan { number = one_more scan.number }
+
+-- a line was counted that has a value
+abbrev pub valued : Scan → Scan
+valued scan = record (counted scan) { first = first_found scan.first }
 
 -- the reports with one more, if it is one of the first ten
 abbrev pub with_report : List Report → ℕ → Report → List Report
@@ -191,13 +258,18 @@ has_offsets (Offsets.AsBounds has_offset) = has_offset
 unfoldable pub passed : Scan → Line → Scan
 passed scan Line.Late = scan
 passed scan Line.Header = counted scan
-passed scan Line.Undated = counted scan
+passed scan Line.Undated =
+    record (counted scan) { first = first_after scan.first Line.Undated }
 passed scan (Line.Value found) =
-    record (counted scan) { offsets = settled scan.offsets found }
+    record (valued scan) { offsets = settled scan.offsets found }
 passed scan (Line.Bad bad) = record (noted scan bad) {
   stop = if is_stopped (stop_at_bad scan.bad_lines) then Stop.AtBad else scan.stop;
+  first = first_after scan.first (Line.Bad bad);
 }
-passed scan Line.Unfit = record (counted scan) { stop = Stop.AtUnfit }
+passed scan Line.Unfit = record (counted scan) {
+  stop = Stop.AtUnfit;
+  first = first_after scan.first Line.Unfit;
+}
 
 -- the value that was parsed of a line is the one that was found in it
 abbrev pub IsLineParsed : (Found → Result (DateAndTime × ℕ) Bad) → Line → Option DateAndTime

@@ -14,12 +14,12 @@ ghost use Rattle.speedate_scan.specs.Amount.{read_duration, years_or_months};
 ghost use Rattle.speedate_scan.specs.Field.{IsFieldWithin};
 ghost use Rattle.speedate_scan.specs.Reading.{IsReadWithin, alone, fields_of};
 
-use crate::field::{Field, byte_at};
+use crate::field::Field;
 use crate::form::relaxed;
 use crate::reading::{Bad, Reader, Reading, Why, is_cut, not_within, undated_field, without_field};
 use crate::scan::{Line, Scan};
 use speedate::{Duration, MicrosecondsPrecisionOverflowBehavior, ParseError, Refused};
-use speedate_base::numbers::{is_decimal_mark, sign};
+use speedate_base::numbers::{byte_at, is_decimal_mark, sign};
 
 /// Whether a text is one of ISO 8601: it begins with `P`, after its sign.
 fn is_iso(text: &[u8]) -> bool

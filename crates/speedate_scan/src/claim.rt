@@ -7,11 +7,11 @@ ghost use Rattle.speedate_scan.specs.Reading.{claims_wanted, field_claims, front
 ghost use Rattle.speedate_scan.specs.Reading.{length_before_value, seen, without_claim};
 ghost use Rattle.speedate_scan.specs.Zone.{begins_with};
 
-use crate::field::{BYTE_ORDER_MARK, byte_at, mark_length};
+use crate::field::{BYTE_ORDER_MARK, mark_length};
 use crate::form::Form;
 use crate::reading::{Reading, is_longer, not_within, seen};
 use crate::timestamp::{fewest_digits, whole_digits};
-use speedate_base::numbers::{eight_bytes, fit_length, sign};
+use speedate_base::numbers::{byte_at, eight_bytes, fit_length, sign};
 use speedate_stream::LINE_MAX;
 use std::simd::prelude::*;
 

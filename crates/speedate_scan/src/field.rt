@@ -1,9 +1,11 @@
 //! Where the fields of a line are.
 
-ghost use Rattle.std.specs.Prelude.{◌≡◌, ◌+◌, ◌<◌, ◌≤◌, ◌==◌, IfSome, IsTrue, drop, length, nat_lt, slice_index, take};
+ghost use Rattle.std.specs.Prelude.{◌≡◌, ◌+◌, ◌<◌, ◌≤◌, ◌==◌, IfSome, drop, length, slice_index, take};
 ghost use Rattle.std.specs.List.{position};
 ghost use Rattle.speedate_scan.specs.Field.{IsFieldWithin, closing_quote, ended, field_at, goes_on};
 ghost use Rattle.speedate_scan.specs.Field.{mark_length, next_separator, nth_field};
+
+use speedate_base::numbers::byte_at;
 
 /// The byte before and after a field that is quoted.
 pub const QUOTE: u8 = b'"';
@@ -73,14 +75,6 @@ pub fn mark_length(text: &[u8]) -> usize
     } else {
         0
     }
-}
-
-/// The byte at a place, or 0 after the text's end.
-pub fn byte_at(text: &[u8], place: usize) -> u8
-    ensures byte { result ≡ slice_index text.now place }
-    ensures there { IsTrue (nat_lt 0 result) → place < length text.now }
-{
-    if place < text.len() { text[place] } else { 0 }
 }
 
 /// The first bytes of a text: all of it if it has no more.

@@ -4,9 +4,8 @@ ghost use Rattle.std.specs.Prelude.{◌≡◌, ◌≤◌};
 ghost use Rattle.speedate_scan.specs.Fraction.{fraction_digit, fraction_size, past_microsecond};
 ghost use Rattle.speedate_scan.specs.Fraction.{value_past_microsecond};
 
-use crate::field::byte_at;
 use crate::form::Form;
-use speedate_base::numbers::{is_decimal_mark, run_end};
+use speedate_base::numbers::{byte_at, is_decimal_mark, run_end};
 
 /// How many digits the text of a date-time has after its second: 3 in `b"2026-11-22T06:10:00.120Z"`.
 #[tactic(auto, unfolding(crate::specs::Fraction::fraction_size))]

@@ -10,7 +10,7 @@ use crate::field::{bytes_after, first_bytes};
 use crate::form::Form;
 use crate::reading::{Bad, Why, seen};
 use itoa::Buffer;
-use speedate::CallKind;
+use speedate::{CallKind, ParseError};
 use speedate_stream::{PENDING_MAX, Pending, push_bytes};
 
 /// What is printed before each line.
@@ -115,7 +115,8 @@ impl Why {
             Why::Parse(fault) => fault.expected(kind),
             Why::Within => "a value within the first 4,080 bytes",
             Why::End => "the end of the value",
-            Why::Timestamp => "a Unix timestamp, as --kind says",
+            Why::Undated(Form::Timestamp(_)) => "a Unix timestamp, as --kind says",
+            Why::Undated(_) => ParseError::TooShort.expected(kind),
             Why::Clock => "a time, as in 2026-11-22T06:10, or --kind date",
             Why::NoOffset => "no offset",
             Why::NoYearsOrMonths => "a duration without years and months",

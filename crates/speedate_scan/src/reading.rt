@@ -10,15 +10,16 @@ ghost use Rattle.speedate_scan.specs.Reading.{can_end, fields_of, found_at, foun
 ghost use Rattle.speedate_scan.specs.Reading.{is_cut, is_longer, is_without_clock, lacks_clock};
 ghost use Rattle.speedate_scan.specs.Reading.{not_within, part, read, read_claim, read_field};
 ghost use Rattle.speedate_scan.specs.Reading.{read_whole, refused_at, seen, undated_field, value_at};
-ghost use Rattle.speedate_scan.specs.Reading.{value_between, value_of, verdict, why_undated};
+ghost use Rattle.speedate_scan.specs.Reading.{value_between, value_of, verdict};
 ghost use Rattle.speedate_scan.specs.Reading.{without_field};
 
 use crate::claim::{after_claim, field_claims, front_claim};
-use crate::field::{Field, NthField, byte_at, first_bytes};
+use crate::field::{Field, NthField, first_bytes};
 use crate::form::Form;
 use crate::fraction::value_past_microsecond;
 use crate::zone::is_boundary;
 use speedate::{DateTime, MicrosecondsPrecisionOverflowBehavior, ParseError, Refused};
+use speedate_base::numbers::byte_at;
 use speedate_stream::LINE_MAX;
 
 /// Where the value of a line begins.
@@ -56,8 +57,8 @@ pub enum Why {
     End,
     /// A clock after the date, unless values are dates.
     Clock,
-    /// A Unix timestamp.
-    Timestamp,
+    /// A value of this form.
+    Undated(Form),
     /// A value without an offset.
     NoOffset,
     /// A duration that does not say years or months.
@@ -305,16 +306,6 @@ impl Reading {
             Reading::Bad(bad) => Verdict::Bad(*bad),
             Reading::Undated(place) => Verdict::Undated(*place),
         }
-    }
-}
-
-/// What was expected of a line without a value.
-pub fn why_undated(form: Form) -> Why
-    ensures why { result ≡ why_undated form }
-{
-    match form {
-        Form::Timestamp(_) => Why::Timestamp,
-        Form::DateTime | Form::Strict | Form::Date => Why::Parse(ParseError::TooShort),
     }
 }
 

@@ -8,10 +8,11 @@ ghost use Rattle.speedate_stream.specs.Watch.{one_more};
 ghost use Rattle.speedate_scan.specs.Reading.{IsReadWithin, IsWithin, value_of};
 ghost use Rattle.speedate_scan.specs.Scan.{IsFoundWithin, IsLineParsed, has_offsets, is_counted, keeps};
 ghost use Rattle.speedate_scan.specs.Scan.{Offsets, bad_of, counted, fits, is_stopped, is_value};
-ghost use Rattle.speedate_scan.specs.Scan.{judged, line_of};
+ghost use Rattle.speedate_scan.specs.Scan.{before_entry, begun, headers, is_dated, is_found, is_without_value};
+ghost use Rattle.speedate_scan.specs.Scan.{judged, line_of, lines_before, valued};
 ghost use Rattle.speedate_scan.specs.Scan.{is_clock_byte, noted, offset_place, passed, settled, unfit};
 
-use crate::reading::{Bad, Found, Reader, Reading, Verdict, Why, why_undated};
+use crate::reading::{Bad, Found, Reader, Reading, Verdict, Why};
 use speedate::{DateTime, ParseError};
 use speedate_base::numbers::is_decimal_mark;
 
@@ -74,6 +75,17 @@ pub struct Report {
     pub bad: Bad,
 }
 
+/// What is known of the lines up to the first value.
+#[derive(Clone, Copy, Debug)]
+pub struct First {
+    /// Whether a line of the file has a value, which may be bad.
+    pub has_value: bool,
+    /// Whether an entry has begun, in this file or in one before it.
+    pub has_entry: bool,
+    /// How many lines came before the first entry.
+    pub before: u64,
+}
+
 /// What a line is to a command.
 #[derive(Clone, Copy)]
 pub enum Line {
@@ -110,10 +122,63 @@ pub struct Scan<'a> {
     pub offsets: Offsets,
     /// Whether the run has ended.
     pub stop: Stop,
+    /// What is known of the lines up to the first value.
+    pub first: First,
     /// How many values were bad.
     pub bad: u64,
     /// The first of them.
     pub reports: [Report; REPORTS_MAX],
+}
+
+impl First {
+    /// What is known before the first file.
+    pub const NOTHING: First = First {
+        has_value: false,
+        has_entry: false,
+        before: 0,
+    };
+
+    /// How many lines came before the first entry, after one more that begins none.
+    fn before_entry(&self) -> u64
+        ensures before { result ≡ before_entry self.now }
+    {
+        if self.has_entry {
+            self.before
+        } else {
+            self.before.saturating_add(1)
+        }
+    }
+
+    /// Whether no further line of the file changes what is known of the first value.
+    #[inline(always)]
+    pub fn is_found(&self) -> bool
+        ensures found { result ≡ is_found self.now }
+    {
+        self.has_value && self.has_entry
+    }
+
+    /// How many lines came before the first entry, if one has begun: otherwise 0.
+    pub fn lines_before(&self) -> u64
+        ensures before { result ≡ lines_before self.now }
+    {
+        if self.has_entry { self.before } else { 0 }
+    }
+}
+
+impl Why {
+    /// Whether a bad line has a value, which is bad.
+    fn is_dated(&self) -> bool
+        ensures dated { result ≡ is_dated self.now }
+    {
+        !matches!(self, Why::Undated(_))
+    }
+}
+
+/// How many lines of a file are its header.
+fn headers(has_header: bool) -> u64
+    ensures headers { result ≡ headers has_header }
+{
+    if has_header { 1 } else { 0 }
 }
 
 impl Line {
@@ -218,10 +283,11 @@ fn unfit(found: &Found, head: &[u8]) -> Bad
 impl<'a> Scan<'a> {
     /// Begins a file with this name: its lines are counted anew.
     pub fn begin(&mut self, name: &'a [u8])
-        ensures begun { self.new ≡ record self.old { name = name.entry; number = 0 } }
+        ensures begun { self.new ≡ begun self.old name.entry }
     {
         self.name = name;
         self.number = 0;
+        self.first.has_value = false;
     }
 }
 
@@ -234,6 +300,13 @@ impl Scan<'_> {
             Stop::No => false,
             Stop::AtBad | Stop::AtUnfit => true,
         }
+    }
+
+    /// Whether the lines that were counted are all of a file without any value. A header is not counted.
+    pub fn is_without_value(&self) -> bool
+        ensures without { result ≡ is_without_value self.now }
+    {
+        !self.first.has_value && !self.is_stopped() && headers(self.has_header) < self.number
     }
 
     /// Whether values are to have an offset.
@@ -296,7 +369,7 @@ impl Scan<'_> {
             Verdict::Bad(bad) => Some(bad),
             Verdict::Undated(place) => {
                 if self.undated_lines == UndatedLines::Bad {
-                    let why = why_undated(self.reader.form);
+                    let why = Why::Undated(self.reader.form);
                     Some(Bad { place, why })
                 } else {
                     None
@@ -325,7 +398,7 @@ impl Scan<'_> {
             Reading::Bad(bad) => Line::Bad(bad),
             Reading::Undated(place) => {
                 if self.undated_lines == UndatedLines::Bad {
-                    let why = why_undated(self.reader.form);
+                    let why = Why::Undated(self.reader.form);
                     Line::Bad(Bad { place, why })
                 } else {
                     Line::Undated
@@ -354,22 +427,39 @@ impl Scan<'_> {
     {
         match line {
             Line::Late => {}
-            Line::Header | Line::Undated => self.count(),
+            Line::Header => self.count(),
+            Line::Undated => {
+                self.first.before = self.first.before_entry();
+                self.count();
+            }
             Line::Value(found) => {
                 self.offsets = self.offsets.settled(&found);
-                self.count();
+                self.count_value();
             }
             Line::Bad(bad) => {
                 if self.bad_lines == BadLines::Stop {
                     self.stop = Stop::AtBad;
                 }
+                self.first.has_value |= bad.why.is_dated();
+                self.first.before = self.first.before_entry();
                 self.note(bad);
             }
             Line::Unfit => {
                 self.stop = Stop::AtUnfit;
+                self.first.has_value = true;
                 self.count();
             }
         }
+    }
+
+    /// Counts a line that has a value.
+    #[inline(always)]
+    pub fn count_value(&mut self)
+        ensures counted { self.new ≡ valued self.old }
+    {
+        self.first.has_value = true;
+        self.first.has_entry = true;
+        self.count();
     }
 
     /// Counts a line.

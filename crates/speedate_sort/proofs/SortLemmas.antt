@@ -19,7 +19,7 @@ use Rattle.speedate_scan.specs.Scan.{keeps, line_of, passed}
 use Rattle.speedate_scan.specs.Entries.{printed_line}
 use Rattle.speedate_sort.specs.Base.{Line, Scan}
 use Rattle.speedate_sort.specs.Sort.{IsPlaced, Keyed, Keys, Place, bare_lines, file_lines, if_kept}
-use Rattle.speedate_sort.specs.Sort.{Adds, in_order}
+use Rattle.speedate_sort.specs.Sort.{Adds, UnlessMemory, Unread, in_order}
 use Rattle.speedate_sort.specs.Sort.{instant_after, is_earlier, is_earlier_line, key_after, key_of}
 use Rattle.speedate_sort.specs.Sort.{keys_after, line_at, lines_at, name_text, no_prefix, part}
 use Rattle.speedate_sort.specs.Sort.{prefixed}
@@ -256,6 +256,12 @@ pub placed-read : (old new : List ℕ) (places : List Place) → take (length ol
 placed-read old new places begins within =
     subst (λ (text : List ℕ). All (IsPlaced text) places) (sym (read-after old new begins))
     (placed-grown old (drop (length old) new) places within)
+
+-- what holds unless memory ran out, and it did not
+pub unread_part : {P : Type 0} (unread : Unread) → unread ≡ Unread.Read
+    → UnlessMemory (Err unread) P → P
+unread_part Unread.Read is holds = holds
+unread_part Unread.Memory is holds = cc
 
 -- what holds at `Ok`, and what holds at an error
 pub ok_part : {T E P : Type 0} (result : Result T E) → is_err result ≡ false → OnOk result P → P

@@ -143,6 +143,26 @@ FailsBy (Ok ended) output = output ≡ false
 FailsBy (Err Unsorted.Memory) output = output ≡ false
 FailsBy (Err Unsorted.Write) output = output ≡ true
 
+-- whether the input has failed: if this is the answer, it has, and if all was read, it has as before
+abbrev pub FailsRead : Result (Unit {0}) Unread → Bool → Bool → Type 0
+FailsRead (Ok ended) before after = after ≡ before
+FailsRead (Err Unread.Read) before after = after ≡ true
+FailsRead (Err Unread.Memory) before after = Unit {0}
+
+-- what holds unless memory ran out
+abbrev pub UnlessMemory : Result (Unit {0}) Unread → Type 0 → Type 0
+UnlessMemory (Ok ended) Holds = Holds
+UnlessMemory (Err Unread.Read) Holds = Holds
+UnlessMemory (Err Unread.Memory) Holds = Unit {0}
+
+-- a text begins with what it was
+abbrev pub IsBegun : List ℕ → List ℕ → Type 0
+IsBegun old new = take (length old) new ≡ old
+
+-- what an input gave was appended to a text
+abbrev pub Reads : Option (List ℕ) → Option (List ℕ) → List ℕ → List ℕ → Type 0
+Reads unread_old unread_new old new = Consumes unread_old unread_new (drop (length old) new)
+
 -- an input was read, and its lines, or those of them that are complete, were added to others in a
 -- form
 pub record Adds (form : Keys → List (List ℕ) → List Keyed)

@@ -10,6 +10,7 @@ ghost use Rattle.speedate_scan.specs.Print.{shown_name, with_colon};
 ghost use Rattle.speedate_sort.specs.Sort.{Adds, AreKept, FailsBy, IsPlaced, Keyed, bare_lines, file_lines, in_order, prefixed};
 ghost use Rattle.speedate_sort.specs.Sort.{instant_after, is_earlier, kept_instant, key_after};
 ghost use Rattle.speedate_sort.specs.Sort.{key_of, keyed, keys_after, line_at, lines_at, part};
+ghost use Rattle.speedate_sort.specs.Sort.{FailsRead, IsBegun, Reads, UnlessMemory};
 ghost use Rattle.speedate_sort.specs.Sort.{sorted_entries, sorted_text, texts};
 ghost use Rattle.speedate_scan.specs.Scan.{passed};
 ghost use Rattle.speedate_stream.specs.Run.{AppendsBeginning, OnlyWrites, Writes};
@@ -20,7 +21,7 @@ use speedate_scan::scan::{Line, Scan};
 use speedate_stream::run::{head, pass, send};
 use speedate_stream::{Failed, Pending, Watched};
 use std::alloc::{AllocError, Global};
-use std::io::{ErrorKind, Read, Write};
+use std::io::{Read, Write};
 use std::marker::Model;
 
 /// What is known of the lines so far.
@@ -289,6 +290,32 @@ fn print_places<W: Write>(
     output.flush()
 }
 
+/// How many bytes are read together.
+const BLOCK: usize = 65_536;
+
+/// Appends to a text what an input gives up to its end.
+fn read_all<R: Read>(input: &mut Watched<R>, text: &mut Vec<u8>) -> Result<(), Unread>
+    // Unless memory runs out, what was read was appended.
+    ensures read { UnlessMemory result (Reads (R.remaining input.old.inner)
+        (R.remaining input.new.inner) text.old.items text.new.items) }
+    ensures kept { IsBegun text.old.items text.new.items }
+    ensures ended { OnOk result (IsAtEnd (R.remaining input.new.inner)) }
+    ensures failed { FailsRead result input.old.failed input.new.failed }
+{
+    let mut block = [0; BLOCK];
+    loop {
+        let Ok(count) = input.read(&mut block) else {
+            return Err(Unread::Read);
+        };
+        if count == 0 {
+            return Ok(());
+        }
+        if text.extend_from_slice(&block[..count]).is_err() {
+            return Err(Unread::Memory);
+        }
+    }
+}
+
 impl Lines {
     /// No lines.
     pub fn new(alloc: Global) -> Self
@@ -305,12 +332,17 @@ impl Lines {
     ///
     /// Fails with `Unread::Read` if a read fails: the complete lines that were read are added. Fails
     /// with `Unread::Memory` if memory runs out.
-    pub fn add<R: Read>(&mut self, keys: &mut Keys<'_>, input: &mut R) -> Result<(), Unread>
+    pub fn add<R: Read>(
+        &mut self,
+        keys: &mut Keys<'_>,
+        input: &mut Watched<R>,
+    ) -> Result<(), Unread>
         ensures added { OnOk result (Adds file_lines lines self.old self.new keys.old keys.new
-            (R.remaining input.old) (R.remaining input.new)) }
-        ensures ended { OnOk result (IsAtEnd (R.remaining input.new)) }
+            (R.remaining input.old.inner) (R.remaining input.new.inner)) }
+        ensures ended { OnOk result (IsAtEnd (R.remaining input.new.inner)) }
+        ensures failed { FailsRead result input.old.failed input.new.failed }
         ensures read_failed { result ≡ Err Unread.Read → Adds file_lines complete_lines self.old
-            self.new keys.old keys.new (R.remaining input.old) (R.remaining input.new) }
+            self.new keys.old keys.new (R.remaining input.old.inner) (R.remaining input.new.inner) }
     {
         if keys.has_name {
             return self.add_named(keys, input);
@@ -320,13 +352,18 @@ impl Lines {
 
     /// Adds the lines of an input, each after the name of its file.
     #[tactic(auto, unfolding(crate::specs::Sort::file_lines))]
-    fn add_named<R: Read>(&mut self, keys: &mut Keys<'_>, input: &mut R) -> Result<(), Unread>
+    fn add_named<R: Read>(
+        &mut self,
+        keys: &mut Keys<'_>,
+        input: &mut Watched<R>,
+    ) -> Result<(), Unread>
         requires named { keys.old.has_name ≡ true }
         ensures added { OnOk result (Adds file_lines lines self.old self.new keys.old keys.new
-            (R.remaining input.old) (R.remaining input.new)) }
-        ensures ended { OnOk result (IsAtEnd (R.remaining input.new)) }
+            (R.remaining input.old.inner) (R.remaining input.new.inner)) }
+        ensures ended { OnOk result (IsAtEnd (R.remaining input.new.inner)) }
+        ensures failed { FailsRead result input.old.failed input.new.failed }
         ensures read_failed { result ≡ Err Unread.Read → Adds file_lines complete_lines self.old
-            self.new keys.old keys.new (R.remaining input.old) (R.remaining input.new) }
+            self.new keys.old keys.new (R.remaining input.old.inner) (R.remaining input.new.inner) }
     {
         let Ok(prefix) = name_prefix(keys.scan.name, self.alloc) else {
             return Err(Unread::Memory);
@@ -354,25 +391,28 @@ impl Lines {
     }
 
     /// Adds the lines of an input as they are.
-    fn add_bare<R: Read>(&mut self, keys: &mut Keys<'_>, input: &mut R) -> Result<(), Unread>
+    fn add_bare<R: Read>(
+        &mut self,
+        keys: &mut Keys<'_>,
+        input: &mut Watched<R>,
+    ) -> Result<(), Unread>
         ensures added { OnOk result (Adds bare_lines lines self.old self.new keys.old keys.new
-            (R.remaining input.old) (R.remaining input.new)) }
-        ensures ended { OnOk result (IsAtEnd (R.remaining input.new)) }
+            (R.remaining input.old.inner) (R.remaining input.new.inner)) }
+        ensures ended { OnOk result (IsAtEnd (R.remaining input.new.inner)) }
+        ensures failed { FailsRead result input.old.failed input.new.failed }
         ensures read_failed { result ≡ Err Unread.Read → Adds bare_lines complete_lines self.old
-            self.new keys.old keys.new (R.remaining input.old) (R.remaining input.new) }
+            self.new keys.old keys.new (R.remaining input.old.inner) (R.remaining input.new.inner) }
     {
         let from = self.text.len();
-        match input.read_to_end(&mut self.text) {
-            Ok(_) => {
+        match read_all(input, &mut self.text) {
+            Ok(()) => {
                 if place_all(keys, &mut self.text, from, &mut self.places).is_err() {
                     return Err(Unread::Memory);
                 }
                 Ok(())
             }
-            Err(error) => {
-                if error.kind() == ErrorKind::OutOfMemory {
-                    return Err(Unread::Memory);
-                }
+            Err(Unread::Memory) => Err(Unread::Memory),
+            Err(Unread::Read) => {
                 if place_complete(keys, &self.text, from, &mut self.places).is_err() {
                     return Err(Unread::Memory);
                 }

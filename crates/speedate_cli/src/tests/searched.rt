@@ -3,7 +3,7 @@
 use super::ends::Sink;
 use super::{whole, words_of};
 use crate::seeking::Seeking;
-use crate::session::Session;
+use speedate_commands::command::Command;
 use speedate_commands::in_order::between_in_order;
 use speedate_commands::search::ReadAt;
 use speedate_options::commands::first_between;

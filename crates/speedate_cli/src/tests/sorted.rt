@@ -94,10 +94,11 @@ struct Printed {
 }
 
 /// Adds an input to lines.
-fn add<R: Abort>(rt: &R, keys: &mut Keys<'_>, lines: &mut Lines, input: &str, step: usize) {
+fn add<R: Abort>(rt: &R, keys: &mut Keys<'_>, lines: &mut Lines, text: &str, step: usize) {
     keys.scan.begin(b"app.log");
-    let added = lines.add(keys, &mut Source::new(input.as_bytes(), step));
-    assert_eq!(rt; added, Ok(()), "{input}");
+    let mut input = Watched::new(Source::new(text.as_bytes(), step));
+    let added = lines.add(keys, &mut input);
+    assert_eq!(rt; added, Ok(()), "{text}");
 }
 
 /// Prints lines.
@@ -129,9 +130,9 @@ fn sorted<R: AllocGlobal + Abort>(
 }
 
 /// How the lines of an input are added and printed.
-fn sorted_log<R: AllocGlobal + Abort, I: Read>(
+fn sorted_log<R: AllocGlobal + Abort, I: Read + Drop>(
     rt: &R,
-    input: &mut I,
+    input: I,
     sink: Sink,
 ) -> Result<(Result<(), Unread>, Printed), AllocError> {
     let list = words_of(rt, "sort")?;
@@ -142,7 +143,7 @@ fn sorted_log<R: AllocGlobal + Abort, I: Read>(
     let mut keys = first_keys(given).ok().expect(rt, "sort");
     keys.scan.begin(b"app.log");
     let mut lines = Lines::new(rt.alloc());
-    let added = lines.add(&mut keys, input);
+    let added = lines.add(&mut keys, &mut Watched::new(input));
     Ok((added, print(&mut lines, sink)))
 }
 
@@ -163,7 +164,7 @@ fn sort_fails_with_its_ends(rt: HostRuntime) -> Result<(), AllocError> {
     // The reader gives the first two lines, and then fails.
     let source = Source::new(LOG.as_bytes(), 40);
     let sink = Sink::new(rt.alloc(), 9);
-    let (added, printed) = sorted_log(&rt, &mut Breaking { source }, sink)?;
+    let (added, printed) = sorted_log(&rt, Breaking { source }, sink)?;
     assert_eq!(rt; added, Err(Unread::Read));
     assert_eq!(rt;
         printed.taken.as_slice(),
@@ -174,7 +175,7 @@ fn sort_fails_with_its_ends(rt: HostRuntime) -> Result<(), AllocError> {
         let mut sink = Sink::new(rt.alloc(), 40);
         sink.room = part.saturating_mul(7);
         let beginning = want.get(..sink.room).expect(&rt, "sort");
-        let (_, printed) = sorted_log(&rt, &mut Source::new(LOG.as_bytes(), 40), sink)?;
+        let (_, printed) = sorted_log(&rt, Source::new(LOG.as_bytes(), 40), sink)?;
         assert_eq!(rt; printed.result, Err(Unsorted::Write));
         assert_eq!(rt; printed.taken.as_slice(), beginning);
     }

@@ -1,6 +1,6 @@
 use Rattle.std.proofs.Common.{arith, rules, ◌+◌, ◌<◌, length}
 use Rattle.speedate_scan.proofs.FieldLemmas.{quote_doubled, quote_here, quote_later}
-use Rattle.speedate_scan.proofs.FieldLemmas.{quote_nowhere}
+use Rattle.speedate_scan.proofs.FieldLemmas.{quote_nowhere, quote_within}
 use Rattle.speedate_scan.proofs.field.closing_quote.Goals as goal
 
 pub loop-place-preserved-then-text-place-ne-QUOTE :
@@ -23,7 +23,8 @@ returns-then-byte_at-ne-QUOTE-clause-quote c =
 pub loop-place-preserved : goal.loop-place-preserved
 loop-place-preserved c =
     let place = c.loop-place.place in
-    let within : place + 1 < length c.args.text.now = c.byte_at.ensures.there (search rules) in
+    let within : place + 1 < length c.args.text.now =
+    quote_within c.args.text.now (place + 1) (search rules) in
     let later = quote_doubled c.args.text.now place within (search rules) (search rules) in
     record {
       after = omega (arith, c.loop-place.invariant.after);

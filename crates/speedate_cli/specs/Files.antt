@@ -1,0 +1,69 @@
+-- What a run of a command over files leaves: what is known of the lines, what was written, and the
+-- status.
+use Rattle.std.specs.Prelude.{◌≡◌, ℕ, ◌==◌, ◌||◌, ◌⊎◌, Bool, true, false, List, [], ◌∷◌, Option, Some, None, Result, Ok, Err}
+use Rattle.std.specs.Borrow.{Bor}
+use Rattle.speedate_stream.specs.Machine.{Machine}
+use Rattle.speedate_stream.specs.Run.{PrintsBeginning, PrintsProgress}
+use Rattle.speedate_stream.specs.declared.run.RunError.{RunError}
+use Rattle.speedate_scan.specs.declared.scan.Scan.{Scan}
+use Rattle.speedate_scan.specs.Scan.{is_without_value}
+use Rattle.speedate_commands.specs.declared.command.About.{About}
+use Rattle.speedate_commands.specs.Runs.{EndsSaying}
+use Rattle.speedate_commands.specs.Status.{file_status, worse}
+
+-- how the run over a file ended: the file was not opened, or it was read up to its end, or up to
+-- where one end failed
+abbrev pub FileEnd : Type 0
+FileEnd = Option (Result (Unit {0}) RunError)
+
+-- the status by a file
+abbrev pub end_status : FileEnd → Bool → ℕ
+end_status None is_without_value = 3
+end_status (Some ended) is_without_value = file_status ended is_without_value
+
+-- of a command: what it does with a line, what is known of the lines, what is known when a file
+-- begins, what is said of its lines, and what else a run has to know
+module _ {S : Type 0} (machine : Machine S) (scan : S → Scan) (begun : S → Bor (List ℕ) → S)
+    (Says : S → List (List ℕ) → S → List ℕ → Type 0) (about : S → About) where
+  -- what was printed of a file that was opened, and is not searched
+  abbrev pub Prints : Result (Unit {0}) RunError → S → S → Option (List ℕ) → Option (List ℕ)
+      → Option (List ℕ) → Option (List ℕ) → Type 0
+  Prints (Ok done) before after unread rest old new =
+      EndsSaying machine Says before after unread rest old new
+  Prints (Err RunError.Read) before after unread rest old new =
+      PrintsProgress machine before after unread rest old new
+  Prints (Err RunError.Write) before after unread rest old new =
+      PrintsBeginning machine before unread rest old new
+
+  -- what the run over a file leaves, by how it ended
+  abbrev pub Leaves : FileEnd → S → S → Option (List ℕ) → Option (List ℕ) → Option (List ℕ)
+      → Type 0
+  Leaves None before after unread old new = (after ≡ before) × (new ≡ old)
+  Leaves (Some ended) before after unread old new = (about before).is_in_order ≡ false
+      → (rest : Option (List ℕ)) × Prints ended before after unread rest old new
+
+  -- the run over a file with this name and these contents
+  pub record RunsFile (name : List ℕ) (unread : Option (List ℕ)) (before after : S)
+      (old new : Option (List ℕ)) (status : ℕ) : Type 0 where
+    pub entry : Bor (List ℕ)
+    pub named : entry.now ≡ name
+    pub ended : FileEnd
+    pub status_is : status ≡ end_status ended (is_without_value (scan after))
+    pub left : Leaves ended (begun before entry) after unread old new
+
+  -- no further file is opened: a write failed, or the command wants no further line
+  abbrev pub is_over : S → ℕ → Bool
+  is_over state status = (status == 4) || machine.done state
+
+  -- The run over files with these names and contents, one after the other: each begins with what
+  -- is known after the one before, and the status is the largest.
+  abbrev pub RunsFiles : (List ℕ → Option (List ℕ)) → List (Bor (List ℕ)) → S → S
+      → Option (List ℕ) → Option (List ℕ) → ℕ → ℕ → Type 0
+  RunsFiles contents [] before after old new status last =
+      (after ≡ before) × ((new ≡ old) × (last ≡ status))
+  RunsFiles contents (name ∷ names) before after old new status last =
+      ((is_over before status ≡ true) × ((after ≡ before) × ((new ≡ old) × (last ≡ status))))
+      ⊎ ((is_over before status ≡ false)
+      × ((halfway : S) × ((sent : Option (List ℕ)) × ((one : ℕ)
+      × (RunsFile name.now (contents name.now) before halfway old sent one
+      × RunsFiles contents names halfway after sent new (worse status one) last)))))
