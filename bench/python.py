@@ -89,19 +89,19 @@ def read_rows():
         "Z": lambda: f"{date()}T{clock()}Z", "naive": lambda: f"{date()}T{clock()}", "milliseconds": milliseconds,
         "quarter hours": quarters, "mixed": mixed, "odd offset": odd}
     for name, kind in kinds.items():
-        yield f"date_time, {name}", drawn(kind), [speedate.date_time, moment, ciso, of(datetime.datetime)]
+        yield f"datetime, {name}", drawn(kind), [speedate.datetime, moment, ciso, of(datetime.datetime)]
     yield "date", drawn(date), [speedate.date, datetime.date.fromisoformat, None, of(datetime.date)]
     yield "time", drawn(clock), [speedate.time, datetime.time.fromisoformat, None, of(datetime.time)]
     yield "duration", drawn(duration), [speedate.duration, None, None, of(datetime.timedelta)]
-    yield "date_time_front", [f"{it} GET /" for it in drawn(mixed)], [speedate.date_time_front, None, None, None]
-    yield "date_time, refused", [it[:5] + "13" + it[7:] for it in drawn(mixed)], list(map(refused, [speedate.date_time, moment, ciso, of(datetime.datetime)]))
+    yield "datetime_front", [f"{it} GET /" for it in drawn(mixed)], [speedate.datetime_front, None, None, None]
+    yield "datetime, refused", [it[:5] + "13" + it[7:] for it in drawn(mixed)], list(map(refused, [speedate.datetime, moment, ciso, of(datetime.datetime)]))
 
 
 def text_rows():
     text = speedate.text
     kinds = {"naive": lambda: f"{date()}T{clock()}", "Z": lambda: f"{date()}T{clock()}Z", "quarter hours": quarters, "mixed": mixed}
     for name, kind in kinds.items():
-        yield f"text of a date-time, {name}", [speedate.date_time(it) for it in drawn(kind)], [text, datetime.datetime.isoformat, None, None]
+        yield f"text of a date-time, {name}", [speedate.datetime(it) for it in drawn(kind)], [text, datetime.datetime.isoformat, None, None]
     yield "text of a date", [speedate.date(it) for it in drawn(date)], [text, datetime.date.isoformat, None, None]
     for name, kind in {"naive": clock, "quarter hours": lambda: quarters()[11:]}.items():
         yield f"text of a time, {name}", [speedate.time(it) for it in drawn(kind)], [text, datetime.time.isoformat, None, None]
@@ -141,12 +141,12 @@ def milliseconds_of(calls, rounds):
 
 def column_rows():
     """A million texts. NumPy has no offsets."""
-    read = speedate.date_time_column
+    read = speedate.datetime_column
     zones = {"Z": lambda: "Z", "no offset": lambda: "", "mixed": lambda: draw.choice(["Z", "+01:00", "-05:30"])}
     for name, zone in zones.items():
         texts = [instant(zone) for _ in range(1_000_000)]
         lines = "\n".join(texts).encode()
-        calls = [lambda _: read(lines, naive="utc"), lambda _: read(texts, naive="utc"), pandas and (lambda _: pandas.to_datetime(texts, utc=True)),
+        calls = [lambda _: read(lines, missing_offset="utc"), lambda _: read(texts, missing_offset="utc"), pandas and (lambda _: pandas.to_datetime(texts, utc=True)),
                  (lambda _: numpy.array(texts, "datetime64[us]")) if numpy and name == "no offset" else None]
         yield f"a million texts, {name}", milliseconds_of(calls, 5)
     days, sizes = [date() for _ in range(1_000_000)], [duration() for _ in range(1_000_000)]
@@ -166,7 +166,7 @@ def csv_rows(folder):
 
     def here(_):
         with open(path, newline="") as file:
-            return speedate.date_time_column(texts(file))
+            return speedate.datetime_column(texts(file))
 
     def by_datetime(_):
         with open(path, newline="") as file:
@@ -174,8 +174,8 @@ def csv_rows(folder):
 
     def frame(_):
         table = pandas.read_csv(path, dtype=str, keep_default_na=False)
-        moments = numpy.frombuffer(speedate.date_time_column(table["moment"], empty="nat"), "datetime64[us]")
-        return pandas.Series(moments, index=table.index).dt.tz_localize("UTC")
+        column = speedate.datetime_column(table["moment"], empty="nat")
+        return pandas.Series(column, index=table.index).dt.tz_localize("UTC")
 
     def to_datetime(_):
         return pandas.to_datetime(pandas.read_csv(path)["moment"], utc=True)

@@ -24,7 +24,7 @@ def answered(program, lines):
 def numbered(lines):
     """The numbers of the lines of a part of the file, as one object. A line of a bag has its line feed."""
     text = "".join(lines).encode(errors="surrogateescape")
-    column = speedate.date_time_column(text, naive="utc", faults="nat")
+    column = speedate.datetime_column(text, missing_offset="utc", refused="number")
     return ["".join("NaT\n" if it == NOT_A_TIME else f"{it}\n" for it in column).encode()]
 
 

@@ -4,7 +4,7 @@
     Payment(day=datetime.date(2020, 2, 29), wait=datetime.timedelta(seconds=5400))
     >>> for day, wait in ("2021-02-29", "1 day, 24:00"), ("0000-01-01", "-P999999999DT1S"):
     ...     for it in errors_of(day, wait):
-    ...         print(it["loc"][0], it["type"].split(".")[-1], it["ctx"]["place"], it["ctx"]["end"])
+    ...         print(it["loc"][0], it["type"].split(".")[-1], it["ctx"]["start"], it["ctx"]["end"])
     ...         print("   ", it["msg"])
     day out_of_range_day 8 10
         expected a day that the month has, not '29'
@@ -35,14 +35,14 @@ from pydantic import BaseModel, ValidationError
 LONGEST = 30
 
 
-def message_of(refusal):
+def message_of(error):
     """What a form shows. A text of a stranger is cut and escaped."""
-    part = ascii(refusal.text[refusal.place:refusal.end][:LONGEST]).lstrip("b")
-    if refusal.place == refusal.end:
-        return f"expected {refusal.expected}"
-    if refusal.end - refusal.place > LONGEST:
+    part = ascii(error.text[error.start:error.end][:LONGEST]).lstrip("b")
+    if error.start == error.end:
+        return f"expected {error.expected}"
+    if error.end - error.start > LONGEST:
         part = f"{part[:-1]}..{part[-1]}"
-    return f"expected {refusal.expected}, not {part}"
+    return f"expected {error.expected}, not {part}"
 
 
 if pydantic.VERSION.startswith("1."):
@@ -76,9 +76,8 @@ def field(kind, call):
             raise new_error("no_text", "expected a text")
         try:
             return call(value)
-        except speedate.Refusal as refusal:
-            context = {"place": refusal.place, "end": refusal.end}
-            raise new_error(refusal.name, message_of(refusal), **context) from refusal
+        except speedate.ParseError as error:
+            raise new_error(error.code, message_of(error), start=error.start, end=error.end) from error
 
     return with_validator(kind, validate)
 

@@ -1,15 +1,14 @@
-/* Columns: the numbers of many texts, the faults among them, and turns of other threads. */
+/* Columns: the numbers of many texts, the errors among them, and turns of other threads. */
 #include "extension.h"
 
 #include <math.h>
 
 /* ---- Columns ---- */
 
-#define LAST_OF_TEXTS 99   /* the last code that tells something of a text */
 #define BLOCK_BYTES 262144 /* of memory that may change, at a time */
 #define LONG_BYTES 65536   /* of lines, from which on other threads run meanwhile */
 #define REFUSED 256        /* lines at a time that are refused */
-#define ROWS 1024          /* of a table of faults, at a time */
+#define ROWS 1024          /* of a table of errors, at a time */
 
 /* How the library reads lines into numbers. */
 typedef int ReadLines(const Text *text, SpeedateConfig config, SpeedateColumnConfig column, int64_t *numbers,
@@ -20,7 +19,7 @@ typedef int ReadLines(const Text *text, SpeedateConfig config, SpeedateColumnCon
                     size_t room, SpeedateProgress *progress) { \
         return call(BYTES, config, column, numbers, room, NULL, 0, progress); \
     }
-READ_LINES(read_date_times, speedate_datetime_column, int64_t)
+READ_LINES(read_datetimes, speedate_datetime_column, int64_t)
 READ_LINES(read_clocks, speedate_datetime_clock_column, int64_t)
 READ_LINES(read_times, speedate_time_column, int64_t)
 READ_LINES(read_durations, speedate_duration_column, int64_t)
@@ -46,12 +45,11 @@ static void move_forward(int64_t *numbers, const int32_t *short_numbers, size_t 
     }
 }
 READ_SHORT_LINES(read_dates, speedate_date_column)
-READ_SHORT_LINES(read_date_time_offsets, speedate_datetime_offset_column)
-READ_SHORT_LINES(read_time_offsets, speedate_time_offset_column)
+READ_SHORT_LINES(read_offsets, speedate_datetime_offset_column)
 
 /* How the texts of a column become numbers: lines at once, and a text of a list by its value. */
 typedef struct ColumnReader ColumnReader;
-typedef int NumberOf(const ColumnReader *reader, const Text *text, const Value *value, int64_t *number);
+typedef int NumberOf(const ColumnReader *reader, const Value *value, int64_t *number);
 typedef int OfTimestamp(const ColumnReader *reader, int64_t timestamp, int64_t *number);
 struct ColumnReader {
     ReadLines *read;
@@ -60,18 +58,33 @@ struct ColumnReader {
     int parser; /* of a text of a list */
     SpeedateConfig config;
     SpeedateColumnConfig lines;
-    bool empty_is_nat, items_are_lines, can_read_timestamps;
+    bool empty_is_nat, items_are_lines;
 };
 
-static int number_of_date_time(const ColumnReader *reader, const Text *text, const Value *value, int64_t *number) {
-    (void)text;
-    if (!value->date_time.time.has_offset && !reader->lines.assumes_utc)
+static int number_of_datetime(const ColumnReader *reader, const Value *value, int64_t *number) {
+    if (!value->datetime.time.has_offset && !reader->lines.assumes_utc)
         return SPEEDATE_TZ_REQUIRED;
-    return speedate_datetime_unix_microseconds(value->date_time, number);
+    return speedate_datetime_unix_microseconds(value->datetime, number);
 }
 
-static int number_of_date(const ColumnReader *reader, const Text *text, const Value *value, int64_t *number) {
-    (void)reader, (void)text;
+static int number_of_clock(const ColumnReader *reader, const Value *value, int64_t *number) {
+    (void)reader;
+    SpeedateDateTime moment = value->datetime;
+    moment.time.has_offset = 0; /* it counts as UTC then */
+    moment.time.offset = 0;
+    return speedate_datetime_unix_microseconds(moment, number);
+}
+
+static int number_of_offset(const ColumnReader *reader, const Value *value, int64_t *number) {
+    (void)reader;
+    if (!value->datetime.time.has_offset)
+        return SPEEDATE_TZ_REQUIRED;
+    *number = value->datetime.time.offset;
+    return SPEEDATE_OK;
+}
+
+static int number_of_date(const ColumnReader *reader, const Value *value, int64_t *number) {
+    (void)reader;
     int32_t days;
     int code = speedate_date_days_between((SpeedateDate){1970, 1, 1}, value->date, &days);
     if (code == SPEEDATE_OK)
@@ -79,32 +92,14 @@ static int number_of_date(const ColumnReader *reader, const Text *text, const Va
     return code;
 }
 
-/* The number that only a column has: of one line, since no call accepts a line feed. */
-static int number_of_line(const ColumnReader *reader, const Text *text, const Value *value, int64_t *number) {
-    SpeedateColumnConfig one = SPEEDATE_COLUMN_CONFIG_DEFAULT;
-    (void)value;
-    SpeedateProgress progress;
-    one.parser = reader->lines.parser;
-    int code = reader->read(text, reader->config, one, number, 1, &progress);
-    return code == SPEEDATE_OK ? progress.error : code;
+static int number_of_time(const ColumnReader *reader, const Value *value, int64_t *number) {
+    Value moment = {.datetime = {{1970, 1, 1}, value->time}};
+    return number_of_clock(reader, &moment, number);
 }
 
-static int number_of_offset(const SpeedateTime *time, int64_t *number) {
-    if (!time->has_offset)
-        return SPEEDATE_TZ_REQUIRED;
-    *number = time->offset;
-    return SPEEDATE_OK;
-}
-
-static int number_of_date_time_offset(const ColumnReader *reader, const Text *text, const Value *value,
-                                      int64_t *number) {
-    (void)reader, (void)text;
-    return number_of_offset(&value->date_time.time, number);
-}
-
-static int number_of_time_offset(const ColumnReader *reader, const Text *text, const Value *value, int64_t *number) {
-    (void)reader, (void)text;
-    return number_of_offset(&value->time, number);
+static int number_of_duration(const ColumnReader *reader, const Value *value, int64_t *number) {
+    (void)reader;
+    return speedate_duration_signed_total_microseconds(value->duration, number);
 }
 
 /* The number of a text, or its code, with NOT_A_TIME. */
@@ -112,7 +107,7 @@ static inline int read_number(const ColumnReader *reader, const Text *text, int6
     Value value;
     int code = parsers[reader->parser].parse(text, reader->config, &value, NULL);
     if (code == SPEEDATE_OK)
-        code = reader->number_of(reader, text, &value, number);
+        code = reader->number_of(reader, &value, number);
     if (code != SPEEDATE_OK)
         *number = NOT_A_TIME;
     return code;
@@ -120,7 +115,7 @@ static inline int read_number(const ColumnReader *reader, const Text *text, int6
 
 /* The numbers of timestamps. */
 
-static int date_time_of_timestamp(const ColumnReader *reader, int64_t timestamp, int64_t *number) {
+static int datetime_of_timestamp(const ColumnReader *reader, int64_t timestamp, int64_t *number) {
     int code = speedate_datetime_timestamp_microseconds(timestamp, reader->config, number);
     bool lacks_offset = !reader->config.has_timestamp_offset && !reader->lines.assumes_utc;
     return code == SPEEDATE_OK && lacks_offset ? SPEEDATE_TZ_REQUIRED : code;
@@ -133,45 +128,28 @@ static int clock_of_timestamp(const ColumnReader *reader, int64_t timestamp, int
     return speedate_datetime_timestamp_microseconds(timestamp, config, number);
 }
 
-static int date_time_offset_of_timestamp(const ColumnReader *reader, int64_t timestamp, int64_t *number) {
+static int offset_of_timestamp(const ColumnReader *reader, int64_t timestamp, int64_t *number) {
     Value value;
-    int code = speedate_datetime_from_timestamp(timestamp, 0, reader->config, &value.date_time);
-    return code == SPEEDATE_OK ? reader->number_of(reader, NULL, &value, number) : code;
+    int code = speedate_datetime_from_timestamp(timestamp, 0, reader->config, &value.datetime);
+    return code == SPEEDATE_OK ? reader->number_of(reader, &value, number) : code;
 }
 
 static int date_of_timestamp(const ColumnReader *reader, int64_t timestamp, int64_t *number) {
     Value value;
     int code = speedate_date_from_timestamp(timestamp, true, reader->config, &value.date);
-    return code == SPEEDATE_OK ? reader->number_of(reader, NULL, &value, number) : code;
+    return code == SPEEDATE_OK ? reader->number_of(reader, &value, number) : code;
 }
 
-/* Whether a text is read, or is one after which the column goes on. */
-static inline bool goes_on(const ColumnReader *reader, int code) {
-    return code == SPEEDATE_OK || (reader->lines.goes_on && code <= LAST_OF_TEXTS);
-}
+/* What becomes of texts that are refused. */
+enum { STOP, NUMBER, COLLECT };
 
-static inline void cut(Text *line, char end) {
-    if (line->size > 0 && line->bytes[line->size - 1] == end)
-        line->size--;
-}
-
-/* Cuts off what ends a line of a file, as the library does: a line feed, and then a carriage return. */
-static inline void cut_line_end(const ColumnReader *reader, Text *line) {
-    cut(line, '\n');
-    if (reader->lines.drops_returns)
-        cut(line, '\r');
-}
-
-/* The index, the code and the place of each text that is refused, in arrays and in the rows that are being filled. */
-enum { INDICES, CODES, PLACES, TABLE };
-static const struct {
-    const char *name, *type;
-} table_columns[TABLE] = {[INDICES] = {"index", "q"}, [CODES] = {"code", "B"}, [PLACES] = {"place", "q"}};
-
+/* The index and the code of each text that is refused, in arrays and in the rows that are being filled, and the texts. */
+enum { INDICES, CODES, TABLE };
+static const char *const table_types[TABLE] = {[INDICES] = "q", [CODES] = "B"};
 typedef struct {
-    PyObject *arrays[TABLE];
+    PyObject *arrays[TABLE], *texts;
     size_t count; /* of the rows */
-    int64_t indices[ROWS], places[ROWS];
+    int64_t indices[ROWS];
     uint8_t codes[ROWS];
 } Table;
 
@@ -179,15 +157,15 @@ typedef struct {
 typedef struct {
     const State *state;
     ColumnReader reader;
-    PyObject *faults;  /* the list or the dict that they go to, or NULL */
-    Table *table;      /* what the dict gets */
-    PyObject *call;    /* what each Fault keeps of this call */
+    int refused;
+    Table *table;      /* of what is collected */
     PyObject *missing; /* what pandas has for a missing text, once that was asked for */
     PyObject *array;
     int64_t *numbers;
     size_t room, count; /* of the block */
     Py_ssize_t before;  /* how many numbers the array has */
     bool keeps_lock;    /* while the next lines are read */
+    bool are_lines;     /* the items that are read */
 } Column;
 
 static Py_ssize_t next_index(const Column *column) {
@@ -243,15 +221,16 @@ static int start_table(Column *column) {
     if (!(column->table = PyMem_Calloc(1, sizeof *column->table)))
         return PyErr_NoMemory(), -1;
     for (int i = 0; i < TABLE; i++)
-        if (!(column->table->arrays[i] =
-                  PyObject_CallFunction(column->state->held[ARRAY], "s", table_columns[i].type)))
+        if (!(column->table->arrays[i] = PyObject_CallFunction(column->state->held[ARRAY], "s", table_types[i])))
             return -1;
-    return 0;
+    return (column->table->texts = PyList_New(0)) ? 0 : -1;
 }
 
 static void drop_table(Table *table) {
     for (int i = 0; table && i < TABLE; i++)
         Py_XDECREF(table->arrays[i]);
+    if (table)
+        Py_XDECREF(table->texts);
     PyMem_Free(table);
 }
 
@@ -260,37 +239,23 @@ static int end_rows(const State *state, Table *table) {
     size_t count = table->count;
     table->count = 0;
     return add_to_array(state, table->arrays[INDICES], table->indices, count * sizeof *table->indices) < 0 ||
-                   add_to_array(state, table->arrays[CODES], table->codes, count) < 0 ||
-                   add_to_array(state, table->arrays[PLACES], table->places, count * sizeof *table->places) < 0
+                   add_to_array(state, table->arrays[CODES], table->codes, count) < 0
                ? -1
                : 0;
 }
 
-/* Puts the arrays into the dict. */
-static int end_table(Column *column) {
-    if (end_rows(column->state, column->table) < 0)
-        return -1;
-    for (int i = 0; i < TABLE; i++)
-        if (PyDict_SetItemString(column->faults, table_columns[i].name, column->table->arrays[i]) < 0)
-            return -1;
-    return 0;
-}
-
-static int add_row(Column *column, int code, Py_ssize_t index, PyObject *item, const Text *text) {
-    const ColumnReader *reader = &column->reader;
+static int add_row(Column *column, int code, Py_ssize_t index, PyObject *source) {
     Table *table = column->table;
+    if (PyList_Append(table->texts, source) < 0)
+        return -1;
     table->indices[table->count] = index;
     table->codes[table->count] = (uint8_t)code;
-    Part part = {-1, -1};
-    if (text)
-        part_in_column(reader->parser, reader->config, item, text, &part);
-    table->places[table->count] = part.place;
     return ++table->count < ROWS ? 0 : end_rows(column->state, table);
 }
 
-/* What a Fault keeps of an item, of which a part may have been read, or of a line, which is none: a new reference. */
+/* What an error keeps of an item, of which a part may have been read, or of a line, which is none: a new reference. */
 static PyObject *kept_text(PyObject *item, const Text *text, size_t cut) {
-    if (item == Py_None || (cut > 0 && !PyUnicode_Check(item)))
+    if (!item || (cut > 0 && !PyUnicode_Check(item)))
         return PyBytes_FromStringAndSize(text->bytes, (Py_ssize_t)text->size);
     if (cut > 0)
         return PyUnicode_Substring(item, 0, PyUnicode_GET_LENGTH(item) - (Py_ssize_t)cut);
@@ -299,59 +264,49 @@ static PyObject *kept_text(PyObject *item, const Text *text, size_t cut) {
     return source;
 }
 
-/* The texts of a column: items, of which some are lines with their ends, lines, and the digits of items that are integers. */
-typedef enum { ITEM, LINE, INTEGER_ITEM } TextKind;
-
-/* The one thing for which a text is refused. A line ending is looked for in an item that may not have one. */
-static int hint_of(const ColumnReader *reader, PyObject *item, const Text *text, TextKind kind) {
-    if (kind == INTEGER_ITEM)
-        return reader->can_read_timestamps ? INTEGER_OR_TIMESTAMP : NO_TIMESTAMP;
-    Text rest = has_mark(text) ? after_mark(text) : *text;
-    int64_t number;
-    int hint = has_mark(text) ? BYTE_ORDER_MARK : NO_HINT;
-    size_t size = rest.size;
-    if (kind == ITEM)
-        cut_line_end(reader, &rest);
-    if (rest.size < size)
-        hint |= LINE_END;
-    return hint != NO_HINT && read_number(reader, &rest, &number) == SPEEDATE_OK ? of_type(hint, item) : NO_HINT;
-}
-
-/* The Fault of a text, which it keeps, or of a timestamp, which has none. */
-static PyObject *fault_of_text(Column *column, int code, Py_ssize_t index, PyObject *item, const Text *text, size_t cut,
-                               TextKind kind) {
-    const State *state = column->state;
+/* The number of this call, in what its errors keep. */
+static int number_of_call(const Column *column) {
     const ColumnReader *reader = &column->reader;
-    PyObject *fault = new_fault_at(state, code, index);
-    if (!fault || !text || code > LAST_OF_TEXTS || !PyObject_TypeCheck(fault, (PyTypeObject *)state->held[FAULT]))
-        return fault;
-    if (!column->call)
-        column->call = PyLong_FromLong(call_number(reader->parser, reader->config) + OF_COLUMN);
-    PyObject *source = column->call ? kept_text(item, text, cut) : NULL;
-    if (!source) {
-        Py_DECREF(fault);
-        return NULL;
-    }
-    keep(state, fault, SOURCE, source);
-    keep(state, fault, CALL_NUMBER, column->call);
-    Py_DECREF(source);
-    return with_hint(state, fault, hint_of(reader, item, text, kind));
+    return call_number(reader->parser, reader->config) + OF_COLUMN + (reader->lines.assumes_utc ? ASSUMES_UTC : 0) +
+           (column->are_lines ? OF_LINE : 0);
 }
 
-/* Ends the column at a text that is refused, or tells its fault and goes on. */
-static int refuse_text(Column *column, int code, Py_ssize_t index, PyObject *item, const Text *text, size_t cut,
-                       TextKind kind) {
-    bool ends = !goes_on(&column->reader, code);
-    if (!ends && !column->faults)
-        return 0;
-    if (!ends && column->table)
-        return add_row(column, code, index, item, text);
-    PyObject *fault = fault_of_text(column, code, index, item, text, cut, kind);
-    if (ends)
-        return raise_error(fault), -1;
-    int status = fault ? PyList_Append(column->faults, fault) : -1;
-    Py_XDECREF(fault);
+static int raise_refusal(Column *column, int code, Py_ssize_t index, PyObject *source) {
+    PyObject *number = PyLong_FromLong(number_of_call(column) | (code & INTEGER_FLAG ? OF_INTEGER : 0));
+    if (number)
+        raise_error(new_error(column->state, code & ~INTEGER_FLAG, index, source, number));
+    Py_XDECREF(number);
+    return -1;
+}
+
+/* Ends the column at a text that is refused, or goes on. It takes the reference to the text. */
+static int refuse(Column *column, int code, Py_ssize_t index, PyObject *source) {
+    int status = !source                   ? -1
+                 : column->refused == STOP ? raise_refusal(column, code, index, source)
+                                           : add_row(column, code, index, source);
+    Py_XDECREF(source);
     return status;
+}
+
+static int refuse_text(Column *column, int code, Py_ssize_t index, PyObject *item, const Text *text, size_t cut) {
+    if ((code & ~INTEGER_FLAG) > LAST_OF_TEXTS)
+        return raise_mistake(code & ~INTEGER_FLAG), -1;
+    return column->refused == NUMBER ? 0 : refuse(column, code, index, kept_text(item, text, cut));
+}
+
+/* The same of an integer that is read as a timestamp. It is no object if it lies in memory. */
+static int refuse_timestamp(Column *column, int code, PyObject *item, Whole timestamp) {
+    if (code > LAST_OF_TEXTS)
+        return raise_mistake(code), -1;
+    if (column->refused == NUMBER)
+        return 0;
+    PyObject *integer = item ? PyNumber_Index(item)
+                        : timestamp.fits ? PyLong_FromLongLong(timestamp.number)
+                                         : PyLong_FromUnsignedLongLong((unsigned long long)timestamp.number);
+    Py_ssize_t index = next_index(column);
+    PyObject *digits = integer ? call_on_item(column->state, DIGITS, index, integer, column->reader.parser) : NULL;
+    Py_XDECREF(integer);
+    return refuse(column, code | INTEGER_FLAG, index, digits);
 }
 
 /* ---- Lines of columns ---- */
@@ -369,7 +324,7 @@ typedef struct {
     size_t count, lines;
 } Read;
 
-/* Reads the next line, which is refused. An empty one may be no fault. */
+/* Reads the next line, which is refused. An empty one may be missing. */
 static int read_refused(const Column *column, Text *rest, SpeedateColumnConfig lines, int error, Read *read) {
     const ColumnReader *reader = &column->reader;
     SpeedateProgress progress;
@@ -379,7 +334,7 @@ static int read_refused(const Column *column, Text *rest, SpeedateColumnConfig l
     if (code != SPEEDATE_OK)
         return code;
     Text line = {rest->bytes, progress.bytes, NULL};
-    cut_line_end(reader, &line);
+    cut_line_end(&line);
     if (line.size > 0 || !reader->empty_is_nat)
         read->refused[read->count++] = (Refused){error, place, line};
     rest->bytes += progress.bytes;
@@ -393,10 +348,10 @@ static int read_refused(const Column *column, Text *rest, SpeedateColumnConfig l
 static int read_lines(const Column *column, Text *rest, SpeedateColumnConfig lines, Read *read) {
     const ColumnReader *reader = &column->reader;
     SpeedateProgress progress = {0, 0, SPEEDATE_OK, SPEEDATE_PART_NONE};
-    size_t most = reader->lines.goes_on ? REFUSED : 1;
+    size_t most = column->refused == STOP ? 1 : REFUSED;
     int code;
     /* The library ends at each line that is refused, if anyone wants to know of it. */
-    lines.goes_on = reader->lines.goes_on && !column->faults;
+    lines.goes_on = column->refused == NUMBER;
     do {
         size_t place = column->count + read->lines;
         code = reader->read(rest, reader->config, lines, column->numbers + place, column->room - place, &progress);
@@ -426,12 +381,12 @@ static int add_some_lines(Column *column, Text *text, bool is_last) {
     column->keeps_lock = read.count == REFUSED;
     for (size_t i = 0; i < read.count; i++) {
         const Refused *it = &read.refused[i];
-        if (refuse_text(column, it->code, column->before + (Py_ssize_t)it->place, Py_None, &it->text, 0, LINE) < 0)
+        if (refuse_text(column, it->code, column->before + (Py_ssize_t)it->place, NULL, &it->text, 0) < 0)
             return -1;
     }
     column->count += read.lines;
     if (code != SPEEDATE_OK)
-        return raise_error(new_fault_at(column->state, code, next_index(column))), -1;
+        return raise_mistake(code), -1;
     return column->count < column->room ? 0 : end_block(column);
 }
 
@@ -479,6 +434,7 @@ static int add_changing_lines(Column *column, const char *bytes, size_t size) {
 }
 
 static int add_lines(Column *column, const char *text, Py_ssize_t size, bool fixed) {
+    column->are_lines = true;
     if (start_block(column, (size_t)size) < 0)
         return -1;
     return (fixed ? add_fixed_lines : add_changing_lines)(column, text, (size_t)size);
@@ -566,13 +522,13 @@ int take_whole(const State *state, const char *name, Py_ssize_t index, PyObject 
 }
 
 /* The number of a timestamp, or what becomes of it if it is refused. */
-static inline int add_timestamp(Column *column, Whole timestamp, int64_t *number) {
+static inline int add_timestamp(Column *column, PyObject *item, Whole timestamp, int64_t *number) {
     int code = timestamp.fits ? column->reader.of_timestamp(&column->reader, timestamp.number, number)
                               : SPEEDATE_NUMBER_TOO_LARGE;
     if (code == SPEEDATE_OK)
         return 0;
     *number = NOT_A_TIME;
-    return refuse_text(column, code, next_index(column), NULL, NULL, 0, ITEM);
+    return refuse_timestamp(column, code, item, timestamp);
 }
 
 /* The same of an object that is an integer, or stands for one. */
@@ -580,53 +536,47 @@ static int read_integer(Column *column, PyObject *item, int64_t *number) {
     Whole timestamp;
     if (take_whole(column->state, "text", next_index(column), item, &timestamp) < 0)
         return -1;
-    return add_timestamp(column, timestamp, number);
+    return add_timestamp(column, item, timestamp, number);
 }
 
-/* The number of a text, which may be a line with its end. */
-static int read_text_item(Column *column, PyObject *item, TextKind kind, int64_t *number) {
+/* The number of a text, which may be a line with its end. A flag of its code says that it is the digits of an integer. */
+static int read_text_item(Column *column, PyObject *item, int flag, int64_t *number) {
     Text text;
     *number = NOT_A_TIME;
     if (take_text(item, next_index(column), &text) < 0)
         return -1;
     size_t size = text.size;
-    if (kind == LINE)
-        cut_line_end(&column->reader, &text);
+    if (column->are_lines)
+        cut_line_end(&text);
     int status = 0;
     if (text.size > 0 || !column->reader.empty_is_nat) {
         int code = read_number(&column->reader, &text, number);
         if (code != SPEEDATE_OK)
-            status = refuse_text(column, code, next_index(column), item, &text, size - text.size, kind);
+            status = refuse_text(column, code | flag, next_index(column), item, &text, size - text.size);
     }
     Py_XDECREF(text.owner);
     return status;
 }
 
-/* Calls a function of the package on an item that is no text. */
-static PyObject *call_on_item(const Column *column, int function, PyObject *item) {
-    PyObject *reads_timestamps = column->reader.can_read_timestamps ? Py_True : Py_False;
-    return PyObject_CallFunction(column->state->held[function], "nOO", next_index(column), item, reads_timestamps);
-}
-
 /* Refuses an integer where none is a timestamp, as its digits are refused. */
 static int refuse_integer(Column *column, PyObject *item, int64_t *number) {
-    PyObject *digits = call_on_item(column, DIGITS, item);
-    int status = digits ? read_text_item(column, digits, INTEGER_ITEM, number) : -1;
+    PyObject *digits = call_on_item(column->state, DIGITS, next_index(column), item, column->reader.parser);
+    int status = digits ? read_text_item(column, digits, INTEGER_FLAG, number) : -1;
     Py_XDECREF(digits);
     return status;
 }
 
 /* The number of an item. */
-static int read_item(Column *column, PyObject *item, bool is_line, int64_t *number) {
+static int read_item(Column *column, PyObject *item, int64_t *number) {
     if (is_text(item))
-        return read_text_item(column, item, is_line ? LINE : ITEM, number);
+        return read_text_item(column, item, 0, number);
     int missing = PyLong_CheckExact(item) ? 0 : is_missing(column->state, &column->missing, item);
     *number = NOT_A_TIME;
     if (missing != 0)
         return missing < 0 ? -1 : 0;
     if (PyIndex_Check(item))
         return (column->reader.of_timestamp ? read_integer : refuse_integer)(column, item, number);
-    return raise_error(call_on_item(column, WRONG_ITEM, item)), -1;
+    return raise_error(call_on_item(column->state, WRONG_TEXT, next_index(column), item, column->reader.parser)), -1;
 }
 
 /* An integer of a buffer. */
@@ -642,7 +592,7 @@ Whole whole_at(const Py_buffer *buffer, size_t place) {
     case letter: { \
         type it; \
         memcpy(&it, at, sizeof it); \
-        return it > INT64_MAX ? (Whole){0, false} : (Whole){(int64_t)it, true}; \
+        return (Whole){(int64_t)it, it <= INT64_MAX}; \
     }
     switch (*buffer->format) {
         WHOLE_OF('h', short)
@@ -662,7 +612,7 @@ static int add_integers(Column *column, const Py_buffer *buffer) {
     size_t count = (size_t)(buffer->len / buffer->itemsize);
     int status = start_block(column, count);
     for (size_t i = 0; status == 0 && i < count; i++) {
-        status = add_timestamp(column, whole_at(buffer, i), column->numbers + column->count);
+        status = add_timestamp(column, NULL, whole_at(buffer, i), column->numbers + column->count);
         if (status == 0)
             status = end_item(column);
     }
@@ -685,8 +635,9 @@ static int add_row_of_integers(Column *column, PyObject *texts, bool *is_one) {
 static int add_items(Column *column, PyObject *items, size_t count, bool are_lines) {
     PyObject *item, *iterator = PyObject_GetIter(items);
     int status = iterator ? start_block(column, count) : -1;
+    column->are_lines = are_lines || column->reader.items_are_lines;
     while (status == 0 && (item = PyIter_Next(iterator)) != NULL) {
-        status = read_item(column, item, are_lines, column->numbers + column->count);
+        status = read_item(column, item, column->numbers + column->count);
         if (status == 0)
             status = end_item(column);
         Py_DECREF(item);
@@ -695,73 +646,88 @@ static int add_items(Column *column, PyObject *items, size_t count, bool are_lin
     return status < 0 || PyErr_Occurred() ? -1 : 0;
 }
 
-/* No method of a subclass of bytes or bytearray is called. */
-static int add_texts(Column *column, PyObject *texts) {
+/* What is neither a list nor bytes: what else has bytes in memory, or integers, or items. */
+static int add_others(Column *column, PyObject *items, bool are_lines) {
     PyObject *view;
-    if (PyList_CheckExact(texts) || PyTuple_CheckExact(texts))
-        return add_items(column, texts, (size_t)Py_SIZE(texts), column->reader.items_are_lines);
-    if (PyBytes_Check(texts))
-        return add_lines(column, PyBytes_AS_STRING(texts), PyBytes_GET_SIZE(texts), true);
-    if (PyByteArray_Check(texts) && !PyByteArray_CheckExact(texts))
-        return add_made(column, PyBytes_FromStringAndSize(PyByteArray_AS_STRING(texts), PyByteArray_GET_SIZE(texts)));
-    if (view_memory(texts, has_bytes, &view) < 0)
+    bool is_row;
+    if (view_memory(items, has_bytes, &view) < 0)
         return -1;
     if (view) {
         int status = add_view(column, view);
         Py_DECREF(view);
         return status;
     }
+    int status = add_row_of_integers(column, items, &is_row);
+    return status < 0 || is_row ? status : add_items(column, items, BLOCK, are_lines);
+}
+
+/* No method of a subclass of bytes or bytearray is called. */
+static int add_texts(Column *column, PyObject *texts) {
+    if (PyList_CheckExact(texts) || PyTuple_CheckExact(texts))
+        return add_items(column, texts, (size_t)Py_SIZE(texts), false);
+    if (PyBytes_Check(texts))
+        return add_lines(column, PyBytes_AS_STRING(texts), PyBytes_GET_SIZE(texts), true);
+    if (PyByteArray_CheckExact(texts))
+        return add_others(column, texts, false);
+    if (PyByteArray_Check(texts))
+        return add_made(column, PyBytes_FromStringAndSize(PyByteArray_AS_STRING(texts), PyByteArray_GET_SIZE(texts)));
     PyObject *items, *pair = PyObject_CallFunctionObjArgs(column->state->held[ITEMS], texts, NULL);
     int are_lines, status = -1;
-    bool is_row;
-    if (pair && PyArg_ParseTuple(pair, "Op", &items, &are_lines) &&
-        (status = add_row_of_integers(column, items, &is_row)) == 0 && !is_row)
-        status = add_items(column, items, BLOCK, are_lines || column->reader.items_are_lines);
+    if (pair && PyArg_ParseTuple(pair, "Op", &items, &are_lines))
+        status = add_others(column, items, are_lines);
     Py_XDECREF(pair);
     return status;
 }
 
-static PyObject *column_of(Column *column, PyObject *texts) {
+/* The Column of what was read. */
+static PyObject *new_column(Column *column, const char *kind) {
+    PyObject *class = column->state->held[COLUMN];
+    if (!column->table)
+        return PyObject_CallFunction(class, "sO", kind, column->array);
+    Table *table = column->table;
+    PyObject *refused = end_rows(column->state, table) < 0 ? NULL
+                        : PyObject_CallFunction(column->state->held[REFUSED], "OOOi", table->arrays[INDICES],
+                                                table->arrays[CODES], table->texts, number_of_call(column));
+    PyObject *made = refused ? PyObject_CallFunction(class, "sOO", kind, column->array, refused) : NULL;
+    Py_XDECREF(refused);
+    return made;
+}
+
+static PyObject *column_of(Column *column, PyObject *texts, const char *kind) {
+    PyObject *made = NULL;
     column->array = PyObject_CallFunction(column->state->held[ARRAY], "s", "q");
-    bool tells = column->faults && PyDict_Check(column->faults);
-    if (!column->array || (tells && start_table(column) < 0) || add_texts(column, texts) < 0 || end_block(column) < 0 ||
-        (tells && end_table(column) < 0))
-        Py_CLEAR(column->array);
+    if (column->array && (column->refused != COLLECT || start_table(column) == 0) && add_texts(column, texts) == 0 &&
+        end_block(column) == 0)
+        made = new_column(column, kind);
     drop_table(column->table);
-    Py_XDECREF(column->call);
+    Py_XDECREF(column->array);
     Py_XDECREF(column->missing);
     PyMem_Free(column->numbers);
-    return column->array;
+    return made;
 }
 
-/* Takes what becomes of texts that are refused: the first one ends the column, or all are NOT_A_TIME, with their faults
- * in a list or a dict or without. */
-static int take_faults(Column *column, PyObject *value, bool *nat) {
-    if (value && (PyList_Check(value) || PyDict_Check(value))) {
-        column->faults = value;
-        *nat = true;
+/* Takes what becomes of texts that are refused. */
+static int take_refused(const State *state, PyObject *value, int *out) {
+    if (!value)
         return 0;
-    }
-    if (value && !PyUnicode_Check(value))
-        return wrong_type("faults", "str or list or dict", value);
-    return take_choice(column->state, "faults", value, "raise", "nat", nat);
+    PyObject *place = PyObject_CallFunction(state->held[CHOICE], "sOsss", "refused", value, "stop", "number", "collect");
+    if (!place)
+        return -1;
+    *out = (int)PyLong_AsLong(place);
+    Py_DECREF(place);
+    return 0;
 }
 
-/* Takes whether date-times without an offset are in UTC, which has a name in capitals too. */
-static int take_naive(const State *state, PyObject *value, bool *out) {
-    *out = value && PyUnicode_CheckExact(value) && PyUnicode_CompareWithASCIIString(value, "UTC") == 0;
-    return *out ? 0 : take_choice(state, "naive", value, "error", "utc", out);
-}
-
-/* A call on columns. The parameters that all have stand first, and its parsers in the order of their numbers in C. */
-enum { TEXTS, CONFIGURATION, FAULTS, NEWLINE, EMPTY, LINES };
-#define OTHERS "config", "faults", "newline", "empty", "lines"
+/* A call on columns. The parameters that all have come first, and its parsers in the order of their numbers in C. */
+enum { TEXTS, CONFIGURATION, REFUSED_TEXTS, EMPTY, LINES };
+#define OTHERS "config", "refused", "empty", "lines"
 typedef struct {
     Signature signature;
     ReadLines *read;
     NumberOf *number_of;
     OfTimestamp *of_timestamp;
     int parser[SPEEDATE_PARSER_STRICT + 1];
+    const char *kind;
 } ColumnCall;
 
 /* The argument of a parameter that not all have. */
@@ -775,83 +741,74 @@ static PyObject *argument_of(const Signature *signature, const char *name, PyObj
 static PyObject *read_column(const ColumnCall *call, GIVEN) {
     Column column = {.state = PyModule_GetState(module)};
     ColumnReader *reader = &column.reader;
+    const Signature *signature = &call->signature;
     PyObject *bound[COLUMN_ARGUMENTS] = {NULL};
-    bool strict = false, timestamps = false, naive_is_utc = false, nat = false, return_is_text = false;
-    if (bind(&call->signature, arguments, count, keywords, bound) < 0 ||
-        take_flag("strict", argument_of(&call->signature, "strict", bound), &strict) < 0 ||
-        take_flag("timestamps", argument_of(&call->signature, "timestamps", bound), &timestamps) < 0 ||
-        take_naive(column.state, argument_of(&call->signature, "naive", bound), &naive_is_utc) < 0 ||
-        take_faults(&column, bound[FAULTS], &nat) < 0 ||
-        take_choice(column.state, "newline", bound[NEWLINE], "\r\n", "\n", &return_is_text) < 0 ||
+    bool assumes_utc = false;
+    int form;
+    if (bind(signature, arguments, count, keywords, bound) < 0 ||
+        take_form(argument_of(signature, "timestamps", bound), argument_of(signature, "strict", bound), &form) < 0 ||
+        take_choice(column.state, "missing_offset", argument_of(signature, "missing_offset", bound), "error", "utc",
+                    &assumes_utc) < 0 ||
+        take_refused(column.state, bound[REFUSED_TEXTS], &column.refused) < 0 ||
         take_choice(column.state, "empty", bound[EMPTY], "error", "nat", &reader->empty_is_nat) < 0 ||
         take_flag("lines", bound[LINES], &reader->items_are_lines) < 0 ||
-        take_config(column.state, bound[CONFIGURATION], timestamps ? READS_ALL : READS_NONE, &reader->config) < 0)
+        take_config(column.state, bound[CONFIGURATION], form, &reader->config) < 0)
         return NULL;
-    if (strict && timestamps) {
-        PyErr_SetString(PyExc_ValueError, "strict and timestamps exclude each other");
-        return NULL;
-    }
-    reader->lines.parser = strict       ? SPEEDATE_PARSER_STRICT
-                           : timestamps ? SPEEDATE_PARSER_OR_TIMESTAMP
-                                        : SPEEDATE_PARSER_TEXT;
-    reader->lines.assumes_utc = naive_is_utc;
-    reader->lines.drops_returns = !return_is_text;
-    reader->lines.goes_on = nat;
+    reader->lines = (SpeedateColumnConfig){.drops_returns = 1, .parser = (uint8_t)form, .assumes_utc = assumes_utc};
     reader->read = call->read;
     reader->number_of = call->number_of;
-    reader->of_timestamp = timestamps ? call->of_timestamp : NULL;
-    reader->can_read_timestamps = call->of_timestamp != NULL;
-    reader->parser = call->parser[reader->lines.parser];
-    return column_of(&column, bound[TEXTS]);
+    reader->of_timestamp = form == SPEEDATE_PARSER_OR_TIMESTAMP ? call->of_timestamp : NULL;
+    reader->parser = call->parser[form];
+    return column_of(&column, bound[TEXTS], call->kind);
 }
 
-static const ColumnCall date_time_column_reader = {
-    {"date_time_column", {"texts", OTHERS, "timestamps", "strict", "naive"}, 2},
-    read_date_times,
-    number_of_date_time,
-    date_time_of_timestamp,
-    {DATE_TIME, DATE_TIME_OR_TIMESTAMP, DATE_TIME_STRICT}};
-static const ColumnCall date_time_clock_column_reader = {
-    {"date_time_clock_column", {"texts", OTHERS, "timestamps", "strict"}, 2},
+#define DATETIME_PARSERS {DATETIME_TEXT, DATETIME_OR_TIMESTAMP, DATETIME_STRICT}
+static const ColumnCall datetime_column_reader = {
+    {"datetime_column", {"texts", OTHERS, "timestamps", "strict", "missing_offset"}, 1},
+    read_datetimes,
+    number_of_datetime,
+    datetime_of_timestamp,
+    DATETIME_PARSERS,
+    "datetime"};
+static const ColumnCall datetime_clock_column_reader = {
+    {"datetime_clock_column", {"texts", OTHERS, "timestamps", "strict"}, 1},
     read_clocks,
-    number_of_line,
+    number_of_clock,
     clock_of_timestamp,
-    {DATE_TIME, DATE_TIME_OR_TIMESTAMP, DATE_TIME_STRICT}};
-static const ColumnCall date_time_offset_column_reader = {
-    {"date_time_offset_column", {"texts", OTHERS, "timestamps", "strict"}, 2},
-    read_date_time_offsets,
-    number_of_date_time_offset,
-    date_time_offset_of_timestamp,
-    {DATE_TIME, DATE_TIME_OR_TIMESTAMP, DATE_TIME_STRICT}};
+    DATETIME_PARSERS,
+    "datetime_clock"};
+static const ColumnCall datetime_offset_column_reader = {
+    {"datetime_offset_column", {"texts", OTHERS, "timestamps", "strict"}, 1},
+    read_offsets,
+    number_of_offset,
+    offset_of_timestamp,
+    DATETIME_PARSERS,
+    "datetime_offset"};
 static const ColumnCall date_column_reader = {
-    {"date_column", {"texts", OTHERS, "timestamps"}, 2},
+    {"date_column", {"texts", OTHERS, "timestamps"}, 1},
     read_dates,
     number_of_date,
     date_of_timestamp,
-    {DATE, DATE_OR_TIMESTAMP, NO_PART}};
+    {DATE, DATE_OR_TIMESTAMP, NO_PARSER},
+    "date"};
 static const ColumnCall time_column_reader = {
-    {"time_column", {"texts", OTHERS, "strict"}, 2},
+    {"time_column", {"texts", OTHERS, "strict"}, 1},
     read_times,
-    number_of_line,
+    number_of_time,
     NULL,
-    {TIME, NO_PART, TIME_STRICT}};
-static const ColumnCall time_offset_column_reader = {
-    {"time_offset_column", {"texts", OTHERS, "strict"}, 2},
-    read_time_offsets,
-    number_of_time_offset,
-    NULL,
-    {TIME, NO_PART, TIME_STRICT}};
+    {TIME, NO_PARSER, TIME_STRICT},
+    "time"};
 static const ColumnCall duration_column_reader = {
-    {"duration_column", {"texts", OTHERS}, 2},
+    {"duration_column", {"texts", OTHERS}, 1},
     read_durations,
-    number_of_line,
+    number_of_duration,
     NULL,
-    {DURATION, NO_PART, NO_PART}};
+    {DURATION, NO_PARSER, NO_PARSER},
+    "duration"};
 
-CALL(date_time_column, read_column)
-CALL(date_time_clock_column, read_column)
-CALL(date_time_offset_column, read_column)
+CALL(datetime_column, read_column)
+CALL(datetime_clock_column, read_column)
+CALL(datetime_offset_column, read_column)
 CALL(date_column, read_column)
 CALL(time_column, read_column)
-CALL(time_offset_column, read_column)
 CALL(duration_column, read_column)

@@ -26,26 +26,30 @@ static PyDateTime_CAPI *PyDateTimeAPI __attribute__((unused));
 /* The one thing for which a text is refused, and what mends it. The first three are flags of one hint. */
 enum { NO_HINT, BYTE_ORDER_MARK = 1, LINE_END = 2, OF_BYTES = 4, INTEGER_OR_TIMESTAMP = 8, NO_TIMESTAMP, ALL_HINTS };
 
+/* Beside the codes of the library those of values that Python lacks. */
+enum { YEAR_ZERO = SPEEDATE_BUFFER_TOO_SMALL + 1, DURATION_TOO_SMALL, ALL_CODES };
+
 /* The places of the objects that are held from the import on. Nothing is added afterwards. */
 enum {
     /* what is imported */
-    DATETIME, ARRAY, CONFIG, FAULT, UNREPRESENTABLE, REFUSAL, INTEGER, CHOICE, PLAIN, MISSING, ITEMS, TURN, WHOLE,
-    DIGITS, WRONG_ITEM, NUMBERS_OF,
-    NUMBERS, INDEX, HINT, UTCOFFSET, FROMBYTES,       /* names of attributes */
-    HINTS,                                            /* the words of each hint */
-    ARGUMENTS = HINTS + ALL_HINTS,                    /* of the fault of each code */
-    ATTRIBUTES = ARGUMENTS + SPEEDATE_LAST_FAULT + 1, /* the same */
-    ZONES = ATTRIBUTES + SPEEDATE_LAST_FAULT + 1,     /* of each offset of quarter hours */
+    DATETIME, ARRAY, CONFIG, PARSE_ERROR, COLUMN, REFUSED, INTEGER, CHOICE, PLAIN, MISSING, ITEMS, TURN, WHOLE,
+    DIGITS, WRONG_TEXT, NUMBERS_OF,
+    NUMBERS, INDEX, UTCOFFSET, FROMBYTES,          /* names of attributes */
+    NAMES,                                         /* of the codes */
+    HINTS,                                         /* the words of each hint */
+    ARGUMENTS = HINTS + ALL_HINTS,                 /* of the error of each code */
+    ATTRIBUTES = ARGUMENTS + ALL_CODES,            /* the same */
+    ZONES = ATTRIBUTES + ALL_CODES,                /* of each offset of quarter hours */
     ALL = ZONES + 2 * QUARTERS + 1
 };
 
-/* What a Fault keeps, so that it can find its part: the text that was refused, and how. They are slots of a class. */
+/* What a ParseError keeps, so that it can find its part: the text that was refused, and how. They are slots of a class. */
 enum { SOURCE, CALL_NUMBER, SLOTS };
 extern const char *const slot_names[SLOTS];
 
 typedef struct {
     PyDateTime_CAPI *datetime;
-    Py_ssize_t offsets[SLOTS]; /* of these slots in a Fault */
+    Py_ssize_t offsets[SLOTS]; /* of these slots in a ParseError */
     PyObject *held[ALL];
 } State;
 
@@ -61,15 +65,13 @@ typedef struct {
 } Text;
 
 int wrong_type(const char *name, const char *kinds, PyObject *value);
-PyObject *new_fault(const State *state, int code, PyObject *arguments);
-PyObject *new_fault_at(const State *state, int code, Py_ssize_t index);
+PyObject *new_error(const State *state, int code, Py_ssize_t index, PyObject *source, PyObject *call);
 PyObject *raise_error(PyObject *error);
-PyObject *raise_fault(const State *state, int code);
-PyObject *raise_unrepresentable(const State *state, const char *name, PyObject *object, const Text *text);
+PyObject *raise_mistake(int code);
 
 /* ---- Arguments: parse.c ---- */
 
-#define COLUMN_ARGUMENTS 9 /* the most that a call has */
+#define COLUMN_ARGUMENTS 8 /* the most that a call has */
 
 /* The parameters of a call in their order. The first is required, and those after `positional` are keywords. */
 typedef struct {
@@ -107,6 +109,13 @@ static inline bool is_text(PyObject *object) {
     return PyUnicode_Check(object) || PyBytes_Check(object) || PyByteArray_Check(object) || PyMemoryView_Check(object);
 }
 
+/* Cuts off what ends a line of a file, as the library does: a line feed, and then a carriage return. */
+static inline void cut_line_end(Text *line) {
+    for (const char *end = "\n\r"; *end; end++)
+        if (line->size > 0 && line->bytes[line->size - 1] == *end)
+            line->size--;
+}
+
 bool is_fixed(const Py_buffer *buffer);
 int take_other_text(PyObject *object, Py_ssize_t index, Text *text);
 
@@ -119,21 +128,19 @@ static inline int take_text(PyObject *object, Py_ssize_t index, Text *text) {
     return take_other_text(object, index, text);
 }
 
-/* Which fields of timestamps a call reads. */
-enum { READS_NONE, READS_OFFSET, READS_ALL };
-
 int take_integer(const State *state, const char *name, PyObject *value, int64_t low, int64_t high, int64_t *out);
 int take_flag(const char *name, PyObject *value, bool *out);
 int take_choice(const State *state, const char *name, PyObject *value, const char *first, const char *second,
                 bool *out);
-int take_config(const State *state, PyObject *config, int reads, SpeedateConfig *out);
+int take_form(PyObject *timestamps, PyObject *strict, int *out);
+int take_config(const State *state, PyObject *config, int form, SpeedateConfig *out);
 
-/* ---- Parsers and their faults: parse.c ---- */
+/* ---- Parsers and their errors: parse.c ---- */
 
 typedef union {
     SpeedateDate date;
     SpeedateTime time;
-    SpeedateDateTime date_time;
+    SpeedateDateTime datetime;
     SpeedateDuration duration;
 } Value;
 
@@ -144,19 +151,19 @@ typedef int Parse(const Text *text, SpeedateConfig config, Value *out, size_t *t
 /* The same, and the part for which a text is refused. It takes longer, so it is called for what a first call refused. */
 typedef int ParseOrPart(const Text *text, SpeedateConfig config, Value *out, size_t *taken, SpeedatePart *part);
 
-/* The parsers, whose faults have parts. */
+/* The parsers. */
 enum {
-    NO_PART,
+    NO_PARSER,
     DATE,
     DATE_OR_TIMESTAMP,
     DATE_FRONT,
     TIME,
     TIME_STRICT,
     TIME_FRONT,
-    DATE_TIME,
-    DATE_TIME_OR_TIMESTAMP,
-    DATE_TIME_STRICT,
-    DATE_TIME_FRONT,
+    DATETIME_TEXT,
+    DATETIME_OR_TIMESTAMP,
+    DATETIME_STRICT,
+    DATETIME_FRONT,
     DURATION,
     ALL_PARSERS
 };
@@ -167,35 +174,28 @@ typedef struct {
 } Parser;
 extern const Parser parsers[ALL_PARSERS];
 
-#define OF_COLUMN 256 /* added to the number of a call, all of which are less, if it is one on a column */
+/* What is added to the number of a parser and its configuration, which is less than the first of them. */
+enum { OF_COLUMN = 256, ASSUMES_UTC = 512, OF_LINE = 1024, OF_INTEGER = 2048 };
+
+#define INTEGER_FLAG 128 /* added to the code of an integer that a column refuses */
 
 /* What no one can write of a text, and may be kept: a str, or the bytes that were read. */
 static inline PyObject *source_of(PyObject *object, const Text *text) {
     return text->owner && !PyUnicode_Check(object) ? text->owner : object;
 }
 
-/* A part of a text as Python counts it. One with a negative place is none. */
-typedef struct {
-    Py_ssize_t place, end;
-} Part;
-
 PyObject *new_zone(const State *state, int offset);
-Py_ssize_t size_in(PyObject *object, const Text *text, size_t taken);
-long call_number(int call, SpeedateConfig config);
-void keep(const State *state, PyObject *fault, int slot, PyObject *object);
-bool has_mark(const Text *text);
-Text after_mark(const Text *text);
-int of_type(int hint, PyObject *object);
-PyObject *with_hint(const State *state, PyObject *fault, int hint);
-int part_in_column(int call, SpeedateConfig config, PyObject *object, const Text *text, Part *part);
+int call_number(int parser, SpeedateConfig config);
+PyObject *call_on_item(const State *state, int function, Py_ssize_t index, PyObject *item, int parser);
 
 /* ---- Numbers in memory, and items: columns.c ---- */
 
 #define NOT_A_TIME INT64_MIN
+#define LAST_OF_TEXTS 99 /* the last code that says something of a text */
 #define BLOCK 32768     /* numbers at a time */
 #define TURN_ITEMS 1024 /* after which other threads may have their turn */
 
-/* An integer, if it fits 64 bits. The number is meaningless otherwise. */
+/* An integer, if it fits 64 bits. */
 typedef struct {
     int64_t number;
     bool fits;
@@ -218,26 +218,21 @@ int give_turn(const State *state);
 #define DECLARE(name) PyObject *call_##name(GIVEN)
 DECLARE(date);
 DECLARE(time);
-DECLARE(date_time);
+DECLARE(datetime);
 DECLARE(duration);
-DECLARE(time_strict);
-DECLARE(date_time_strict);
 DECLARE(date_front);
 DECLARE(time_front);
-DECLARE(date_time_front);
-DECLARE(date_from_timestamp);
-DECLARE(time_from_timestamp);
-DECLARE(date_time_from_timestamp);
-DECLARE(date_time_column);
-DECLARE(date_time_clock_column);
-DECLARE(date_time_offset_column);
+DECLARE(datetime_front);
+DECLARE(datetime_column);
+DECLARE(datetime_clock_column);
+DECLARE(datetime_offset_column);
 DECLARE(date_column);
 DECLARE(time_column);
-DECLARE(time_offset_column);
 DECLARE(duration_column);
 DECLARE(text);
 DECLARE(text_column);
 PyObject *call_found(PyObject *module, PyObject *arguments);
+PyObject *call_refusal(PyObject *module, PyObject *arguments);
 
 #pragma GCC visibility pop
 #endif

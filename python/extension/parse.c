@@ -1,13 +1,13 @@
-/* Parsing: what a call is given, the values of texts and timestamps, and the parts of texts that are refused. */
+/* Parsing: what a call is given, the values of texts and integers, and the parts of texts that are refused. */
 #include "extension.h"
 
 /* ---- Arguments ---- */
 
-/* What is said of the keyword that pandas has for faults. */
+/* What is said of the keyword that pandas has for texts that are refused. */
 static const char *words_on_errors(const Signature *signature, PyObject *keyword) {
     for (int i = 0; signature->parameters[i]; i++)
-        if (strcmp(signature->parameters[i], "faults") == 0 && PyUnicode_CompareWithASCIIString(keyword, "errors") == 0)
-            return ": the word is faults, and faults='nat' does what errors='coerce' does in pandas";
+        if (strcmp(signature->parameters[i], "refused") == 0 && PyUnicode_CompareWithASCIIString(keyword, "errors") == 0)
+            return ": the word is refused, and refused='number' does what errors='coerce' does in pandas";
     return "";
 }
 
@@ -114,7 +114,7 @@ int take_flag(const char *name, PyObject *value, bool *out) {
 
 /* Takes whether a choice is the second of two. */
 int take_choice(const State *state, const char *name, PyObject *value, const char *first, const char *second,
-                       bool *out) {
+                bool *out) {
     if (!value)
         return 0;
     PyObject *place = PyObject_CallFunction(state->held[CHOICE], "sOss", name, value, first, second);
@@ -123,6 +123,19 @@ int take_choice(const State *state, const char *name, PyObject *value, const cha
     *out = PyObject_IsTrue(place) == 1;
     Py_DECREF(place);
     return 0;
+}
+
+/* Takes which of the forms of C is wanted. A type that lacks one has no such argument. */
+int take_form(PyObject *timestamps, PyObject *strict, int *out) {
+    bool reads_timestamps = false, is_strict = false;
+    if (take_flag("timestamps", timestamps, &reads_timestamps) < 0 || take_flag("strict", strict, &is_strict) < 0)
+        return -1;
+    *out = is_strict          ? SPEEDATE_PARSER_STRICT
+           : reads_timestamps ? SPEEDATE_PARSER_OR_TIMESTAMP
+                              : SPEEDATE_PARSER_TEXT;
+    if (!is_strict || !reads_timestamps)
+        return 0;
+    return PyErr_SetString(PyExc_ValueError, "strict and timestamps exclude each other"), -1;
 }
 
 /* Takes the struct that a Config carries as bytes. */
@@ -137,7 +150,7 @@ static int take_numbers(const State *state, PyObject *config, SpeedateConfig *ou
     return whole ? 0 : type_error("config is not as Config made it");
 }
 
-int take_config(const State *state, PyObject *config, int reads, SpeedateConfig *out) {
+int take_config(const State *state, PyObject *config, int form, SpeedateConfig *out) {
     *out = (SpeedateConfig)SPEEDATE_CONFIG_DEFAULT;
     if (!config || config == Py_None)
         return 0;
@@ -145,12 +158,19 @@ int take_config(const State *state, PyObject *config, int reads, SpeedateConfig 
         return wrong_type("config", "Config", config);
     if (take_numbers(state, config, out) < 0)
         return -1;
-    const char *unread = out->timestamp_unit != SPEEDATE_UNIT_INFER && reads < READS_ALL ? "timestamp_unit"
-                         : out->has_timestamp_offset && reads < READS_OFFSET             ? "timestamp_offset"
-                                                                                         : NULL;
+    const char *unread = form == SPEEDATE_PARSER_OR_TIMESTAMP           ? NULL
+                         : out->timestamp_unit != SPEEDATE_UNIT_INFER ? "timestamp_unit"
+                         : out->has_timestamp_offset                  ? "timestamp_offset"
+                                                                      : NULL;
     return !unread ? 0
-                   : type_error("config has a %s, which is not read here: date and date_time do with timestamps=True",
+                   : type_error("config has a %s, which is not read here: date and datetime do with timestamps=True",
                                 unread);
+}
+
+/* Calls a function of the package on what is no text, at its index in a column, or at a negative one. */
+PyObject *call_on_item(const State *state, int function, Py_ssize_t index, PyObject *item, int parser) {
+    PyObject *can_read_timestamps = parser == TIME || parser == TIME_STRICT || parser == DURATION ? Py_False : Py_True;
+    return PyObject_CallFunction(state->held[function], "nOO", index, item, can_read_timestamps);
 }
 
 /* ---- Values ---- */
@@ -176,17 +196,17 @@ static inline PyObject *zone_of(const State *state, const SpeedateTime *time) {
     return zone;
 }
 
-/* What makes a value is given its text too, if it is of one. */
+/* What makes a value. If Python has no such value, it raises nothing, and writes the code. */
 
-static PyObject *make_date(const State *state, const Value *value, PyObject *object, const Text *text) {
+static PyObject *make_date(const State *state, const Value *value, int *code) {
     SpeedateDate it = value->date;
     if (it.year == 0)
-        return raise_unrepresentable(state, "year_zero", object, text);
+        return *code = YEAR_ZERO, NULL;
     return state->datetime->Date_FromDate(it.year, it.month, it.day, state->datetime->DateType);
 }
 
-static PyObject *make_time(const State *state, const Value *value, PyObject *object, const Text *text) {
-    (void)object, (void)text;
+static PyObject *make_time(const State *state, const Value *value, int *code) {
+    (void)code;
     PyDateTime_CAPI *api = state->datetime;
     SpeedateTime it = value->time;
     PyObject *made = NULL, *zone = zone_of(state, &it);
@@ -197,12 +217,12 @@ static PyObject *make_time(const State *state, const Value *value, PyObject *obj
     return made;
 }
 
-static PyObject *make_date_time(const State *state, const Value *value, PyObject *object, const Text *text) {
+static PyObject *make_datetime(const State *state, const Value *value, int *code) {
     PyDateTime_CAPI *api = state->datetime;
-    SpeedateDate day = value->date_time.date;
-    SpeedateTime it = value->date_time.time;
+    SpeedateDate day = value->datetime.date;
+    SpeedateTime it = value->datetime.time;
     if (day.year == 0)
-        return raise_unrepresentable(state, "year_zero", object, text);
+        return *code = YEAR_ZERO, NULL;
     PyObject *zone = zone_of(state, &it);
     if (!zone)
         return NULL;
@@ -212,7 +232,7 @@ static PyObject *make_date_time(const State *state, const Value *value, PyObject
     return made;
 }
 
-static PyObject *make_duration(const State *state, const Value *value, PyObject *object, const Text *text) {
+static PyObject *make_duration(const State *state, const Value *value, int *code) {
     PyDateTime_CAPI *api = state->datetime;
     SpeedateDuration it = value->duration;
     int sign = it.negative ? -1 : 1;
@@ -220,7 +240,7 @@ static PyObject *make_duration(const State *state, const Value *value, PyObject 
                                           api->DeltaType);
     if (!made && PyErr_ExceptionMatches(PyExc_OverflowError)) {
         PyErr_Clear();
-        return raise_unrepresentable(state, "duration_too_small", object, text);
+        *code = DURATION_TOO_SMALL;
     }
     return made;
 }
@@ -238,10 +258,10 @@ PARSE(parse_date_front, speedate_date_parse_front(BYTES, &out->date, taken))
 PARSE(parse_time, speedate_time_parse(BYTES, config, &out->time))
 PARSE(parse_time_strict, speedate_time_parse_strict(BYTES, config, &out->time))
 PARSE(parse_time_front, speedate_time_parse_front(BYTES, config, &out->time, taken))
-PARSE(parse_date_time, speedate_datetime_parse_text(BYTES, config, &out->date_time))
-PARSE(parse_date_time_or_timestamp, speedate_datetime_parse(BYTES, config, &out->date_time))
-PARSE(parse_date_time_strict, speedate_datetime_parse_strict(BYTES, config, &out->date_time))
-PARSE(parse_date_time_front, speedate_datetime_parse_front(BYTES, config, &out->date_time, taken))
+PARSE(parse_datetime, speedate_datetime_parse_text(BYTES, config, &out->datetime))
+PARSE(parse_datetime_or_timestamp, speedate_datetime_parse(BYTES, config, &out->datetime))
+PARSE(parse_datetime_strict, speedate_datetime_parse_strict(BYTES, config, &out->datetime))
+PARSE(parse_datetime_front, speedate_datetime_parse_front(BYTES, config, &out->datetime, taken))
 PARSE(parse_duration, speedate_duration_parse(BYTES, config, &out->duration))
 
 #define PARSE_OR_PART(name, call) \
@@ -255,116 +275,103 @@ PARSE_OR_PART(parse_date_front, speedate_date_parse_or_part_front(BYTES, &out->d
 PARSE_OR_PART(parse_time, speedate_time_parse_or_part(BYTES, config, &out->time, part))
 PARSE_OR_PART(parse_time_strict, speedate_time_parse_or_part_strict(BYTES, config, &out->time, part))
 PARSE_OR_PART(parse_time_front, speedate_time_parse_or_part_front(BYTES, config, &out->time, taken, part))
-PARSE_OR_PART(parse_date_time, speedate_datetime_parse_or_part_text(BYTES, config, &out->date_time, part))
-PARSE_OR_PART(parse_date_time_or_timestamp, speedate_datetime_parse_or_part(BYTES, config, &out->date_time, part))
-PARSE_OR_PART(parse_date_time_strict, speedate_datetime_parse_or_part_strict(BYTES, config, &out->date_time, part))
-PARSE_OR_PART(parse_date_time_front, speedate_datetime_parse_or_part_front(BYTES, config, &out->date_time, taken, part))
+PARSE_OR_PART(parse_datetime, speedate_datetime_parse_or_part_text(BYTES, config, &out->datetime, part))
+PARSE_OR_PART(parse_datetime_or_timestamp, speedate_datetime_parse_or_part(BYTES, config, &out->datetime, part))
+PARSE_OR_PART(parse_datetime_strict, speedate_datetime_parse_or_part_strict(BYTES, config, &out->datetime, part))
+PARSE_OR_PART(parse_datetime_front, speedate_datetime_parse_or_part_front(BYTES, config, &out->datetime, taken, part))
 PARSE_OR_PART(parse_duration, speedate_duration_parse_or_part(BYTES, config, &out->duration, part))
 
 const Parser parsers[ALL_PARSERS] = {
 #define PARSER(name, kind) {name, name##_or_part, SPEEDATE_KIND_##kind}
-    [NO_PART] = {NULL, NULL, SPEEDATE_KIND_NONE},
+    [NO_PARSER] = {NULL, NULL, SPEEDATE_KIND_NONE},
     [DATE] = PARSER(parse_date, DATE),
     [DATE_OR_TIMESTAMP] = PARSER(parse_date_or_timestamp, DATE_OR_TIMESTAMP),
     [DATE_FRONT] = PARSER(parse_date_front, DATE),
     [TIME] = PARSER(parse_time, TIME),
     [TIME_STRICT] = PARSER(parse_time_strict, TIME_STRICT),
     [TIME_FRONT] = PARSER(parse_time_front, TIME),
-    [DATE_TIME] = PARSER(parse_date_time, DATETIME),
-    [DATE_TIME_OR_TIMESTAMP] = PARSER(parse_date_time_or_timestamp, DATETIME_OR_TIMESTAMP),
-    [DATE_TIME_STRICT] = PARSER(parse_date_time_strict, DATETIME_STRICT),
-    [DATE_TIME_FRONT] = PARSER(parse_date_time_front, DATETIME),
+    [DATETIME_TEXT] = PARSER(parse_datetime, DATETIME),
+    [DATETIME_OR_TIMESTAMP] = PARSER(parse_datetime_or_timestamp, DATETIME_OR_TIMESTAMP),
+    [DATETIME_STRICT] = PARSER(parse_datetime_strict, DATETIME_STRICT),
+    [DATETIME_FRONT] = PARSER(parse_datetime_front, DATETIME),
     [DURATION] = PARSER(parse_duration, DURATION),
 };
 
+/* A call that parses a text. Its parameters after the text and the configuration are `timestamps` and `strict`, if it has a
+ * parser for them. */
 typedef struct {
     Signature signature;
-    PyObject *(*make)(const State *state, const Value *value, PyObject *object, const Text *text);
-    int parser, timestamp_parser; /* of those above: the second with timestamps=True, or NO_PART */
+    PyObject *(*make)(const State *state, const Value *value, int *code);
+    int parser[SPEEDATE_PARSER_STRICT + 1]; /* by their forms in C */
+    int timestamps, strict;                 /* the places of these parameters, or 0 */
+    int (*of_timestamp)(int64_t timestamp, SpeedateConfig config, Value *out);
 } Reader;
 
-/* One number for a call and what its faults depend on of a configuration, less than 256, so that Python has it ready. */
-long call_number(int call, SpeedateConfig config) {
-    return call | config.timestamp_unit << 4 | config.overflow_behavior << 6 | config.iso_order << 7;
+/* One number for a parser and what its errors depend on of a configuration, less than 256, so that Python has it ready. */
+int call_number(int parser, SpeedateConfig config) {
+    return parser | config.timestamp_unit << 4 | config.overflow_behavior << 6 | config.iso_order << 7;
 }
 
-/* How much of a text a size in bytes is: of a str in characters, which begin with any byte but 10xxxxxx. */
-Py_ssize_t size_in(PyObject *object, const Text *text, size_t taken) {
-    Py_ssize_t size = 0;
-    if (!PyUnicode_Check(object))
-        return (Py_ssize_t)taken;
-    for (size_t i = 0; i < taken; i++)
-        size += ((unsigned char)text->bytes[i] & 0xc0) != 0x80;
-    return size;
-}
-
-/* Puts an object into a slot of a Fault that has just been made. */
-void keep(const State *state, PyObject *fault, int slot, PyObject *object) {
-    Py_INCREF(object);
-    *(PyObject **)((char *)fault + state->offsets[slot]) = object;
-}
-
-bool has_mark(const Text *text) {
-    return text->size >= 3 && memcmp(text->bytes, "\xef\xbb\xbf", 3) == 0;
-}
-
-/* The text after a byte order mark. */
-Text after_mark(const Text *text) {
-    return (Text){text->bytes + 3, text->size - 3, NULL};
-}
-
-/* A hint with the words for the type of an object. */
-int of_type(int hint, PyObject *object) {
-    return PyUnicode_Check(object) ? hint : hint | OF_BYTES;
-}
-
-/* Gives a Fault, if it could be made, the words of a hint, if it has one. */
-PyObject *with_hint(const State *state, PyObject *fault, int hint) {
-    if (fault && hint != NO_HINT && PyObject_SetAttr(fault, state->held[HINT], state->held[HINTS + hint]) < 0)
-        Py_CLEAR(fault);
-    return fault;
-}
-
-/* Raises the Fault of a text, which it keeps. */
-static PyObject *refuse(const State *state, int code, PyObject *object, const Text *text, int call,
+/* Raises the ParseError of a text, or of an integer, whose text is its digits. */
+static PyObject *refuse(const State *state, int code, PyObject *object, const Text *text, int parser,
                         SpeedateConfig config) {
-    if (call == NO_PART || code < 1 || code > SPEEDATE_LAST_FAULT)
-        return raise_fault(state, code);
-    PyObject *number = PyLong_FromLong(call_number(call, config));
-    PyObject *fault = number ? new_fault(state, code, state->held[ARGUMENTS + code]) : NULL;
-    if (fault) {
-        keep(state, fault, SOURCE, source_of(object, text));
-        keep(state, fault, CALL_NUMBER, number);
-    }
+    if (code > LAST_OF_TEXTS && code < YEAR_ZERO)
+        return raise_mistake(code);
+    PyObject *source = text ? source_of(object, text) : call_on_item(state, DIGITS, -1, object, parser);
+    PyObject *number = PyLong_FromLong(call_number(parser, config) | (text ? 0 : OF_INTEGER));
+    PyObject *error = source && number ? new_error(state, code, -1, source, number) : NULL;
     Py_XDECREF(number);
-    if (has_mark(text)) {
-        Value value;
-        size_t taken;
-        Text rest = after_mark(text);
-        if (parsers[call].parse(&rest, config, &value, &taken) == SPEEDATE_OK)
-            fault = with_hint(state, fault, of_type(BYTE_ORDER_MARK, object));
-    }
-    return raise_error(fault);
+    if (!text)
+        Py_XDECREF(source);
+    return raise_error(error);
+}
+
+static int date_of_timestamp(int64_t timestamp, SpeedateConfig config, Value *out) {
+    return speedate_date_from_timestamp(timestamp, 1, config, &out->date);
+}
+
+static int datetime_of_timestamp(int64_t timestamp, SpeedateConfig config, Value *out) {
+    return speedate_datetime_from_timestamp(timestamp, 0, config, &out->datetime);
+}
+
+static PyObject *read_integer(const State *state, const Reader *reader, PyObject *integer, SpeedateConfig config) {
+    Whole timestamp;
+    Value value;
+    if (take_whole(state, "value", -1, integer, &timestamp) < 0)
+        return NULL;
+    int code = timestamp.fits ? reader->of_timestamp(timestamp.number, config, &value) : SPEEDATE_NUMBER_TOO_LARGE;
+    PyObject *made = code == SPEEDATE_OK ? reader->make(state, &value, &code) : NULL;
+    int parser = reader->parser[SPEEDATE_PARSER_OR_TIMESTAMP];
+    return code == SPEEDATE_OK ? made : refuse(state, code, integer, NULL, parser, config);
 }
 
 static inline PyObject *read_text(const Reader *reader, GIVEN) {
     const State *state = PyModule_GetState(module);
-    PyObject *bound[3], *made = NULL;
-    bool timestamps = false;
+    PyObject *bound[4] = {NULL}, *made = NULL;
+    int form = SPEEDATE_PARSER_TEXT;
     SpeedateConfig config;
     Text text;
     Value value;
-    if (bind(&reader->signature, arguments, count, keywords, bound) < 0)
+    if (bind(&reader->signature, arguments, count, keywords, bound) < 0 ||
+        take_form(reader->timestamps ? bound[reader->timestamps] : NULL, reader->strict ? bound[reader->strict] : NULL,
+                  &form) < 0)
         return NULL;
-    if (reader->timestamp_parser != NO_PART && take_flag("timestamps", bound[2], &timestamps) < 0)
-        return NULL;
+    int parser = reader->parser[form];
+    if (!is_text(bound[0])) {
+        if (form != SPEEDATE_PARSER_OR_TIMESTAMP || !PyIndex_Check(bound[0]))
+            return raise_error(call_on_item(state, WRONG_TEXT, -1, bound[0], reader->parser[SPEEDATE_PARSER_TEXT]));
+        if (take_config(state, bound[1], form, &config) < 0)
+            return NULL;
+        return read_integer(state, reader, bound[0], config);
+    }
     if (take_text(bound[0], -1, &text) < 0)
         return NULL;
-    if (take_config(state, bound[1], timestamps ? READS_ALL : READS_NONE, &config) == 0) {
-        int parser = timestamps ? reader->timestamp_parser : reader->parser;
+    if (take_config(state, bound[1], form, &config) == 0) {
         int code = parsers[parser].parse(&text, config, &value, NULL);
-        made = code == SPEEDATE_OK ? reader->make(state, &value, bound[0], &text)
-                                   : refuse(state, code, bound[0], &text, parser, config);
+        if (code == SPEEDATE_OK)
+            made = reader->make(state, &value, &code);
+        if (code != SPEEDATE_OK)
+            refuse(state, code, bound[0], &text, parser, config);
     }
     Py_XDECREF(text.owner);
     return made;
@@ -414,197 +421,206 @@ static int parse_long_front(int parser, PyObject *object, SpeedateConfig config,
     }
 }
 
+/* How much of a text a size in bytes is: of a str in characters, which begin with any byte but 10xxxxxx. */
+static Py_ssize_t size_in(PyObject *object, const Text *text, size_t taken) {
+    Py_ssize_t size = 0;
+    if (!PyUnicode_Check(object))
+        return (Py_ssize_t)taken;
+    for (size_t i = 0; i < taken; i++)
+        size += ((unsigned char)text->bytes[i] & 0xc0) != 0x80;
+    return size;
+}
+
 static inline PyObject *read_front(const Reader *reader, GIVEN) {
     const State *state = PyModule_GetState(module);
-    PyObject *bound[2] = {NULL};
+    PyObject *bound[2] = {NULL}, *made = NULL;
+    int parser = reader->parser[SPEEDATE_PARSER_TEXT], code;
     SpeedateConfig config;
     Text text;
     Value value;
     size_t taken = 0;
-    int code;
     if (bind(&reader->signature, arguments, count, keywords, bound) < 0 ||
-        take_config(state, bound[1], READS_NONE, &config) < 0)
+        take_config(state, bound[1], SPEEDATE_PARSER_TEXT, &config) < 0)
         return NULL;
     if (is_long(bound[0])) {
-        if (parse_long_front(reader->parser, bound[0], config, &text, &value, &taken, &code) < 0)
+        if (parse_long_front(parser, bound[0], config, &text, &value, &taken, &code) < 0)
             return NULL;
     } else {
         if (take_text(bound[0], -1, &text) < 0)
             return NULL;
-        code = parsers[reader->parser].parse(&text, config, &value, &taken);
+        code = parsers[parser].parse(&text, config, &value, &taken);
     }
-    PyObject *pair;
-    if (code == SPEEDATE_OK) {
-        Text front = {text.bytes, taken, text.owner};
-        pair = with_size(reader->make(state, &value, bound[0], &front), size_in(bound[0], &text, taken));
-    } else {
-        pair = refuse(state, code, bound[0], &text, reader->parser, config);
-    }
+    if (code == SPEEDATE_OK)
+        made = reader->make(state, &value, &code);
+    if (code != SPEEDATE_OK)
+        refuse(state, code, bound[0], &text, parser, config);
+    else
+        made = with_size(made, size_in(bound[0], &text, taken));
     Py_XDECREF(text.owner);
-    return pair;
+    return made;
 }
 
-static const Reader date_reader = {{"date", {"text", "config", "timestamps"}, 2}, make_date, DATE, DATE_OR_TIMESTAMP};
-static const Reader time_reader = {{"time", {"text", "config"}, 2}, make_time, TIME, NO_PART};
-static const Reader date_time_reader = {
-    {"date_time", {"text", "config", "timestamps"}, 2}, make_date_time, DATE_TIME, DATE_TIME_OR_TIMESTAMP};
-static const Reader duration_reader = {{"duration", {"text", "config"}, 2}, make_duration, DURATION, NO_PART};
-static const Reader time_strict_reader = {{"time_strict", {"text", "config"}, 2}, make_time, TIME_STRICT, NO_PART};
-static const Reader date_time_strict_reader = {
-    {"date_time_strict", {"text", "config"}, 2}, make_date_time, DATE_TIME_STRICT, NO_PART};
-static const Reader date_front_reader = {{"date_front", {"text"}, 1}, make_date, DATE_FRONT, NO_PART};
-static const Reader time_front_reader = {{"time_front", {"text", "config"}, 2}, make_time, TIME_FRONT, NO_PART};
-static const Reader date_time_front_reader = {
-    {"date_time_front", {"text", "config"}, 2}, make_date_time, DATE_TIME_FRONT, NO_PART};
+static const Reader date_reader = {
+    {"date", {"value", "config", "timestamps"}, 1}, make_date, {DATE, DATE_OR_TIMESTAMP}, 2, 0, date_of_timestamp};
+static const Reader time_reader = {
+    {"time", {"value", "config", "strict"}, 1}, make_time, {TIME, NO_PARSER, TIME_STRICT}, 0, 2, NULL};
+static const Reader datetime_reader = {{"datetime", {"value", "config", "timestamps", "strict"}, 1},
+                                       make_datetime,
+                                       {DATETIME_TEXT, DATETIME_OR_TIMESTAMP, DATETIME_STRICT},
+                                       2,
+                                       3,
+                                       datetime_of_timestamp};
+static const Reader duration_reader = {{"duration", {"value", "config"}, 1}, make_duration, {DURATION}, 0, 0, NULL};
+static const Reader date_front_reader = {{"date_front", {"text"}, 1}, make_date, {DATE_FRONT}, 0, 0, NULL};
+static const Reader time_front_reader = {{"time_front", {"text", "config"}, 1}, make_time, {TIME_FRONT}, 0, 0, NULL};
+static const Reader datetime_front_reader = {
+    {"datetime_front", {"text", "config"}, 1}, make_datetime, {DATETIME_FRONT}, 0, 0, NULL};
 
 CALL(date, read_text)
 CALL(time, read_text)
-CALL(date_time, read_text)
+CALL(datetime, read_text)
 CALL(duration, read_text)
-CALL(time_strict, read_text)
-CALL(date_time_strict, read_text)
 CALL(date_front, read_front)
 CALL(time_front, read_front)
-CALL(date_time_front, read_front)
+CALL(datetime_front, read_front)
 
 /* ---- Parts ---- */
 
-/* The part as Python counts it: a place within a character of a str is that of its beginning. */
-static Part part_in(PyObject *object, const Text *text, SpeedatePart part) {
-    if (PyUnicode_Check(object))
-        while (part.place > 0 && part.place < text->size && ((unsigned char)text->bytes[part.place] & 0xc0) == 0x80)
-            part.place--;
-    return (Part){size_in(object, text, part.place), size_in(object, text, part.end)};
+/* What the number of a call says. */
+typedef struct {
+    int parser;
+    SpeedateConfig config;
+    bool of_column, assumes_utc, of_line, of_integer;
+} Call;
+
+static int take_call(int number, Call *call) {
+    *call = (Call){number & 15,
+                   {.timestamp_unit = number >> 4 & 3, .overflow_behavior = number >> 6 & 1, .iso_order = number >> 7 & 1},
+                   number & OF_COLUMN,
+                   number & ASSUMES_UTC,
+                   number & OF_LINE,
+                   number & OF_INTEGER};
+    if (number >= 0 && number < 2 * OF_INTEGER && call->parser != NO_PARSER && call->parser < ALL_PARSERS)
+        return 0;
+    return PyErr_Format(PyExc_ValueError, "no call has the number %d", number), -1;
 }
 
-/* Finds the part for which a column refuses a text. A column alone refuses a text without an offset, which is missing at its
- * end, and a duration that is too large as a whole, which has no part. */
-int part_in_column(int call, SpeedateConfig config, PyObject *object, const Text *text, Part *part) {
+static bool reads_datetimes(const Call *call) {
+    return DATETIME_TEXT <= call->parser && call->parser <= DATETIME_STRICT;
+}
+
+static bool is_accepted(const Call *call, const Text *text) {
     Value value;
     size_t taken;
-    SpeedatePart found;
-    int code = parsers[call].parse_or_part(text, config, &value, &taken, &found);
-    if (code == SPEEDATE_OK)
-        found.place = found.end = text->size;
-    *part = code == SPEEDATE_OK && call == DURATION ? (Part){-1, -1} : part_in(object, text, found);
-    return code;
+    int64_t number;
+    if (parsers[call->parser].parse(text, call->config, &value, &taken) != SPEEDATE_OK)
+        return false;
+    if (call->of_column && reads_datetimes(call))
+        return call->assumes_utc || value.datetime.time.has_offset;
+    return !call->of_column || call->parser != DURATION ||
+           speedate_duration_signed_total_microseconds(value.duration, &number) == SPEEDATE_OK;
 }
 
-/* Finds the part for which a call refuses a text, and gives the code. Of a long text the front may be enough. */
-static int find_part(int call, SpeedateConfig config, PyObject *object, Part *part) {
-    bool front = (call == DATE_FRONT || call == TIME_FRONT || call == DATE_TIME_FRONT) && is_long(object), whole = true;
-    for (Py_ssize_t size = FRONT;; size *= 8) {
-        Text text;
-        Value value;
-        size_t taken;
-        SpeedatePart found;
-        if ((front ? take_front(object, size, &text, &whole) : take_text(object, -1, &text)) < 0)
-            return -1;
-        int code = parsers[call].parse_or_part(&text, config, &value, &taken, &found);
-        bool is_all = whole || (code != SPEEDATE_OK && found.end + BEYOND <= text.size);
-        if (is_all)
-            *part = part_in(object, &text, found);
-        Py_XDECREF(text.owner);
-        if (is_all)
-            return code;
-    }
-}
-
-static int find_part_in_column(int call, SpeedateConfig config, PyObject *object, Part *part) {
-    Text text;
-    if (take_text(object, -1, &text) < 0)
-        return -1;
-    int code = part_in_column(call, config, object, &text, part);
-    Py_XDECREF(text.owner);
-    return code;
+/* The one thing for which a text is refused. A line ending is looked for in an item that may not have one. */
+static int hint_of(const Call *call, PyObject *object, const Text *text) {
+    if (call->of_integer && call->parser != DATE_OR_TIMESTAMP && call->parser != DATETIME_OR_TIMESTAMP)
+        return call->parser == DATE || reads_datetimes(call) ? INTEGER_OR_TIMESTAMP : NO_TIMESTAMP;
+    bool has_mark = text->size >= 3 && memcmp(text->bytes, "\xef\xbb\xbf", 3) == 0;
+    Text rest = has_mark ? (Text){text->bytes + 3, text->size - 3, NULL} : *text;
+    int hint = has_mark ? BYTE_ORDER_MARK : NO_HINT;
+    size_t size = rest.size;
+    if (call->of_column && !call->of_line)
+        cut_line_end(&rest);
+    if (rest.size < size)
+        hint |= LINE_END;
+    return hint == NO_HINT || !is_accepted(call, &rest) ? NO_HINT : PyUnicode_Check(object) ? hint : hint | OF_BYTES;
 }
 
 /* What was expected where a call gave a code. */
-static PyObject *expected_of(const State *state, int code, int call) {
+static PyObject *expected_of(int code, int kind) {
     char text[SPEEDATE_CODE_TEXT_SIZE];
     size_t length;
     SpeedatePart part = SPEEDATE_PART_NONE;
-    part.kind = parsers[call].kind;
+    part.kind = kind;
     int failed = speedate_code_expected(code, &part, text, sizeof text, &length);
-    return failed == SPEEDATE_OK ? PyUnicode_FromStringAndSize(text, (Py_ssize_t)length) : raise_fault(state, failed);
+    return failed == SPEEDATE_OK ? PyUnicode_FromStringAndSize(text, (Py_ssize_t)length) : raise_mistake(failed);
 }
 
-/* Finds the part of a refusal, from the text and the number that it keeps. */
-static int part_of_kept(PyObject *object, int number, Part *part) {
-    bool of_column = number >= OF_COLUMN;
-    int call = number & 15;
-    SpeedateConfig config = {
-        .timestamp_unit = number >> 4 & 3, .overflow_behavior = number >> 6 & 1, .iso_order = number >> 7 & 1};
-    if (call == NO_PART || call >= ALL_PARSERS || call_number(call, config) + (of_column ? OF_COLUMN : 0) != number)
-        return PyErr_Format(PyExc_ValueError, "no call has the number %d", number), -1;
-    int code = (of_column ? find_part_in_column : find_part)(call, config, object, part);
-    if (code > SPEEDATE_LAST_FAULT || (code == SPEEDATE_OK && !of_column))
-        return PyErr_SetString(PyExc_ValueError, "the text is not refused"), -1;
-    return code < 0 ? -1 : 0;
+/* The part of a text, and what was expected there, from what its parser has answered. */
+static PyObject *part_of(const Call *call, const Text *text, int code, const Value *value, size_t taken,
+                         SpeedatePart *part) {
+    bool is_timestamp = call->parser == DATE_OR_TIMESTAMP || call->parser == DATETIME_OR_TIMESTAMP;
+    int64_t number;
+    if (call->of_integer && is_timestamp && speedate_int_parse(BYTES, &number) != SPEEDATE_OK) {
+        *part = (SpeedatePart){0, text->size, 0};
+        return PyUnicode_FromString("a number that fits 64 bits");
+    }
+    if (code != SPEEDATE_OK)
+        return expected_of(code, parsers[call->parser].kind);
+    /* It was refused by the column, or by Python. */
+    *part = (SpeedatePart){call->of_column && reads_datetimes(call) ? taken : 0, taken, 0};
+    if (call->of_column && (reads_datetimes(call) || call->parser == DURATION))
+        return expected_of(reads_datetimes(call) ? SPEEDATE_TZ_REQUIRED : SPEEDATE_NUMBER_TOO_LARGE,
+                           parsers[call->parser].kind);
+    if (!call->of_column && call->parser == DURATION && value->duration.negative)
+        return PyUnicode_FromString("a duration of at least -999999999 days");
+    if (!call->of_column && value->date.year == 0) /* of a date-time too, which begins with its date */
+        return PyUnicode_FromString("a year from 0001 to 9999");
+    return PyErr_SetString(PyExc_ValueError, "the text is not refused"), NULL;
 }
 
-/* The place of an error, the end of its part and what was expected, from the code and what a Fault keeps. The number is 0 if
- * no call raised it, or one on a number. */
-PyObject *call_found(PyObject *module, PyObject *arguments) {
-    PyObject *object;
-    int code, number;
-    Part part = {-1, -1};
-    if (!PyArg_ParseTuple(arguments, "iOi:_found", &code, &object, &number) ||
-        (number != NO_PART && part_of_kept(object, number, &part) < 0))
-        return NULL;
-    PyObject *expected = expected_of(PyModule_GetState(module), code, number & 15);
+/* The start and the end of the part, what was expected, and the hint. A place within a character of a str is that of its
+ * beginning. */
+static PyObject *found_of(const State *state, const Call *call, PyObject *object, const Text *text, PyObject *expected,
+                          SpeedatePart part) {
     if (!expected)
         return NULL;
-    return part.place < 0 ? Py_BuildValue("OON", Py_None, Py_None, expected)
-                          : Py_BuildValue("nnN", part.place, part.end, expected);
+    if (PyUnicode_Check(object))
+        while (part.place > 0 && part.place < text->size && ((unsigned char)text->bytes[part.place] & 0xc0) == 0x80)
+            part.place--;
+    int hint = hint_of(call, object, text);
+    return Py_BuildValue("nnNO", size_in(object, text, part.place), size_in(object, text, part.end), expected,
+                         hint == NO_HINT ? Py_None : state->held[HINTS + hint]);
 }
 
-/* ---- Timestamps ---- */
-
-PyObject *call_date_from_timestamp(GIVEN) {
-    static const Signature signature = {"date_from_timestamp", {"timestamp", "config", "exact"}, 2};
+/* What a ParseError says of a text, from the text and the number of the call. Of a long text the front may be enough. */
+PyObject *call_found(PyObject *module, PyObject *arguments) {
     const State *state = PyModule_GetState(module);
-    PyObject *bound[3];
-    int64_t timestamp;
-    bool exact = true;
-    SpeedateConfig config;
-    Value value;
-    if (bind(&signature, arguments, count, keywords, bound) < 0 ||
-        take_integer(state, "timestamp", bound[0], INT64_MIN, INT64_MAX, &timestamp) < 0 ||
-        take_flag("exact", bound[2], &exact) < 0 || take_config(state, bound[1], READS_ALL, &config) < 0)
+    PyObject *object;
+    int number;
+    Call call;
+    if (!PyArg_ParseTuple(arguments, "Oi:_found", &object, &number) || take_call(number, &call) < 0)
         return NULL;
-    int code = speedate_date_from_timestamp(timestamp, exact, config, &value.date);
-    return code == SPEEDATE_OK ? make_date(state, &value, NULL, NULL) : raise_fault(state, code);
+    int parser = call.parser;
+    bool front = (parser == DATE_FRONT || parser == TIME_FRONT || parser == DATETIME_FRONT) && is_long(object);
+    bool whole = true;
+    for (Py_ssize_t size = FRONT;; size *= 8) {
+        Text text;
+        Value value;
+        SpeedatePart part;
+        PyObject *found = NULL;
+        if ((front ? take_front(object, size, &text, &whole) : take_text(object, -1, &text)) < 0)
+            return NULL;
+        size_t taken = text.size;
+        int code = parsers[parser].parse_or_part(&text, call.config, &value, &taken, &part);
+        bool is_enough = whole || (code == SPEEDATE_OK ? taken : part.end) + BEYOND <= text.size;
+        if (is_enough)
+            found = found_of(state, &call, object, &text, part_of(&call, &text, code, &value, taken, &part), part);
+        Py_XDECREF(text.owner);
+        if (is_enough)
+            return found;
+    }
 }
 
-PyObject *call_time_from_timestamp(GIVEN) {
-    static const Signature signature = {"time_from_timestamp", {"second", "microsecond", "config"}, 3};
-    const State *state = PyModule_GetState(module);
-    PyObject *bound[3];
-    int64_t second, microsecond = 0;
-    SpeedateConfig config;
-    Value value;
-    if (bind(&signature, arguments, count, keywords, bound) < 0 ||
-        take_integer(state, "second", bound[0], 0, UINT32_MAX, &second) < 0 ||
-        take_integer(state, "microsecond", bound[1], 0, UINT32_MAX, &microsecond) < 0 ||
-        take_config(state, bound[2], READS_OFFSET, &config) < 0)
+/* The ParseError of a text of a column, from what a Refused has. */
+PyObject *call_refusal(PyObject *module, PyObject *arguments) {
+    PyObject *source;
+    Py_ssize_t index;
+    int code, call;
+    if (!PyArg_ParseTuple(arguments, "inOi:_refusal", &code, &index, &source, &call))
         return NULL;
-    int code = speedate_time_from_timestamp((uint32_t)second, (uint32_t)microsecond, config, &value.time);
-    return code == SPEEDATE_OK ? make_time(state, &value, NULL, NULL) : raise_fault(state, code);
-}
-
-PyObject *call_date_time_from_timestamp(GIVEN) {
-    static const Signature signature = {"date_time_from_timestamp", {"timestamp", "microsecond", "config"}, 3};
-    const State *state = PyModule_GetState(module);
-    PyObject *bound[3];
-    int64_t timestamp, microsecond = 0;
-    SpeedateConfig config;
-    Value value;
-    if (bind(&signature, arguments, count, keywords, bound) < 0 ||
-        take_integer(state, "timestamp", bound[0], INT64_MIN, INT64_MAX, &timestamp) < 0 ||
-        take_integer(state, "microsecond", bound[1], 0, UINT32_MAX, &microsecond) < 0 ||
-        take_config(state, bound[2], READS_ALL, &config) < 0)
-        return NULL;
-    int code = speedate_datetime_from_timestamp(timestamp, (uint32_t)microsecond, config, &value.date_time);
-    return code == SPEEDATE_OK ? make_date_time(state, &value, NULL, NULL) : raise_fault(state, code);
+    PyObject *number = PyLong_FromLong(call | (code & INTEGER_FLAG ? OF_INTEGER : 0));
+    PyObject *error = number ? new_error(PyModule_GetState(module), code & ~INTEGER_FLAG, index, source, number) : NULL;
+    Py_XDECREF(number);
+    return error;
 }

@@ -9,8 +9,8 @@ typedef struct {
     size_t length;
 } Printed;
 
-static PyObject *text_of(const State *state, int code, const Printed *printed) {
-    PyObject *text = code == SPEEDATE_OK ? PyUnicode_New((Py_ssize_t)printed->length, 127) : raise_fault(state, code);
+static PyObject *text_of(int code, const Printed *printed) {
+    PyObject *text = code == SPEEDATE_OK ? PyUnicode_New((Py_ssize_t)printed->length, 127) : raise_mistake(code);
     if (text)
         memcpy(PyUnicode_1BYTE_DATA(text), printed->bytes, printed->length);
     return text;
@@ -21,14 +21,14 @@ static PyObject *text_of(const State *state, int code, const Printed *printed) {
 #define PRINTED(call, value) \
     Printed printed; \
     int code = call(value, ROOM); \
-    return text_of(state, code, &printed)
+    return text_of(code, &printed)
 
 /* The same of a value with a second, with just as many digits of it unless these are SHORTEST. */
 #define SHORTEST -1
 #define PRINTED_WITH_DIGITS(call, value, digits) \
     Printed printed; \
     int code = digits == SHORTEST ? call(value, ROOM) : call##_with_digits(value, digits, ROOM); \
-    return text_of(state, code, &printed)
+    return text_of(code, &printed)
 
 static int take_size(PyObject *size, SpeedateTime *time) {
     int seconds = PyDateTime_DELTA_GET_DAYS(size) * 86400 + PyDateTime_DELTA_GET_SECONDS(size);
@@ -72,6 +72,7 @@ static PyObject *no_digits(PyObject *value) {
 }
 
 static PyObject *print_date(const State *state, PyObject *value, int digits) {
+    (void)state;
     if (digits != SHORTEST)
         return no_digits(value);
     PRINTED(speedate_date_to_text, date_of(value));
@@ -88,7 +89,7 @@ static PyObject *print_time(const State *state, PyObject *value, int digits) {
     PRINTED_WITH_DIGITS(speedate_time_to_text, time, digits);
 }
 
-static PyObject *print_date_time(const State *state, PyObject *value, int digits) {
+static PyObject *print_datetime(const State *state, PyObject *value, int digits) {
     PyDateTime_DateTime *it = (PyDateTime_DateTime *)value;
     SpeedateDateTime moment = {date_of(value),
                                {.hour = PyDateTime_DATE_GET_HOUR(it),
@@ -101,6 +102,7 @@ static PyObject *print_date_time(const State *state, PyObject *value, int digits
 }
 
 static PyObject *print_duration(const State *state, PyObject *value, int digits) {
+    (void)state;
     if (digits != SHORTEST)
         return no_digits(value);
     SpeedateDuration it = {.negative = PyDateTime_DELTA_GET_DAYS(value) < 0};
@@ -119,7 +121,7 @@ typedef PyObject *Print(const State *state, PyObject *value, int digits);
 /* How values of a type are printed, or NULL: those of a subclass may say more. */
 static Print *print_of(const State *state, const PyTypeObject *type) {
     const PyDateTime_CAPI *api = state->datetime;
-    return type == api->DateTimeType ? print_date_time
+    return type == api->DateTimeType ? print_datetime
            : type == api->DateType   ? print_date
            : type == api->TimeType   ? print_time
            : type == api->DeltaType  ? print_duration
@@ -170,7 +172,7 @@ typedef int PrintLines(int64_t *numbers, size_t count, char *lines, size_t size,
         return call(numbers, count, lines, size, progress); \
     }
 PRINT_LINES(print_times, speedate_time_print_column)
-PRINT_LINES(print_date_times, speedate_datetime_print_column)
+PRINT_LINES(print_datetimes, speedate_datetime_print_column)
 PRINT_LINES(print_clocks, speedate_datetime_clock_print_column)
 PRINT_LINES(print_durations, speedate_duration_print_column)
 
@@ -193,8 +195,8 @@ static const struct {
 } kinds[KINDS] = {
     {"date", print_dates, INT32_MAX},
     {"time", print_times, INT64_MAX},
-    {"date_time", print_date_times, INT64_MAX},
-    {"date_time_clock", print_clocks, INT64_MAX},
+    {"datetime", print_datetimes, INT64_MAX},
+    {"datetime_clock", print_clocks, INT64_MAX},
     {"duration", print_durations, INT64_MAX},
 };
 
@@ -219,6 +221,26 @@ static int make_room(PrintedColumn *column) {
     return _PyBytes_Resize(&column->lines, needed > 2 * size ? needed : 2 * size);
 }
 
+/* Raises the ParseError of a number that has no text, as its class makes it: it does not find its part in a text. */
+static int refuse_number(const PrintedColumn *column, int code, Py_ssize_t index, PyObject *integer) {
+    static const char too_large[] = "a number that fits 64 bits, or 32 if it counts days";
+    const State *state = column->state;
+    SpeedatePart part = SPEEDATE_PART_NONE;
+    char words[SPEEDATE_CODE_TEXT_SIZE];
+    size_t length;
+    if (code > LAST_OF_TEXTS || (code != SPEEDATE_NUMBER_TOO_LARGE &&
+                                 speedate_code_expected(code, &part, words, sizeof words, &length) != SPEEDATE_OK))
+        return raise_mistake(code), -1;
+    PyObject *digits = integer ? call_on_item(state, DIGITS, index, integer, DURATION) : NULL;
+    Py_XDECREF(integer);
+    if (digits)
+        raise_error(PyObject_CallFunction(state->held[PARSE_ERROR], "sOinsn", speedate_code_string(code), digits, 0,
+                                          PyUnicode_GET_LENGTH(digits),
+                                          code == SPEEDATE_NUMBER_TOO_LARGE ? too_large : words, index));
+    Py_XDECREF(digits);
+    return -1;
+}
+
 /* Prints the numbers. Signals are heard. */
 static int print_numbers(PrintedColumn *column) {
     SpeedateProgress progress = {0, 0, SPEEDATE_OK, SPEEDATE_PART_NONE};
@@ -229,8 +251,12 @@ static int print_numbers(PrintedColumn *column) {
     int code = column->print(column->numbers, column->count, lines + column->used, room, &progress);
     if (code == SPEEDATE_OK)
         code = progress.error;
-    if (code != SPEEDATE_OK)
-        return raise_error(new_fault_at(column->state, code, column->before + (Py_ssize_t)progress.lines)), -1;
+    if (code != SPEEDATE_OK) {
+        int32_t day;
+        memcpy(&day, (char *)column->numbers + progress.lines * sizeof day, sizeof day);
+        int64_t number = column->print == print_dates ? day : column->numbers[progress.lines];
+        return refuse_number(column, code, column->before + (Py_ssize_t)progress.lines, PyLong_FromLongLong(number));
+    }
     column->used += (Py_ssize_t)progress.bytes;
     column->before += (Py_ssize_t)column->count;
     column->count = 0;
@@ -251,11 +277,14 @@ static int fail_after_numbers(PrintedColumn *column) {
     return -1;
 }
 
-static int put_number(PrintedColumn *column, Whole whole) {
+/* Puts a number after those before it. It is no object if it lies in memory. */
+static int put_number(PrintedColumn *column, Whole whole, PyObject *item) {
     bool is_taken = whole.number == NOT_A_TIME || (-column->largest <= whole.number && whole.number <= column->largest);
     if (!whole.fits || !is_taken) {
-        Py_ssize_t index = column->before + (Py_ssize_t)column->count;
-        raise_error(new_fault_at(column->state, SPEEDATE_NUMBER_TOO_LARGE, index));
+        refuse_number(column, SPEEDATE_NUMBER_TOO_LARGE, column->before + (Py_ssize_t)column->count,
+                      item         ? PyNumber_Index(item)
+                      : whole.fits ? PyLong_FromLongLong(whole.number)
+                                   : PyLong_FromUnsignedLongLong((unsigned long long)whole.number));
         return fail_after_numbers(column);
     }
     column->numbers[column->count++] = whole.number;
@@ -270,7 +299,7 @@ static int put_item(PrintedColumn *column, PyObject *item) {
     Py_ssize_t index = column->before + (Py_ssize_t)column->count;
     if (missing < 0 || (!missing && take_whole(column->state, "number", index, item, &number) < 0))
         return fail_after_numbers(column);
-    return put_number(column, number);
+    return put_number(column, number, missing ? NULL : item);
 }
 
 static int put_items(PrintedColumn *column, PyObject *items) {
@@ -290,7 +319,7 @@ static int put_memory(PrintedColumn *column, const Py_buffer *buffer) {
     int status = 0;
     size_t count = (size_t)(buffer->len / buffer->itemsize);
     for (size_t i = 0; status == 0 && i < count; i++)
-        status = put_number(column, whole_at(buffer, i));
+        status = put_number(column, whole_at(buffer, i), NULL);
     return status;
 }
 
@@ -319,20 +348,24 @@ static PyObject *lines_of(PrintedColumn *column, PyObject *numbers) {
 }
 
 PyObject *call_text_column(GIVEN) {
-    static const Signature signature = {"text_column", {"numbers", "kind"}, 2};
+    static const Signature signature = {"text_column", {"numbers", "kind"}, 1};
     PrintedColumn column = {.state = PyModule_GetState(module)};
-    PyObject *bound[2], *lines = NULL;
-    if (bind(&signature, arguments, count, keywords, bound) < 0 || (!bound[1] && lacks_argument(&signature, 1) < 0))
+    PyObject *bound[2], *lines = NULL, *numbers, *kind;
+    if (bind(&signature, arguments, count, keywords, bound) < 0)
         return NULL;
-    PyObject *place = PyObject_CallFunction(column.state->held[CHOICE], "sOsssss", "kind", bound[1], kinds[0].name,
+    PyObject *pair = PyObject_CallFunctionObjArgs(column.state->held[NUMBERS_OF], bound[0], bound[1] ? bound[1] : Py_None, NULL);
+    if (!pair || !PyArg_ParseTuple(pair, "OO", &numbers, &kind)) {
+        Py_XDECREF(pair);
+        return NULL;
+    }
+    PyObject *place = PyObject_CallFunction(column.state->held[CHOICE], "sOsssss", "kind", kind, kinds[0].name,
                                             kinds[1].name, kinds[2].name, kinds[3].name, kinds[4].name);
-    PyObject *counted = !place ? NULL : PyObject_CallFunctionObjArgs(column.state->held[NUMBERS_OF], bound[0], bound[1], NULL);
-    if (counted) {
+    if (place) {
         column.print = kinds[PyLong_AsLong(place)].print;
         column.largest = kinds[PyLong_AsLong(place)].largest;
-        lines = lines_of(&column, counted);
+        lines = lines_of(&column, numbers);
     }
-    Py_XDECREF(counted);
     Py_XDECREF(place);
+    Py_DECREF(pair);
     return lines;
 }

@@ -1,115 +1,108 @@
 import array
 import ctypes
-import datetime
+import datetime as _datetime
 import mmap
-from typing import Any, Dict, Iterable, List, Literal, Mapping, Optional, SupportsIndex, Tuple, Union, overload
+from typing import Any, Iterable, List, Literal, Mapping, Optional, SupportsIndex, Tuple, Union, overload
 
-from ._types import Config as Config, Fault as Fault, Refusal as Refusal, Unrepresentable as Unrepresentable
+from ._types import Column as Column, Config as Config, ParseError as ParseError, Refused as Refused
+
+__version__: str
 
 _Text = Union[str, bytes, bytearray, memoryview]
 _Bytes = Union[bytes, bytearray, memoryview, mmap.mmap, array.array[int], ctypes.Array[Any]]
 _Texts = Union[Iterable[Union[_Text, SupportsIndex, None]], _Bytes]
 # What iterates over texts and is no column: the overload for it has no result, so that its use is an error.
 _NoColumn = Union[str, Mapping[Any, Any]]
-_Faults = Union[Literal["raise", "nat"], List[Fault], Dict[str, array.array[int]]]
-_Naive = Literal["error", "utc", "UTC"]
-_Kind = Literal["date", "time", "date_time", "date_time_clock", "duration"]
-_Newline = Literal["\r\n", "\n"]
+_MissingOffset = Literal["error", "utc"]
+_Refused = Literal["stop", "number", "collect"]
 _Empty = Literal["error", "nat"]
+_Kind = Literal["date", "time", "datetime", "datetime_clock", "duration"]
 
-def date(text: _Text, config: Optional[Config] = None, *, timestamps: bool = False) -> datetime.date: ...
-def time(text: _Text, config: Optional[Config] = None) -> datetime.time: ...
-def date_time(text: _Text, config: Optional[Config] = None, *, timestamps: bool = False) -> datetime.datetime: ...
-def duration(text: _Text, config: Optional[Config] = None) -> datetime.timedelta: ...
-def time_strict(text: _Text, config: Optional[Config] = None) -> datetime.time: ...
-def date_time_strict(text: _Text, config: Optional[Config] = None) -> datetime.datetime: ...
-def date_front(text: _Text) -> Tuple[datetime.date, int]: ...
-def time_front(text: _Text, config: Optional[Config] = None) -> Tuple[datetime.time, int]: ...
-def date_time_front(text: _Text, config: Optional[Config] = None) -> Tuple[datetime.datetime, int]: ...
-def date_from_timestamp(timestamp: int, config: Optional[Config] = None, *, exact: bool = True) -> datetime.date: ...
-def time_from_timestamp(second: int, microsecond: int = 0, config: Optional[Config] = None) -> datetime.time: ...
-def date_time_from_timestamp(
-    timestamp: int, microsecond: int = 0, config: Optional[Config] = None
-) -> datetime.datetime: ...
 @overload
-def date_time_column(  # type: ignore
-    texts: _NoColumn, config: Optional[Config] = None, *, strict: bool = False, timestamps: bool = False,
-    naive: _Naive = "error", faults: _Faults = "raise", newline: _Newline = "\r\n", empty: _Empty = "error",
-    lines: bool = False
+def date(value: SupportsIndex, *, config: Optional[Config] = None, timestamps: Literal[True]) -> _datetime.date: ...
+@overload
+def date(value: _Text, *, config: Optional[Config] = None, timestamps: bool = False) -> _datetime.date: ...
+def time(value: _Text, *, config: Optional[Config] = None, strict: bool = False) -> _datetime.time: ...
+@overload
+def datetime(
+    value: SupportsIndex, *, config: Optional[Config] = None, timestamps: Literal[True], strict: Literal[False] = False
+) -> _datetime.datetime: ...
+@overload
+def datetime(
+    value: _Text, *, config: Optional[Config] = None, timestamps: bool = False, strict: bool = False
+) -> _datetime.datetime: ...
+def duration(value: _Text, *, config: Optional[Config] = None) -> _datetime.timedelta: ...
+def date_front(text: _Text) -> Tuple[_datetime.date, int]: ...
+def time_front(text: _Text, *, config: Optional[Config] = None) -> Tuple[_datetime.time, int]: ...
+def datetime_front(text: _Text, *, config: Optional[Config] = None) -> Tuple[_datetime.datetime, int]: ...
+@overload
+def datetime_column(  # type: ignore
+    texts: _NoColumn, *, config: Optional[Config] = None, timestamps: bool = False, strict: bool = False,
+    missing_offset: _MissingOffset = "error", refused: _Refused = "stop", empty: _Empty = "error", lines: bool = False
 ) -> None: ...
 @overload
-def date_time_column(
-    texts: _Texts, config: Optional[Config] = None, *, strict: bool = False, timestamps: bool = False,
-    naive: _Naive = "error", faults: _Faults = "raise", newline: _Newline = "\r\n", empty: _Empty = "error",
-    lines: bool = False
-) -> array.array[int]: ...
+def datetime_column(
+    texts: _Texts, *, config: Optional[Config] = None, timestamps: bool = False, strict: bool = False,
+    missing_offset: _MissingOffset = "error", refused: _Refused = "stop", empty: _Empty = "error", lines: bool = False
+) -> Column: ...
 @overload
-def date_time_clock_column(  # type: ignore
-    texts: _NoColumn, config: Optional[Config] = None, *, strict: bool = False, timestamps: bool = False,
-    faults: _Faults = "raise", newline: _Newline = "\r\n", empty: _Empty = "error", lines: bool = False
+def datetime_clock_column(  # type: ignore
+    texts: _NoColumn, *, config: Optional[Config] = None, timestamps: bool = False, strict: bool = False,
+    refused: _Refused = "stop", empty: _Empty = "error", lines: bool = False
 ) -> None: ...
 @overload
-def date_time_clock_column(
-    texts: _Texts, config: Optional[Config] = None, *, strict: bool = False, timestamps: bool = False,
-    faults: _Faults = "raise", newline: _Newline = "\r\n", empty: _Empty = "error", lines: bool = False
-) -> array.array[int]: ...
+def datetime_clock_column(
+    texts: _Texts, *, config: Optional[Config] = None, timestamps: bool = False, strict: bool = False,
+    refused: _Refused = "stop", empty: _Empty = "error", lines: bool = False
+) -> Column: ...
 @overload
-def date_time_offset_column(  # type: ignore
-    texts: _NoColumn, config: Optional[Config] = None, *, strict: bool = False, timestamps: bool = False,
-    faults: _Faults = "raise", newline: _Newline = "\r\n", empty: _Empty = "error", lines: bool = False
+def datetime_offset_column(  # type: ignore
+    texts: _NoColumn, *, config: Optional[Config] = None, timestamps: bool = False, strict: bool = False,
+    refused: _Refused = "stop", empty: _Empty = "error", lines: bool = False
 ) -> None: ...
 @overload
-def date_time_offset_column(
-    texts: _Texts, config: Optional[Config] = None, *, strict: bool = False, timestamps: bool = False,
-    faults: _Faults = "raise", newline: _Newline = "\r\n", empty: _Empty = "error", lines: bool = False
-) -> array.array[int]: ...
+def datetime_offset_column(
+    texts: _Texts, *, config: Optional[Config] = None, timestamps: bool = False, strict: bool = False,
+    refused: _Refused = "stop", empty: _Empty = "error", lines: bool = False
+) -> Column: ...
 @overload
 def date_column(  # type: ignore
-    texts: _NoColumn, config: Optional[Config] = None, *, timestamps: bool = False, faults: _Faults = "raise",
-    newline: _Newline = "\r\n", empty: _Empty = "error", lines: bool = False
+    texts: _NoColumn, *, config: Optional[Config] = None, timestamps: bool = False,
+    refused: _Refused = "stop", empty: _Empty = "error", lines: bool = False
 ) -> None: ...
 @overload
 def date_column(
-    texts: _Texts, config: Optional[Config] = None, *, timestamps: bool = False, faults: _Faults = "raise",
-    newline: _Newline = "\r\n", empty: _Empty = "error", lines: bool = False
-) -> array.array[int]: ...
+    texts: _Texts, *, config: Optional[Config] = None, timestamps: bool = False,
+    refused: _Refused = "stop", empty: _Empty = "error", lines: bool = False
+) -> Column: ...
 @overload
 def time_column(  # type: ignore
-    texts: _NoColumn, config: Optional[Config] = None, *, strict: bool = False, faults: _Faults = "raise",
-    newline: _Newline = "\r\n", empty: _Empty = "error", lines: bool = False
+    texts: _NoColumn, *, config: Optional[Config] = None, strict: bool = False,
+    refused: _Refused = "stop", empty: _Empty = "error", lines: bool = False
 ) -> None: ...
 @overload
 def time_column(
-    texts: _Texts, config: Optional[Config] = None, *, strict: bool = False, faults: _Faults = "raise",
-    newline: _Newline = "\r\n", empty: _Empty = "error", lines: bool = False
-) -> array.array[int]: ...
-@overload
-def time_offset_column(  # type: ignore
-    texts: _NoColumn, config: Optional[Config] = None, *, strict: bool = False, faults: _Faults = "raise",
-    newline: _Newline = "\r\n", empty: _Empty = "error", lines: bool = False
-) -> None: ...
-@overload
-def time_offset_column(
-    texts: _Texts, config: Optional[Config] = None, *, strict: bool = False, faults: _Faults = "raise",
-    newline: _Newline = "\r\n", empty: _Empty = "error", lines: bool = False
-) -> array.array[int]: ...
+    texts: _Texts, *, config: Optional[Config] = None, strict: bool = False,
+    refused: _Refused = "stop", empty: _Empty = "error", lines: bool = False
+) -> Column: ...
 @overload
 def duration_column(  # type: ignore
-    texts: _NoColumn, config: Optional[Config] = None, *, faults: _Faults = "raise", newline: _Newline = "\r\n",
-    empty: _Empty = "error", lines: bool = False
+    texts: _NoColumn, *, config: Optional[Config] = None, refused: _Refused = "stop", empty: _Empty = "error", lines: bool = False
 ) -> None: ...
 @overload
 def duration_column(
-    texts: _Texts, config: Optional[Config] = None, *, faults: _Faults = "raise", newline: _Newline = "\r\n",
-    empty: _Empty = "error", lines: bool = False
-) -> array.array[int]: ...
+    texts: _Texts, *, config: Optional[Config] = None, refused: _Refused = "stop", empty: _Empty = "error", lines: bool = False
+) -> Column: ...
 @overload
-def text_column(numbers: Union[_NoColumn, bytes, bytearray], kind: _Kind) -> None: ...  # type: ignore
+def text_column(numbers: Union[_NoColumn, bytes, bytearray], *, kind: _Kind) -> None: ...  # type: ignore
 @overload
-def text_column(numbers: Iterable[Optional[SupportsIndex]], kind: _Kind) -> bytes: ...
+def text_column(numbers: Iterable[Optional[SupportsIndex]], *, kind: _Kind) -> bytes: ...
 @overload
-def text(value: Union[datetime.date, datetime.time, datetime.timedelta], *, digits: None = None) -> str: ...
+def text_column(numbers: Column, *, kind: Optional[_Kind] = None) -> bytes: ...
 @overload
-def text(value: Union[datetime.datetime, datetime.time], *, digits: Optional[Literal[0, 3, 6]] = None) -> str: ...
-def _words(code: int) -> Tuple[str, str]: ...
-def _found(code: int, source: Optional[_Text], call: int) -> Tuple[Optional[int], Optional[int], str]: ...
+def text(value: Union[_datetime.date, _datetime.time, _datetime.timedelta], *, digits: None = None) -> str: ...
+@overload
+def text(value: Union[_datetime.datetime, _datetime.time], *, digits: Optional[Literal[0, 3, 6]] = None) -> str: ...
+def _names() -> List[str]: ...
+def _found(source: _Text, call: int) -> Tuple[int, int, str, Optional[str]]: ...
+def _refusal(code: int, index: int, source: _Text, call: int) -> ParseError: ...

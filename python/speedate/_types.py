@@ -1,6 +1,6 @@
-"""The configuration and the errors of speedate, and what is rare in its calls.
+"""The classes of speedate, and what is rare in its calls.
 
-They stand apart from the package, so that a package that is loaded once more has the classes that the extension raises and takes.
+They are outside of the package, so that a package that is loaded once more has the classes that the extension raises and takes.
 """
 import datetime
 import math
@@ -9,53 +9,49 @@ import struct
 import sys
 
 
-class Refusal(ValueError):
-    """Why a text, or a number, has no value: a `Fault` or an `Unrepresentable`. Both have the same attributes.
+class ParseError(ValueError):
+    """Why a text has no value, or a number no text.
 
-    - `name`, `code` and `documentation`: of the fault. The `code` is its number in C, and 0 for an `Unrepresentable`, whose
-      text the library accepts.
-    - `text`: what was refused, in a column too: a `str`, otherwise its bytes.
-    - `place` and `end`: the part of the text that is wrong, counted in characters of a `str`, otherwise in bytes. They are
-      equal if the part is missing.
-    - `expected`: what the call expected there, a phrase for people.
-    - `index`: the position of the text in a column, and `None` in any other call. It is not a label of pandas:
-      `frame.iloc[fault.index]` is the row.
-    - `hint`: `None`, or the one thing that is wrong, and what mends it: a byte order mark, a line ending, or an integer
-      among the texts of a column.
+    - `code`: the name of the error, which GRAMMAR.md lists. Two are of values that Python lacks: `year_zero` and
+      `duration_too_small`.
+    - `text`: what was refused: a `str`, otherwise its bytes; the digits of a number.
+    - `start` and `end`: `text[start:end]` is wrong. They are equal if something is missing there.
+    - `expected`: what was expected there, a phrase for people.
+    - `index`: the position of the text in a column, and `None` in other calls. It is not a label of pandas:
+      `frame.iloc[error.index]` is the row.
+    - `hint`: `None`, or what mends the text: a byte order mark, a line ending, or an integer among texts.
 
-    The `text`, `place` and `end` are `None` for a timestamp, and for a refusal that no call raised. For `number_too_large`
-    the `place` and `end` are `None` too. A copy has all of them but the text.
-
-    Its `str` is one line of printable characters, which has the name, the place, what was expected and 60 characters of the
-    text. `message()` has lines for a terminal.
+    `str()` is one line of printable characters, with 60 characters of the text. `message()` has lines for a terminal.
+    A copy, as after pickling, has at most 4,096 characters of the text, and counts its `start` and `end` in these.
 
     >>> for text in ("2021-02-29", "0000-01-01"):
     ...     try:
     ...         date(text)
-    ...     except Refusal as refusal:
-    ...         refusal.name, refusal.code, refusal.text[refusal.place:refusal.end], refusal.expected
-    ('out_of_range_day', 22, '29', 'a day that the month has')
-    ('year_zero', 0, '0000-01-01', 'a year from 0001 to 9999')
+    ...     except ParseError as error:
+    ...         error.code, error.text[error.start:error.end], error.expected
+    ('out_of_range_day', '29', 'a day that the month has')
+    ('year_zero', '0000-01-01', 'a year from 0001 to 9999')
     """
 
     __module__ = "speedate"
-    # What the part is found from, if a call has refused a text: that text, and a number for the call. In the place of the
-    # number are the place, the end and the phrase, once they are found. A copy has these alone.
+    # The text, and a number for the call that refused it. In the place of the number are the start, the end, the phrase and the
+    # hint, once they are found.
     __slots__ = "_source", "_call", "__weakref__"
-    name: str
-    index = hint = None
+    code: str
+    index = None
 
-    def __init__(self, name):
-        super().__init__(name)
-        self.name = name
+    def __init__(self, code, text, start, end, expected, index=None, hint=None):
+        super().__init__(code)
+        self.code, self._source, self._call = code, text, (start, end, expected, hint)
+        if index is not None:
+            self.index = index
 
     @property
     def text(self):
-        source = getattr(self, "_source", None)
-        return source.tobytes() if isinstance(source, memoryview) else source
+        return self._source.tobytes() if isinstance(self._source, memoryview) else self._source
 
     @property
-    def place(self):
+    def start(self):
         return self._part()[0]
 
     @property
@@ -66,25 +62,24 @@ class Refusal(ValueError):
     def expected(self):
         return self._part()[2]
 
-    def _part(self):
-        """The place, the end and what was expected, which are found once."""
-        part = getattr(self, "_call", None)
-        if not isinstance(part, tuple):
-            part = self._call = self._found(part)
-        return part
+    @property
+    def hint(self):
+        return self._part()[3]
 
-    def _named(self):
-        return self.name if self.index is None else f"{self.name} in text {self.index}"
+    def _part(self):
+        """The start, the end, what was expected and the hint, which are found once."""
+        if not isinstance(self._call, tuple):
+            from ._speedate import _found
+
+            self._call = _found(self._source, self._call)
+        return self._call
 
     def _told(self):
-        return f"{self._named()}{'' if self.place is None else f' at {self.place}'}: expected {self.expected}"
+        return f"{self.code}{'' if self.index is None else f' in text {self.index}'} at {self.start}: expected {self.expected}"
 
     def __str__(self):
-        told, text = self._told(), self.text
-        if text is not None:
-            piece, _, before, after = _piece(text, self.place or 0)
-            told = f"{told}: {before}{piece!r}{after}"
-        return told if self.hint is None else f"{told} ({self.hint})"
+        piece, _, before, after = _piece(self.text, self.start)
+        return f"{self._told()}: {before}{piece!r}{after}{'' if self.hint is None else f' ({self.hint})'}"
 
     def message(self):
         """What `str` says, on lines: the text has its own, and below it a line of carets marks the part that is wrong.
@@ -92,87 +87,28 @@ class Refusal(ValueError):
         Of a long text it has 60 characters, and those that a terminal may not show as one are escaped.
 
         >>> try:
-        ...     date_time("2020-02-29T12:60Z")
-        ... except Refusal as refusal:
-        ...     print(refusal.message())
+        ...     datetime("2020-02-29T12:60Z")
+        ... except ParseError as error:
+        ...     print(error.message())
         out_of_range_minute at 14: expected minute, 00 to 59
             2020-02-29T12:60Z
                           ^^
         """
-        lines, text = [self._told()], self.text
-        if text is not None:
-            lines += _marked(text, self.place, self.end)
-        return "\n".join(lines if self.hint is None else [*lines, self.hint])
+        return "\n".join([self._told(), *_marked(self.text, self.start, self.end), *([] if self.hint is None else [self.hint])])
 
     def __reduce__(self):
-        return type(self), self.args, {**vars(self), "_call": self._part()}
+        text, (start, end, expected, hint) = self.text, self._part()
+        first = max(0, min(start - _KEPT // 2, len(text) - _KEPT))
+        kept = _plain_text(text)[first:first + _KEPT]
+        return type(self), (self.code, kept, start - first, min(end - first, len(kept)), expected, self.index, hint), vars(self)
 
 
-class Fault(Refusal):
-    """Why the library refuses a text, or a number. Its attributes are those of a `Refusal`.
-
-    >>> try:
-    ...     time("12:13:60")
-    ... except Fault as fault:
-    ...     fault.name, fault.code, fault.documentation, fault.place
-    ('out_of_range_second', 25, 'second value is outside expected range of 0-59', 6)
-    >>> try:
-    ...     date("2020-02-29T12:13")
-    ... except Fault as fault:
-    ...     fault.expected, fault.text[fault.place:fault.end]
-    ('nothing more', 'T12:13')
-    >>> Fault(23), Fault(23, 1000)
-    (<Fault out_of_range_hour>, <Fault out_of_range_hour in text 1000>)
-    >>> date_column(["1970-01-01\\n"])
-    Traceback (most recent call last):
-    speedate.Fault: extra_characters in text 0 at 10: expected nothing more: '1970-01-01\\n' (it has a line ending, which lines=True drops)
-    """
-
-    __module__ = "speedate"
-    __slots__ = ()
-    code: int
-    name: str
-    documentation: str
-
-    def __init__(self, code, index=None):
-        from ._speedate import _words
-
-        self.code = _integer("code", code, 0, 2**31 - 1)
-        if index is not None:
-            self.index = _integer("index", index, 0, sys.maxsize)
-        self.name, self.documentation = _words(self.code)
-        ValueError.__init__(self, *(it for it in (self.code, self.index) if it is not None))
-
-    def _found(self, call):
-        from ._speedate import _found
-
-        if call is not None:
-            return _found(self.code, self._source, call)
-        # That of the library is about the text of a duration.
-        return (None, None, "a number that fits 64 bits, or 32 if it counts days") if self.name == "number_too_large" else _found(self.code, None, 0)
-
-    def __repr__(self):
-        return f"<{type(self).__name__} {self._named()}>"
+_KEPT = 4096  # characters of a text in a copy of an error, or bytes
 
 
-class Unrepresentable(Refusal):
-    """A value that the library has and Python has not: its `name` is `year_zero` or `duration_too_small`.
-
-    Its other attributes are those of a `Refusal`. The part that is wrong is the whole value.
-
-    >>> date("0000-01-01")
-    Traceback (most recent call last):
-    speedate.Unrepresentable: year_zero at 0: expected a year from 0001 to 9999: '0000-01-01'
-    """
-
-    __module__ = "speedate"
-    __slots__ = ()
-    code = 0
-    documentation = "Python has no such value"
-
-    def _found(self, end):
-        expected = {"year_zero": "a year from 0001 to 9999", "duration_too_small": "a duration of at least -999999999 days"}
-        return (None if end is None else 0), end, expected.get(self.name, "a value that Python has")
+def _plain_text(text):
+    """The text, of which no method is called that a subclass may have."""
+    return (str if isinstance(text, str) else bytes).__getitem__(text, slice(None))
 
 
 _SHOWN = 60  # characters of a text, or bytes
@@ -180,8 +116,7 @@ _SHOWN = 60  # characters of a text, or bytes
 
 def _piece(text, place):
     """What is shown of a text, around a place, where it begins, and the marks of what is cut off before and after it."""
-    # No method is called that a subclass may have.
-    text = (str if isinstance(text, str) else bytes).__getitem__(text, slice(None))
+    text = _plain_text(text)
     start = max(0, min(place - _SHOWN // 2, len(text) - _SHOWN))
     return text[start:start + _SHOWN], start, ".." * (start > 0), ".." * (len(text) > start + _SHOWN)
 
@@ -192,13 +127,107 @@ def _escaped(text):
 
 
 def _marked(text, place, end):
-    """The line of a text, and one with carets below the part from a place to an end, if there is one."""
-    piece, start, before, after = _piece(text, place or 0)
-    line = f"    {before}{_escaped(piece)}{after}"
-    if place is None:
-        return [line]
+    """The line of a text, and one with carets below the part from a place to an end."""
+    piece, start, before, after = _piece(text, place)
     left, part = _escaped(piece[:place - start]), _escaped(piece[place - start:max(0, end - start)])
-    return [line, " " * (4 + len(before) + len(left)) + "^" * max(1, len(part))]
+    return [f"    {before}{_escaped(piece)}{after}", " " * (4 + len(before) + len(left)) + "^" * max(1, len(part))]
+
+
+class Refused:
+    """The errors of a column, in order: a sequence of `ParseError`. Each is made when it is read.
+
+    - `indices`: the positions of the texts in the column, an `array.array("q")`
+    - `codes`: the names of the errors, a list
+    """
+
+    __module__ = "speedate"
+    __slots__ = "indices", "_codes", "_texts", "_call"
+
+    def __init__(self, indices=(), codes=(), texts=(), call=0):
+        self.indices, self._codes, self._texts, self._call = indices, codes, texts, call
+
+    def __len__(self):
+        return len(self._texts)
+
+    def __getitem__(self, place):
+        from ._speedate import _refusal
+
+        if isinstance(place, slice):
+            return [self[it] for it in range(len(self))[place]]
+        return _refusal(self._codes[place], self.indices[place], self._texts[place], self._call)
+
+    @property
+    def codes(self):
+        from ._speedate import _names
+
+        names = _names()
+        return [names[it & 127] for it in self._codes]
+
+    def __reduce__(self):
+        texts = [it.tobytes() if isinstance(it, memoryview) else it for it in self._texts]
+        return type(self), (self.indices, self._codes, texts, self._call)
+
+    def __repr__(self):
+        return f"<{len(self)} refused texts>"
+
+
+class Column:
+    """The numbers of the texts of a column, in the unit of its `kind`. -2**63 stands for a text that is missing or refused.
+
+    - `kind`: `date` (days from 1970-01-01), `datetime` and `datetime_clock` (microseconds from 1970-01-01T00:00), `time`
+      (microseconds from midnight), `duration` (microseconds) or `datetime_offset` (seconds)
+    - `numbers`: the numbers, an `array.array("q")`, whose memory other programs can read
+    - `refused`: the errors of the texts that were refused, if the call was asked to collect them
+
+    `numpy.asarray(column)` has the numbers as `datetime64` or `timedelta64`, with NaT, without a copy. So has a column of pandas.
+
+    >>> column = date_column(["1970-01-02", "never"], refused="collect")
+    >>> column, column.refused.indices, column.refused.codes
+    (Column('date', [1, -9223372036854775808]), array('q', [1]), ['too_short'])
+    >>> print(*column.refused)
+    too_short in text 1 at 5: expected a date: YYYY-MM-DD: 'never'
+    """
+
+    __module__ = "speedate"
+    __slots__ = "kind", "numbers", "refused"
+
+    def __init__(self, kind, numbers, refused=Refused()):
+        self.kind, self.numbers, self.refused = kind, numbers, refused
+
+    def __len__(self):
+        return len(self.numbers)
+
+    def __getitem__(self, place):
+        return self.numbers[place]
+
+    def __iter__(self):
+        return iter(self.numbers)
+
+    def __eq__(self, other):
+        return (self.kind, self.numbers) == (other.kind, other.numbers) if isinstance(other, Column) else NotImplemented
+
+    __hash__ = None
+
+    def tolist(self):
+        """The numbers, as a list."""
+        return self.numbers.tolist()
+
+    def __array__(self, dtype=None, copy=None):
+        import numpy
+
+        # pandas 1.5 writes into the times that it is given.
+        times = numpy.frombuffer(memoryview(self.numbers).toreadonly(), _UNITS[self.kind])
+        if copy is False and dtype not in (None, times.dtype):
+            raise ValueError(f"a column of {times.dtype} has {dtype} only in a copy")
+        return times.astype(times.dtype if dtype is None else dtype, copy=bool(copy))
+
+    def __repr__(self):
+        rest = f", .. {len(self) - 10} more" if len(self) > 10 else ""
+        return f"{type(self).__name__}({self.kind!r}, [{', '.join(map(str, self.numbers[:10]))}{rest}])"
+
+
+_UNITS = {"date": "datetime64[D]", "datetime": "datetime64[us]", "datetime_clock": "datetime64[us]", "time": "timedelta64[us]",
+          "duration": "timedelta64[us]", "datetime_offset": "timedelta64[s]"}
 
 
 def _wrong(name, value, *kinds):
@@ -216,26 +245,28 @@ def _integer(name, value, low, high):
 
 
 def _whole(name, index, value):
-    """An integer of any size in a column."""
-    return _integer(f"{name} {index}", value, -math.inf, math.inf)
+    """An integer of any size, in a column if its index is not negative."""
+    return _integer(name if index < 0 else f"{name} {index}", value, -math.inf, math.inf)
 
 
-def _wrong_item(index, item, reads_timestamps):
-    """The error of an item of a column that is no text, and what mends it for a number with a point."""
-    cure = ': in pandas astype("Int64") makes integers of floats, which timestamps=True reads' if reads_timestamps and _is_float(item) else ""
-    return TypeError(f"{_wrong(f'text {index}', item, str, bytes, bytearray, memoryview)}{cure}")
+def _wrong_text(index, item, can_read_timestamps):
+    """The error of what is no text, in a column if its index is not negative, and what mends it."""
+    cure = ""
+    if index < 0 and can_read_timestamps and type(item) is not bool and hasattr(item, "__index__"):
+        cure = ": timestamps=True reads integers"
+    elif index >= 0 and can_read_timestamps and (isinstance(item, float) or type(item).__name__.startswith("float")):
+        cure = ': in pandas astype("Int64") makes integers of floats, which timestamps=True reads'
+    elif isinstance(item, (datetime.date, datetime.time, datetime.timedelta)) or type(item).__name__ in ("datetime64", "timedelta64"):
+        cure = ": it is parsed already"
+    return TypeError(f"{_wrong('text' if index < 0 else f'text {index}', item, str, bytes, bytearray, memoryview)}{cure}")
 
 
-def _is_float(item):
-    return isinstance(item, float) or type(item).__name__.startswith("float")
-
-
-def _digits(index, item, reads_timestamps):
-    """The text of an integer in a column that reads no timestamps."""
+def _digits(index, item, can_read_timestamps):
+    """The text of an integer."""
     try:
         number = _integer("text", item, -math.inf, math.inf)
     except TypeError:
-        raise _wrong_item(index, item, reads_timestamps) from None
+        raise _wrong_text(index, item, can_read_timestamps) from None
     try:
         return str(number)
     except ValueError:  # Python prints no more than 4,300 decimal digits.
@@ -247,7 +278,7 @@ def _choice(name, value, *choices):
     if not isinstance(value, str):
         raise _wrong(name, value, str)
     if value not in choices:
-        raise ValueError(f"{name} has to be {' or '.join(it if it.isprintable() else repr(it) for it in choices)}")
+        raise ValueError(f"{name} has to be {' or '.join(choices)}")
     return choices.index(value)
 
 
@@ -263,7 +294,7 @@ class Config:
     - `iso_order`: the components of an ISO 8601 duration come in any order with `lax`, the default. With `strict` they
       come in the order of the standard, each at most once.
 
-    >>> time("12:13:14.123456789", Config(overflow_behavior="truncate"))
+    >>> time("12:13:14.123456789", config=Config(overflow_behavior="truncate"))
     datetime.time(12, 13, 14, 123456)
     """
 
@@ -341,42 +372,51 @@ def _turn():
     """CPython lets another thread run when a function begins, if that has waited long enough."""
 
 
-def _check_column(name, values):
+def _checked(name, values):
+    """What iterates over the items of one column. What is masked is missing."""
     from collections.abc import Mapping
 
     if isinstance(values, Mapping) or hasattr(values, "columns"):
         raise TypeError(f"{name} has to be one column, not {type(values).__name__}: pass its values, or one of its columns")
+    values = values.to_numpy() if _is_of_pandas(values) and values.dtype.kind in "Oiu" else values
+    of_numpy = getattr(values, "dtype", None)
+    if of_numpy is not None and of_numpy.itemsize > 1 and getattr(values, "ndim", 1) != 1:
+        raise TypeError(f"{name} has to be one column, not an array of {values.ndim} dimensions: pass values[:, 0], or values.ravel()")
+    return values.astype(object).filled(None) if hasattr(values, "filled") else values
 
 
 def _items(texts):
-    """The items of what is no bytes, and whether they are lines of a file. It refuses what has other items than texts."""
+    """What iterates over texts, or has bytes or integers in memory, and whether the items are lines of a file."""
     if isinstance(texts, str):
         raise TypeError(f"texts has to be an iterable of texts, a file, or bytes, not {type(texts).__name__}")
-    _check_column("texts", texts)
-    return _values(texts), hasattr(texts, "readline")
+    values = _checked("texts", texts)
+    kind = getattr(getattr(values, "dtype", None), "kind", "")
+    if values is not texts and kind in ("i", "u") and values.dtype.itemsize == 1:
+        raise TypeError(f'texts has integers of one byte, which are texts in memory: astype("int64") makes integers of a {type(texts).__name__} of {values.dtype}')
+    if kind in ("S", "U"):
+        # An iteration over such an array makes an object of NumPy for each item, which takes longer.
+        from itertools import chain
+
+        values = chain.from_iterable(values[it:it + 1024].tolist() for it in range(0, len(values), 1024))
+    return values, hasattr(texts, "readline")
 
 
 def _numbers_of(numbers, kind):
-    """The integers that a column is printed from: those that an array of NumPy counts its times in, if it has the unit."""
+    """The integers that a column is printed from, and its kind."""
+    if isinstance(numbers, Column):
+        if kind not in (None, numbers.kind):
+            raise ValueError(f"the column is of kind {numbers.kind}, not {kind}")
+        return numbers.numbers, numbers.kind
+    if kind is None:
+        raise TypeError("text_column() needs the kind of numbers that are not a Column")
     if isinstance(numbers, (str, bytes, bytearray)):
         raise TypeError(f"numbers has to be an iterable of integers, not {type(numbers).__name__}")
-    _check_column("numbers", numbers)
-    numbers = numbers.to_numpy() if _is_of_pandas(numbers) else numbers
-    of_numpy = getattr(numbers, "dtype", None)
+    values = _checked("numbers", numbers)
+    of_numpy, unit = getattr(values, "dtype", None), _UNITS.get(kind)
     if getattr(of_numpy, "kind", "") not in ("m", "M"):
-        return numbers
-    unit = {"date": "datetime64[D]", "time": "timedelta64[us]", "duration": "timedelta64[us]"}.get(kind, "datetime64[us]")
-    if of_numpy != unit:
-        raise TypeError(f'numbers has to be of {unit}, not {of_numpy}: astype("{unit}") makes it so')
-    return numbers.view("int64")
-
-
-def _values(texts):
-    """Of a column of pandas with objects or integers its array, over which an iteration takes less time; or the texts."""
-    if _is_of_pandas(texts):
-        values = texts.to_numpy()
-        if values.dtype.kind in "iu" and values.dtype.itemsize == 1:
-            raise TypeError(f'texts has integers of one byte, which are texts in memory: astype("int64") makes integers of a {type(texts).__name__} of {values.dtype}')
-        if values.dtype.kind in "Oiu":
-            return values
-    return texts
+        return values, kind
+    if of_numpy == unit:
+        return values.to_numpy().view("int64") if _is_of_pandas(values) else values.view("int64"), kind
+    zone = f"{'.dt' * hasattr(values, 'dt')}.tz_convert(None)" if hasattr(of_numpy, "tz") else ""
+    cure = f'{zone}.to_numpy("{unit}")' if _is_of_pandas(values) else f'astype("{unit}")'
+    raise TypeError(f"numbers has to be of {unit}, not {of_numpy}: {cure} makes it so")

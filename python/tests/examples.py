@@ -5,7 +5,6 @@ What reads a frame of pandas runs on one that is sorted, on one that is filtered
 file with each word that pandas takes for a missing value. A block whose modules are not there is left out, and a line says
 so. So is the table of what other calls do with some cells, for another version of pandas than the one that it names.
 """
-import array
 import datetime
 import functools
 import pathlib
@@ -32,8 +31,11 @@ CASES = {
         "rows", "[3, 5]"),
     "csv.DictReader": ("import csv; file = pathlib.Path('payments.csv'); file.write_text('\\ufeff' + ''.join(file.open().readlines()[:4]))", "list(column)", "[1793520000000000, -2**63, 1793608200000000]"),
     "days.csv": (
-        "import numpy; pathlib.Path('days.csv').write_text('name,day\\nrent,2026-11-01\\nfood,\\nlamp,1970-01-02\\n')", "frame['day'].tolist()",
+        "import pandas; pathlib.Path('days.csv').write_text('name,day\\nrent,2026-11-01\\nfood,\\nlamp,1970-01-02\\n')", "frame['day'].tolist()",
         "[pandas.Timestamp('2026-11-01'), pandas.NaT, pandas.Timestamp('1970-01-02')]"),
+    "multiprocessing": (
+        "import functools, multiprocessing", "[(it.tolist(), [error.text for error in it.refused]) for it in columns]",
+        "[(it.tolist(), [error.text for error in it.refused]) for it in map(read, [chunk['moment'] for chunk in pandas.read_csv('payments.csv', dtype=str, keep_default_na=False, chunksize=100_000)])]"),
     "opens": (
         "import numpy; opens = ['2026-11-27T09:00:00+05:30', '2026-11-27T08:30:00.5Z', None, '2026-11-27T10:00']",
         "[str(it) for it in moments]", "['2026-11-27T03:30:00.000000', '2026-11-27T08:30:00.500000', 'NaT', 'NaT']"),
@@ -62,7 +64,7 @@ def check_refused(frame, refused, accepted):
     """The rows of a frame that are refused have their labels."""
     wanted = frame["moment"][~frame["moment"].isin(accepted)]
     assert refused.index.tolist() == wanted.index.tolist() and refused["text"].tolist() == wanted.tolist(), (refused, wanted)
-    parts = [(text, text[place:end]) for text, place, end in zip(refused["text"], refused["place"], refused["end"])]
+    parts = [(text, text[place:end]) for text, place, end in zip(refused["text"], refused["start"], refused["end"])]
     assert all(part == "30" for text, part in parts if text.startswith("2021-02-30")), parts
 
 
@@ -129,7 +131,7 @@ def way(call):
         return "error"
     if getattr(told, "dtype", None) == object:
         return "objects"
-    if isinstance(told, array.array):
+    if isinstance(told, speedate.Column):
         return "NaT" if told[-1] == -(2**63) else "accepted"
     last = list(told)[-1]
     if last is pandas.NaT:
@@ -170,9 +172,9 @@ def rows_of(text, head):
 def what_becomes(item, **named):
     """What a column does with an item, in a word of the table."""
     try:
-        [number] = speedate.date_time_column([item], **named)
-    except speedate.Refusal as refusal:
-        return f"`{refusal.name}`"
+        [number] = speedate.datetime_column([item], **named)
+    except speedate.ParseError as error:
+        return f"`{error.code}`"
     except TypeError:
         return "`TypeError`"
     return "NaT" if number == -(2**63) else "accepted"
@@ -196,7 +198,7 @@ def check_mended(document):
     """The table of what other programs print: each text is refused, and the line makes the moment of it."""
     for printer, text, line in rows_of(document, "Printed by"):
         text, wanted = text.strip("`"), datetime.datetime(2026, 11, 1, 0 if "midnight" in printer else 8, tzinfo=datetime.timezone.utc)
-        assert what_becomes(text).startswith("`") and speedate.date_time(eval(line.strip("`"), {"text": text, "re": re})) == wanted, printer
+        assert what_becomes(text).startswith("`") and speedate.datetime(eval(line.strip("`"), {"text": text, "re": re})) == wanted, printer
 
 
 def read_by(call, given):

@@ -1,19 +1,19 @@
 """The calls of the module in another way: by `ctypes`, over the shared library that bin/build_python leaves in out/.
 
 It has the same calls, errors and words, and nothing in common with the extension but the library and the checks of
-arguments that are written in Python: the second opinion in tests. `Config` and the errors are its own.
+arguments that are written in Python: the second opinion in tests. `Config`, `Column` and `ParseError` are its own.
 """
 import array
 import ctypes
 import dataclasses
-import datetime
+import datetime as _datetime
 import functools
 import io
 import itertools
 import pathlib
 import struct
 
-from speedate._types import _FIELDS, _choice, _digits, _integer, _items, _missing, _numbers_of, _plain, _whole, _wrong, _wrong_item
+from speedate._types import _FIELDS, _UNITS, _choice, _digits, _integer, _items, _missing, _plain, _whole, _wrong, _wrong_text
 
 
 MARK = b"\xef\xbb\xbf"
@@ -33,44 +33,42 @@ def _shown(text, place):
     return f"{'..' if first else ''}{text[first:first + 60]!r}{'..' if first + 60 < len(text) else ''}"
 
 
-class Refusal(ValueError):
-    __slots__ = "place", "text", "kind"  # no attributes of vars()
-
-    def __str__(self):
-        index, hint = getattr(self, "index", None), getattr(self, "hint", None)
-        words = [self.name, *([] if index is None else ["in text", index]), *([] if self.place is None else ["at", self.place])]
-        told = f"{' '.join(map(str, words))}: expected {self.expected()}"
-        return told + ("" if self.text is None else f": {_shown(self.text, self.place or 0)}") + (f" ({hint})" if hint else "")
+NUMBER_TOO_LARGE, TZ_REQUIRED = 97, 19
+# The codes of values that Python lacks, and what is expected of these.
+YEAR_ZERO, DURATION_TOO_SMALL = "year_zero", "duration_too_small"
+LACKING = {YEAR_ZERO: "a year from 0001 to 9999", DURATION_TOO_SMALL: "a duration of at least -999999999 days"}
 
 
-class Fault(Refusal):
-    __slots__ = ()
-    index = hint = None
+class ParseError(ValueError):
+    """An error by its number in C, or by the name of one of Python only."""
 
-    def __init__(self, code, index=None):
-        self.place = self.text = None
-        self.kind = 0
-        self.code = _integer("code", code, 0, 2**31 - 1)
-        self.name, self.documentation = _words(self.code)
-        super().__init__(*[self.code, index][: 1 if index is None else 2])
+    __slots__ = "number", "text", "start", "end", "expected", "hint"  # no attributes of vars()
+
+    def __init__(self, number, index=None):
+        self.number, self.code = number, number if number in LACKING else _name(number)
+        self.hint = None
+        super().__init__(self.code)
         if index is not None:
             self.index = index
 
-    def expected(self):
-        if self.name == "number_too_large" and self.text is None:
-            return "a number that fits 64 bits, or 32 if it counts days"
-        return _expected(self.code, self.kind)
+    def of(self, text, start, end, expected, hint=None):
+        self.text, self.start, self.end, self.expected, self.hint = text, start, end, expected, hint
+        return self
+
+    def __str__(self):
+        index = getattr(self, "index", None)
+        words = [self.code, *([] if index is None else ["in text", index]), "at", self.start]
+        return f"{' '.join(map(str, words))}: expected {self.expected}: {_shown(self.text, self.start)}" + (f" ({self.hint})" if self.hint else "")
 
 
-class Unrepresentable(Refusal):
-    __slots__ = ()
+@dataclasses.dataclass
+class Column:
+    kind: str
+    numbers: array.array
+    refused: list
 
-    def __init__(self, name):
-        super().__init__(name)
-        self.name, self.place, self.text = name, None, None
-
-    def expected(self):
-        return {"year_zero": "a year from 0001 to 9999", "duration_too_small": "a duration of at least -999999999 days"}[self.name]
+    def __iter__(self):
+        return iter(self.numbers)
 
 
 # ---- The library: the structs and calls of its header ----
@@ -88,8 +86,8 @@ class _Date(ctypes.Structure):
     def value(self):
         year, month, day = self.numbers(self)
         if year == 0:
-            raise Unrepresentable("year_zero")
-        return datetime.date(year, month, day)
+            raise ParseError(YEAR_ZERO)
+        return _datetime.date(year, month, day)
 
 
 class _Time(ctypes.Structure):
@@ -99,7 +97,7 @@ class _Time(ctypes.Structure):
 
     def value(self):
         hour, minute, second, has_offset, microsecond, offset = self.numbers(self)
-        return datetime.time(hour, minute, second, microsecond, _zone(offset) if has_offset else None)
+        return _datetime.time(hour, minute, second, microsecond, _zone(offset) if has_offset else None)
 
 
 class _DateTime(ctypes.Structure):
@@ -109,9 +107,9 @@ class _DateTime(ctypes.Structure):
     def value(self):
         year, month, day, hour, minute, second, has_offset, microsecond, offset = self.numbers(self)
         if year == 0:
-            raise Unrepresentable("year_zero")
+            raise ParseError(YEAR_ZERO)
         zone = _zone(offset) if has_offset else None
-        return datetime.datetime(year, month, day, hour, minute, second, microsecond, zone)
+        return _datetime.datetime(year, month, day, hour, minute, second, microsecond, zone)
 
 
 class _Duration(ctypes.Structure):
@@ -120,16 +118,16 @@ class _Duration(ctypes.Structure):
 
     def value(self):
         negative, day, second, microsecond = self.numbers(self)
-        size = datetime.timedelta(day, second, microsecond)
+        size = _datetime.timedelta(day, second, microsecond)
         try:
             return -size if negative else size
         except OverflowError:
-            raise Unrepresentable("duration_too_small") from None
+            raise ParseError(DURATION_TOO_SMALL) from None
 
 
 @functools.lru_cache(maxsize=None)
 def _zone(offset):
-    return datetime.timezone(datetime.timedelta(seconds=offset))
+    return _datetime.timezone(_datetime.timedelta(seconds=offset))
 
 
 _TEXT = [ctypes.c_char_p, ctypes.c_size_t]
@@ -144,7 +142,6 @@ class _Part(ctypes.Structure):
 _TO_DATE, _TO_TIME, _TO_DATE_TIME, _TO_DURATION = map(ctypes.POINTER, (_Date, _Time, _DateTime, _Duration))
 _CALLS = {
     "code_name": [ctypes.c_int, *_PRINTED],
-    "code_documentation": [ctypes.c_int, *_PRINTED],
     "date_parse": [*_TEXT, _Config, _TO_DATE],
     "date_parse_text": [*_TEXT, _TO_DATE],
     "date_parse_front": [*_TEXT, _TO_DATE, _SIZE],
@@ -190,13 +187,13 @@ def _printed(call, value, *digits):
     buffer = _Buffer()
     code = call(value, *digits, buffer, len(buffer), ctypes.c_size_t())
     if code:
-        raise Fault(code)
+        raise ParseError(code)
     return buffer.value.decode("ascii")
 
 
 @functools.lru_cache(maxsize=None)
-def _words(code):
-    return _printed(_library.speedate_code_name, code), _printed(_library.speedate_code_documentation, code)
+def _name(number):
+    return _printed(_library.speedate_code_name, number)
 
 
 @functools.lru_cache(maxsize=None)
@@ -259,22 +256,15 @@ def _configured(config, read=()):
         raise _wrong("config", config, Config)
     for name in _OF_TIMESTAMPS:
         if name not in read and getattr(config, name) != getattr(_DEFAULT, name):
-            raise TypeError(f"config has a {name}, which is not read here: date and date_time do with timestamps=True")
+            raise TypeError(f"config has a {name}, which is not read here: date and datetime do with timestamps=True")
     return config._numbers
 
 
 # ---- Calls ----
 
 
-def _value(out, code):
-    """The value that a call has written."""
-    if code:
-        raise Fault(code)
-    return out.value()
-
-
 def _kept(text):
-    """What a refusal has as its text: a str or bytes as it is, otherwise the bytes."""
+    """What an error has as its text: a str or bytes as it is, otherwise the bytes."""
     return text if isinstance(text, (str, bytes)) else _bytes(text)
 
 
@@ -283,6 +273,11 @@ def _counted(text, place):
     if not isinstance(text, str):
         return place
     return sum(it <= place for it in itertools.accumulate(len(it.encode("utf-8", "surrogatepass")) for it in text))
+
+
+def _end(text, end):
+    """The end of a part, which is within no character."""
+    return len(_bytes(text)[:end].decode("utf-8", "surrogatepass")) if isinstance(text, str) else end
 
 
 def _outs(call):
@@ -297,25 +292,23 @@ def _parsed_or_part(call, whole, *numbers):
     return other(whole, len(whole), *numbers, *_outs(call), part), part
 
 
-def _fault(call, code, text, *numbers):
-    """The fault of a text, with its place, and a hint if nothing but a byte order mark refuses it."""
-    fault, whole = Fault(code), _bytes(text)
+def _error(call, code, text, *numbers):
+    """The error of a text, with its part, and a hint if nothing but a byte order mark refuses it."""
+    whole, hint = _bytes(text), None
     told, part = _parsed_or_part(call, whole, *numbers)
     assert told == code
-    fault.place, fault.text, fault.kind = _counted(text, part.place), _kept(text), part.kind
     if whole.startswith(MARK):
         if call(whole[3:], len(whole) - 3, *numbers, *_outs(call)) == 0:
-            fault.hint = MARK_WORDS[isinstance(text, str)]
-    return fault
+            hint = MARK_WORDS[isinstance(text, str)]
+    return ParseError(code).of(_kept(text), _counted(text, part.place), _end(text, part.end), _expected(code, part.kind), hint)
 
 
-def _value_of_text(out, text):
-    """The value that a call has written, of a text."""
+def _value_of_text(out, text, size):
+    """The value that a call has written, of the front of a text."""
     try:
         return out.value()
-    except Unrepresentable as error:
-        error.place, error.text = 0, _kept(text)
-        raise
+    except ParseError as error:
+        raise error.of(_kept(text), 0, size, LACKING[error.code])
 
 
 def _read_text(call, out, text, *numbers):
@@ -323,13 +316,8 @@ def _read_text(call, out, text, *numbers):
     whole = _bytes(text)
     code = call(whole, len(whole), *numbers, out)
     if code:
-        raise _fault(call, code, text, *numbers)
-    return _value_of_text(out, text)
-
-
-def _read(call, out, text, config, read=()):
-    _bytes(text)
-    return _read_text(call, out, text, _configured(config, read))
+        raise _error(call, code, text, *numbers)
+    return _value_of_text(out, text, _end(text, len(whole)))
 
 
 def _read_front(call, out, text, *numbers):
@@ -337,70 +325,83 @@ def _read_front(call, out, text, *numbers):
     whole, size = _bytes(text), ctypes.c_size_t()
     code = call(whole, len(whole), *numbers, out, size)
     if code:
-        raise _fault(call, code, text, *numbers)
-    value = _value_of_text(out, text)
-    return value, len(whole[: size.value].decode()) if isinstance(text, str) else size.value
+        raise _error(call, code, text, *numbers)
+    return _value_of_text(out, text, _end(text, size.value)), _end(text, size.value)
 
 
-def date(text, config=None, *, timestamps=False):
-    if timestamps is False:
-        _bytes(text), _configured(config)
-        return _read_text(_library.speedate_date_parse_text, _Date(), text)
-    _flag("timestamps", timestamps)
-    return _read(_library.speedate_date_parse, _Date(), text, config, _OF_TIMESTAMPS)
+def _read_integer(call, out, kind, value, *numbers):
+    """The value of a timestamp."""
+    whole, digits = _whole("value", -1, value), _digits(-1, value, True)
+    code = call(whole, *numbers, out) if -(2**63) <= whole < 2**63 else NUMBER_TOO_LARGE
+    if code:
+        raise ParseError(code).of(digits, 0, len(digits), _expected_of_integer(code, kind))
+    return _value_of_text(out, digits, len(digits))
 
 
-def time(text, config=None):
-    return _read(_library.speedate_time_parse, _Time(), text, config)
+def _expected_of_integer(code, kind):
+    return "a number that fits 64 bits" if code == NUMBER_TOO_LARGE else _expected(code, kind)
 
 
-def date_time(text, config=None, *, timestamps=False):
-    if timestamps is False:
-        return _read(_library.speedate_datetime_parse_text, _DateTime(), text, config)
-    _flag("timestamps", timestamps)
-    return _read(_library.speedate_datetime_parse, _DateTime(), text, config, _OF_TIMESTAMPS)
+def _is_text(value):
+    return isinstance(value, (str, bytes, bytearray, memoryview))
 
 
-def duration(text, config=None):
-    return _read(_library.speedate_duration_parse, _Duration(), text, config)
+def _form(timestamps, strict):
+    """What is added to the name of a parser of C."""
+    _flag("timestamps", timestamps), _flag("strict", strict)
+    if strict and timestamps:
+        raise ValueError("strict and timestamps exclude each other")
+    return "_strict" if strict else "" if timestamps else "_text"
 
 
-def time_strict(text, config=None):
-    return _read(_library.speedate_time_parse_strict, _Time(), text, config)
+def _check_text(value, timestamps, can_read_timestamps):
+    if not _is_text(value) and not (timestamps and hasattr(type(value), "__index__")):
+        raise _wrong_text(-1, value, can_read_timestamps)
 
 
-def date_time_strict(text, config=None):
-    return _read(_library.speedate_datetime_parse_strict, _DateTime(), text, config)
+def date(value, *, config=None, timestamps=False):
+    form = _form(timestamps, False)
+    _check_text(value, timestamps, True)
+    _is_text(value) and _bytes(value)
+    numbers = _configured(config, _OF_TIMESTAMPS if timestamps else ())
+    if not _is_text(value):
+        return _read_integer(lambda it, numbers, out: _library.speedate_date_from_timestamp(it, 1, numbers, out), _Date(), 2, value, numbers)
+    return _read_text(getattr(_library, f"speedate_date_parse{form}"), _Date(), value, *[numbers] * timestamps)
+
+
+def time(value, *, config=None, strict=False):
+    form = _form(False, strict).replace("_text", "")
+    _check_text(value, False, False)
+    _bytes(value)
+    return _read_text(getattr(_library, f"speedate_time_parse{form}"), _Time(), value, _configured(config))
+
+
+def datetime(value, *, config=None, timestamps=False, strict=False):
+    form = _form(timestamps, strict)
+    _check_text(value, timestamps, True)
+    _is_text(value) and _bytes(value)
+    numbers = _configured(config, _OF_TIMESTAMPS if timestamps else ())
+    if not _is_text(value):
+        return _read_integer(lambda it, numbers, out: _library.speedate_datetime_from_timestamp(it, 0, numbers, out), _DateTime(), 6, value, numbers)
+    return _read_text(getattr(_library, f"speedate_datetime_parse{form}"), _DateTime(), value, numbers)
+
+
+def duration(value, *, config=None):
+    _check_text(value, False, False)
+    _bytes(value)
+    return _read_text(_library.speedate_duration_parse, _Duration(), value, _configured(config))
 
 
 def date_front(text):
     return _read_front(_library.speedate_date_parse_front, _Date(), text)
 
 
-def time_front(text, config=None):
+def time_front(text, *, config=None):
     return _read_front(_library.speedate_time_parse_front, _Time(), text, _configured(config))
 
 
-def date_time_front(text, config=None):
+def datetime_front(text, *, config=None):
     return _read_front(_library.speedate_datetime_parse_front, _DateTime(), text, _configured(config))
-
-
-def date_from_timestamp(timestamp, config=None, *, exact=True):
-    timestamp, out = _integer("timestamp", timestamp, -(2**63), 2**63 - 1), _Date()
-    exact, numbers = _flag("exact", exact), _configured(config, _OF_TIMESTAMPS)
-    return _value(out, _library.speedate_date_from_timestamp(timestamp, exact, numbers, out))
-
-
-def time_from_timestamp(second, microsecond=0, config=None):
-    second, microsecond = _integer("second", second, 0, 2**32 - 1), _integer("microsecond", microsecond, 0, 2**32 - 1)
-    numbers, out = _configured(config, ["timestamp_offset"]), _Time()
-    return _value(out, _library.speedate_time_from_timestamp(second, microsecond, numbers, out))
-
-
-def date_time_from_timestamp(timestamp, microsecond=0, config=None):
-    timestamp, out = _integer("timestamp", timestamp, -(2**63), 2**63 - 1), _DateTime()
-    microsecond, numbers = _integer("microsecond", microsecond, 0, 2**32 - 1), _configured(config, _OF_TIMESTAMPS)
-    return _value(out, _library.speedate_datetime_from_timestamp(timestamp, microsecond, numbers, out))
 
 
 def _view(texts):
@@ -419,18 +420,24 @@ def _cut(line, ends):
     return line
 
 
-def _lines(texts, ends, lines):
+ENDS = [b"\n", b"\r"]
+
+
+def _lines(texts, lines):
     """The texts of a column, and whether each is a line, without its ends."""
-    view = None if isinstance(texts, (bytes, bytearray)) else _view(texts)
-    if view is not None or isinstance(texts, (bytes, bytearray)):
-        texts = io.BytesIO(view.tobytes() if view is not None else _bytes(texts))
-    are_lines = _items(texts)[1] or lines
+    if isinstance(texts, (bytes, bytearray)):
+        texts = io.BytesIO(_bytes(texts))
+    elif not isinstance(texts, (list, tuple)):
+        items, is_file = _items(texts)
+        view = _view(items)
+        texts, lines = (items, lines or is_file) if view is None else (io.BytesIO(view.tobytes()), True)
+    are_lines = lines or isinstance(texts, io.BytesIO)
     for it in texts:
         if are_lines and isinstance(it, str):
             whole = _bytes(it)
-            it = str.__getitem__(it, slice(str.__len__(it) - len(whole) + len(_cut(whole, ends))))
+            it = str.__getitem__(it, slice(str.__len__(it) - len(whole) + len(_cut(whole, ENDS))))
         elif are_lines and (isinstance(it, (bytes, bytearray)) or isinstance(it, memoryview) and it.format == "B"):
-            it = _cut(_bytes(it), ends)
+            it = _cut(_bytes(it), ENDS)
         yield it, are_lines
 
 
@@ -438,79 +445,77 @@ def _is_missing(text):
     if text is None or any(text is it for it in _missing()):
         return True
     try:
-        return not isinstance(text, (str, bytes, bytearray, memoryview)) and bool(text != text)
+        return not _is_text(text) and bool(text != text)
     except Exception:
         return False
 
 
 def _is_integer(text):
-    return hasattr(text, "__index__") and not isinstance(text, (str, bytes, bytearray, memoryview))
+    return hasattr(text, "__index__") and not _is_text(text)
 
 
 def _fitting(number, least, most):
     if not least <= number <= most:
-        raise Fault(97)  # number_too_large
+        raise ParseError(NUMBER_TOO_LARGE)
     return number
 
 
-def _column(read, place_of, texts, faults, newline, empty, lines, read_integer=None, has_timestamps=False):
-    """The numbers of texts, each by a call that gives it of the bytes, or raises a Fault, whose place and kind of call another
-    call gives."""
-    column, table = array.array("q"), {"index": array.array("q"), "code": array.array("B"), "place": array.array("q")}
-    ends = [b"\n", b"\r"] if newline == "\r\n" else [b"\n"]
-    for index, (text, is_line) in enumerate(_lines(texts, ends, lines)):
+def _column(kind, read, part_of, texts, refused, empty, lines, read_integer=None, has_timestamps=False):
+    """The numbers of texts, each by a call that gives it of the bytes, or raises a ParseError, whose part another call gives."""
+    column = Column(kind, array.array("q"), [])
+    for index, (text, is_line) in enumerate(_lines(texts, lines)):
         if _is_missing(text):
-            column.append(-(2**63))
+            column.numbers.append(-(2**63))
             continue
-        are_digits = read_integer is None and _is_integer(text)
-        is_integer = _is_integer(text) and not are_digits
-        if are_digits:
-            text = _digits(index, text, has_timestamps)
-        elif not is_integer and not isinstance(text, (str, bytes, bytearray, memoryview)):
-            raise _wrong_item(index, text, has_timestamps)
-        whole = _whole("text", index, text) if is_integer else _bytes(text, f"text {index}")
+        is_integer = _is_integer(text)
+        if not is_integer and not _is_text(text):
+            raise _wrong_text(index, text, has_timestamps)
+        shown = _digits(index, text, has_timestamps) if is_integer else text
+        whole = _bytes(shown, f"text {index}")
         if whole == b"" and empty == "nat":
-            column.append(-(2**63))
+            column.numbers.append(-(2**63))
             continue
         try:
-            column.append(read_integer(_fitting(whole, -(2**63), 2**63 - 1)) if is_integer else read(whole))
-        except Fault as fault:
-            fault = Fault(fault.code, index)
-            if not is_integer:
-                place, fault.kind = place_of(whole)
-                fault.text, fault.place = _kept(text), None if place is None else _counted(text, place)
-                if are_digits:
-                    fault.hint = INTEGER_WORDS[has_timestamps]
-                else:
-                    _give_hint(fault, read, whole, isinstance(text, str), [] if is_line else ends)
-            if faults == "raise":
-                raise fault from None
-            column.append(-(2**63))
-            if isinstance(faults, list):
-                faults.append(fault)
-            for name, it in table.items():
-                it.append(-1 if getattr(fault, name) is None else getattr(fault, name))
-    if isinstance(faults, dict):
-        faults.update(table)
+            if is_integer and read_integer:
+                column.numbers.append(read_integer(_fitting(_whole("text", index, text), -(2**63), 2**63 - 1)))
+            else:
+                column.numbers.append(read(whole))
+        except ParseError as error:
+            error = ParseError(error.number, index)
+            place, end, words = part_of(whole, error.number)
+            hint = None
+            if is_integer and not read_integer:
+                hint = INTEGER_WORDS[has_timestamps]
+            elif is_integer and error.number == NUMBER_TOO_LARGE:
+                place, end, words = 0, len(whole), "a number that fits 64 bits"
+            elif not is_integer:
+                hint = _hint(read, whole, isinstance(text, str), [] if is_line else ENDS)
+            error.of(_kept(shown), _counted(shown, place), _end(shown, end), words, hint)
+            if refused == "stop":
+                raise error from None
+            column.numbers.append(-(2**63))
+            if refused == "collect":
+                column.refused.append(error)
     return column
 
 
-def _give_hint(fault, read, whole, is_str, ends):
+def _hint(read, whole, is_str, ends):
     rest = whole[3:] if whole.startswith(MARK) else whole
     cut = _cut(rest, ends)
     why = [MARK_WORDS[is_str]] * (rest != whole) + [END_WORDS] * (cut != rest)
     try:
         if why:
             read(cut)
-            fault.hint = "; ".join(why)
-    except Fault:
+            return "; ".join(why)
+    except ParseError:
         pass
 
 
-def _place_in_column(call, whole, *numbers):
-    """The place of an error in bytes, or the end of them if they are refused by the column alone, and the kind of the call."""
+def _part_in_column(call, whole, number, *numbers):
+    """The part of an error in bytes, and what was expected. A column itself refuses what lacks an offset, or is too large."""
     code, part = _parsed_or_part(call, whole, *numbers)
-    return part.place if code else len(whole), KINDS[call.__name__]
+    words = _expected(code or number, KINDS[call.__name__])
+    return (part.place, part.end, words) if code else (len(whole) * (number == TZ_REQUIRED), len(whole), words)
 
 
 # The kind of each call that parses texts of columns, by the numbers of the header.
@@ -520,42 +525,42 @@ KINDS = {
         "datetime_parse_strict", "duration_parse"], 1)}
 
 
-def _check_choices(faults, newline, empty, lines):
-    if not isinstance(faults, (str, list, dict)):
-        raise _wrong("faults", faults, str, list, dict)
-    if isinstance(faults, str):
-        _choice("faults", faults, "raise", "nat")
-    _choice("newline", newline, "\r\n", "\n")
+def _check_choices(refused, empty, lines):
+    _choice("refused", refused, "stop", "number", "collect")
     _choice("empty", empty, "error", "nat")
     _flag("lines", lines)
 
 
 def _check(code):
     if code:
-        raise Fault(code)
+        raise ParseError(code)
 
 
-def date_time_column(texts, config=None, *, strict=False, timestamps=False, naive="error", faults="raise", newline="\r\n", empty="error", lines=False):
+def datetime_column(texts, *, config=None, timestamps=False, strict=False, missing_offset="error", refused="stop", empty="error", lines=False):
     def number_of(out):
-        if not out.has_offset and naive == "error":
-            raise Fault(19)  # tz_required
+        if not out.has_offset and missing_offset == "error":
+            raise ParseError(TZ_REQUIRED)
         return _second_in_utc(out) * 1_000_000 + out.microsecond
 
-    _flag("strict", strict), _flag("timestamps", timestamps)
-    naive = "utc" if naive == "UTC" else naive
-    _choice("naive", naive, "error", "utc")
-    return _date_times(number_of, texts, config, strict, timestamps, faults, newline, empty, lines)
+    _form(timestamps, strict)
+    _choice("missing_offset", missing_offset, "error", "utc")
+    return _datetimes("datetime", number_of, texts, config, strict, timestamps, refused, empty, lines)
 
 
-def date_time_clock_column(texts, config=None, *, strict=False, timestamps=False, faults="raise", newline="\r\n", empty="error", lines=False):
+def datetime_clock_column(texts, *, config=None, timestamps=False, strict=False, refused="stop", empty="error", lines=False):
     def number_of(out):
         return (_second_in_utc(out) + out.has_offset * out.offset) * 1_000_000 + out.microsecond
 
-    return _date_times(number_of, texts, config, strict, timestamps, faults, newline, empty, lines)
+    return _datetimes("datetime_clock", number_of, texts, config, strict, timestamps, refused, empty, lines)
 
 
-def date_time_offset_column(texts, config=None, *, strict=False, timestamps=False, faults="raise", newline="\r\n", empty="error", lines=False):
-    return _date_times(_offset_of, texts, config, strict, timestamps, faults, newline, empty, lines)
+def datetime_offset_column(texts, *, config=None, timestamps=False, strict=False, refused="stop", empty="error", lines=False):
+    def number_of(out):
+        if not out.has_offset:
+            raise ParseError(TZ_REQUIRED)
+        return out.offset
+
+    return _datetimes("datetime_offset", number_of, texts, config, strict, timestamps, refused, empty, lines)
 
 
 def _second_in_utc(out):
@@ -564,24 +569,15 @@ def _second_in_utc(out):
     return second.value
 
 
-def _offset_of(out):
-    if not out.has_offset:
-        raise Fault(19)  # tz_required
-    return out.offset
-
-
-def _date_times(number_of, texts, config, strict, timestamps, faults, newline, empty, lines):
+def _datetimes(kind, number_of, texts, config, strict, timestamps, refused, empty, lines):
     """The numbers of date-times, by what is taken of their structs."""
-    _flag("strict", strict), _flag("timestamps", timestamps)
-    _check_choices(faults, newline, empty, lines)
+    name = f"speedate_datetime_parse{_form(timestamps, strict)}"
+    _check_choices(refused, empty, lines)
     numbers = _configured(config, _OF_TIMESTAMPS if timestamps else ())
-    if strict and timestamps:
-        raise ValueError("strict and timestamps exclude each other")
-    name = "datetime_parse_strict" if strict else "datetime_parse" if timestamps else "datetime_parse_text"
 
     def read(text):
         out = _DateTime()
-        _check(getattr(_library, f"speedate_{name}")(text, len(text), numbers, out))
+        _check(getattr(_library, name)(text, len(text), numbers, out))
         return number_of(out)
 
     def read_integer(timestamp):
@@ -589,23 +585,20 @@ def _date_times(number_of, texts, config, strict, timestamps, faults, newline, e
         _check(_library.speedate_datetime_from_timestamp(timestamp, 0, numbers, out))
         return number_of(out)
 
-    def place_of(text):
-        return _place_in_column(getattr(_library, f"speedate_{name}"), text, numbers)
+    def part_of(text, number):
+        return _part_in_column(getattr(_library, name), text, number, numbers)
 
-    return _column(read, place_of, texts, faults, newline, empty, lines, read_integer if timestamps else None, True)
+    return _column(kind, read, part_of, texts, refused, empty, lines, read_integer if timestamps else None, True)
 
 
-def date_column(texts, config=None, *, timestamps=False, faults="raise", newline="\r\n", empty="error", lines=False):
-    _flag("timestamps", timestamps)
-    _check_choices(faults, newline, empty, lines)
+def date_column(texts, *, config=None, timestamps=False, refused="stop", empty="error", lines=False):
+    name = f"speedate_date_parse{_form(timestamps, False)}"
+    _check_choices(refused, empty, lines)
     numbers = _configured(config, _OF_TIMESTAMPS if timestamps else ())
 
     def read(text):
         out = _Date()
-        if timestamps:
-            _check(_library.speedate_date_parse(text, len(text), numbers, out))
-        else:
-            _check(_library.speedate_date_parse_text(text, len(text), out))
+        _check(getattr(_library, name)(text, len(text), *[numbers] * timestamps, out))
         return number_of(out)
 
     def read_integer(timestamp):
@@ -618,65 +611,47 @@ def date_column(texts, config=None, *, timestamps=False, faults="raise", newline
         _check(_library.speedate_date_day_number(out, day))
         return day.value - 719_528  # from 0000-01-01 to 1970-01-01
 
-    def place_of(text):
-        if timestamps:
-            return _place_in_column(_library.speedate_date_parse, text, numbers)
-        return _place_in_column(_library.speedate_date_parse_text, text)
+    def part_of(text, number):
+        return _part_in_column(getattr(_library, name), text, number, *[numbers] * timestamps)
 
-    return _column(read, place_of, texts, faults, newline, empty, lines, read_integer if timestamps else None, True)
+    return _column("date", read, part_of, texts, refused, empty, lines, read_integer if timestamps else None, True)
 
 
-def time_column(texts, config=None, *, strict=False, faults="raise", newline="\r\n", empty="error", lines=False):
-    def number_of(out):
-        return ((out.hour * 60 + out.minute) * 60 + out.second) * 1_000_000 + out.microsecond
-
-    return _times(number_of, texts, config, strict, faults, newline, empty, lines)
-
-
-def time_offset_column(texts, config=None, *, strict=False, faults="raise", newline="\r\n", empty="error", lines=False):
-    return _times(_offset_of, texts, config, strict, faults, newline, empty, lines)
-
-
-def _times(number_of, texts, config, strict, faults, newline, empty, lines):
-    """The numbers of times, by what is taken of their structs."""
-    _flag("strict", strict)
-    _check_choices(faults, newline, empty, lines)
+def time_column(texts, *, config=None, strict=False, refused="stop", empty="error", lines=False):
+    name = f"speedate_time_parse{_form(False, strict).replace('_text', '')}"
+    _check_choices(refused, empty, lines)
     numbers = _configured(config)
-    ending = "_strict" if strict else ""
 
     def read(text):
         out = _Time()
-        _check(getattr(_library, f"speedate_time_parse{ending}")(text, len(text), numbers, out))
-        return number_of(out)
+        _check(getattr(_library, name)(text, len(text), numbers, out))
+        return ((out.hour * 60 + out.minute) * 60 + out.second) * 1_000_000 + out.microsecond
 
-    def place_of(text):
-        return _place_in_column(getattr(_library, f"speedate_time_parse{ending}"), text, numbers)
+    def part_of(text, number):
+        return _part_in_column(getattr(_library, name), text, number, numbers)
 
-    return _column(read, place_of, texts, faults, newline, empty, lines)
+    return _column("time", read, part_of, texts, refused, empty, lines)
 
 
-def duration_column(texts, config=None, *, faults="raise", newline="\r\n", empty="error", lines=False):
-    _check_choices(faults, newline, empty, lines)
+def duration_column(texts, *, config=None, refused="stop", empty="error", lines=False):
+    _check_choices(refused, empty, lines)
     numbers = _configured(config)
 
     def read(text):
         out = _Duration()
         _check(_library.speedate_duration_parse(text, len(text), numbers, out))
         size = (out.day * 86_400 + out.second) * 1_000_000 + out.microsecond
-        if size >= 2**63:
-            raise Fault(97)  # number_too_large
-        return -size if out.negative else size
+        return -_fitting(size, 0, 2**63 - 1) if out.negative else _fitting(size, 0, 2**63 - 1)
 
-    def place_of(text):
-        code, part = _parsed_or_part(_library.speedate_duration_parse, text, numbers)
-        return part.place if code else None, KINDS["speedate_duration_parse"]
+    def part_of(text, number):
+        return _part_in_column(_library.speedate_duration_parse, text, number, numbers)
 
-    return _column(read, place_of, texts, faults, newline, empty, lines)
+    return _column("duration", read, part_of, texts, refused, empty, lines)
 
 
 def _line(number, kind):
     """The text of a number of a column, by the calls that make the value of a number and print it."""
-    micros, out = _Config(0, kind == "date_time", 3), {"date": _Date, "time": _Time, "duration": _Duration}.get(kind, _DateTime)()
+    micros, out = _Config(0, kind == "datetime", 3), {"date": _Date, "time": _Time, "duration": _Duration}.get(kind, _DateTime)()
     if kind == "date":
         _check(_library.speedate_date_from_timestamp(number * 86_400, 1, _Config(0, 0, 1), out))
         return _printed(_library.speedate_date_to_text, out)
@@ -691,15 +666,35 @@ def _line(number, kind):
     return _printed(_library.speedate_datetime_to_text, out)
 
 
-def text_column(numbers, kind):
-    _choice("kind", kind, "date", "time", "date_time", "date_time_clock", "duration")
+PRINTED = "date", "time", "datetime", "datetime_clock", "duration"
+
+
+def _numbers_of(numbers, kind):
+    """The integers of a column, and its kind, if it has no times of NumPy."""
+    if type(numbers).__name__ == "Column":
+        if kind not in (None, numbers.kind):
+            raise ValueError(f"the column is of kind {numbers.kind}, not {kind}")
+        return numbers.numbers, numbers.kind
+    if kind is None:
+        raise TypeError("text_column() needs the kind of numbers that are not a Column")
+    if isinstance(numbers, (str, bytes, bytearray)):
+        raise TypeError(f"numbers has to be an iterable of integers, not {type(numbers).__name__}")
+    if isinstance(numbers, dict):
+        raise TypeError(f"numbers has to be one column, not {type(numbers).__name__}: pass its values, or one of its columns")
+    return numbers, kind
+
+
+def text_column(numbers, *, kind=None):
+    numbers, kind = _numbers_of(numbers, kind)
+    _choice("kind", kind, *PRINTED)
     lines, most = [], 2**31 - 1 if kind == "date" else 2**63 - 1
-    for index, it in enumerate(_numbers_of(numbers, kind)):
+    for index, it in enumerate(numbers):
         number = -(2**63) if _is_missing(it) else _whole("number", index, it)
         try:
             lines.append("" if number == -(2**63) else _line(_fitting(number, -most, most), kind))
-        except Fault as fault:
-            raise Fault(fault.code, index) from None
+        except ParseError as error:
+            words = "a number that fits 64 bits, or 32 if it counts days" if error.number == NUMBER_TOO_LARGE else _expected(error.number, 0)
+            raise ParseError(error.number, index).of(str(number), 0, len(str(number)), words) from None
     return "".join(f"{it}\n" for it in lines).encode()
 
 
@@ -720,16 +715,17 @@ def text(value, *, digits=None):
         raise ValueError("digits has to be 0 or 3 or 6")
     if type(value) not in _FIELDS:
         value = _plain(value)
-    if isinstance(value, (datetime.datetime, datetime.time)):
-        is_time = isinstance(value, datetime.time)
+    if isinstance(value, (_datetime.datetime, _datetime.time)):
+        is_time = isinstance(value, _datetime.time)
         name, numbers = ("time", _Time(*_clock(value))) if is_time else ("datetime", _DateTime(value.year, value.month, value.day, *_clock(value)))
         if digits is None:
             return _printed(getattr(_library, f"speedate_{name}_to_text"), numbers)
         return _printed(getattr(_library, f"speedate_{name}_to_text_with_digits"), numbers, digits)
     if digits is not None:
         raise TypeError(f"value has to be datetime or time if there are digits, not {type(value).__name__}")
-    if isinstance(value, datetime.date):
+    if isinstance(value, _datetime.date):
         return _printed(_library.speedate_date_to_text, _Date(value.year, value.month, value.day))
     size = abs(value)
     numbers = _Duration(value.days < 0, size.days, size.seconds, size.microseconds)
     return _printed(_library.speedate_duration_to_text, numbers)
+

@@ -44,7 +44,13 @@ numpy, pandas, pyarrow = map(installed, ("numpy", "pandas", "pyarrow"))
 
 
 def column(texts, **options):
-    return speedate.date_time_column(texts, **{"faults": "nat", **options}).tolist()
+    return speedate.datetime_column(texts, **{"refused": "number", **options}).tolist()
+
+
+def collected(texts, read=speedate.datetime_column, **options):
+    """The numbers of a column, and the errors of its texts."""
+    made = read(texts, refused="collect", **options)
+    return made.tolist(), list(made.refused)
 
 
 def spread(data):
@@ -136,20 +142,18 @@ class Sources(unittest.TestCase):
             with open(path) as file:
                 self.assertEqual(file.readline(), f"{SECOND}\n")
                 self.assertEqual(column(file), NUMBERS[1:])
-            faults = []
             with open(path, "rb") as file:
-                self.assertEqual(column(file, newline="\n", faults=faults), [1_000_000, NAT, NAT])
-            self.assertEqual(list(map(repr, faults)), ["<Fault too_short in text 1>", "<Fault extra_characters in text 2>"])
+                self.assertEqual([str(it) for it in collected(file)[1]], ["too_short in text 1 at 5: expected a date-time: YYYY-MM-DDTHH:MM or YYYY-MM-DDTHH:MM:SS: b'never'"])
         self.assertEqual(column(Reads(f"{SECOND}\n", None, f"{SECOND}\n\n", f"{SECOND}\r")), [1_000_000, NAT, NAT, 1_000_000])
         with self.assertRaisesRegex(TypeError, "^text 1 has to be str or bytes or bytearray or memoryview, not list$"):
             column(Reads(SECOND, []))
 
     def test_mixed(self):
-        faults = []
-        self.assertEqual(column(MIXED, faults=faults), [NAT] * 4 + [500_000])
-        self.assertEqual([(it.name, it.index) for it in faults], [("tz_required", 0), ("second_fraction_too_long", 1), ("invalid_char_date_time_sep", 2), ("too_short", 3)])
+        told, errors = collected(MIXED)
+        self.assertEqual(told, [NAT] * 4 + [500_000])
+        self.assertEqual([(it.code, it.index) for it in errors], [("tz_required", 0), ("second_fraction_too_long", 1), ("invalid_char_date_time_sep", 2), ("too_short", 3)])
         cut = speedate.Config(overflow_behavior="truncate")
-        self.assertEqual(column(MIXED, naive="utc", config=cut), [1_582_978_380_000_000, 1_582_978_394_123_456, NAT, NAT, 500_000])
+        self.assertEqual(column(MIXED, missing_offset="utc", config=cut), [1_582_978_380_000_000, 1_582_978_394_123_456, NAT, NAT, 500_000])
 
     def test_texts_of_other_types(self):
         texts = [SECOND, SECOND.encode(), bytearray(SECOND, "utf-8"), memoryview(SECOND.encode()), spread(SECOND.encode()), type("Text", (str,), {})(SECOND), SECOND.replace("Z", "\u221200:00")]
@@ -159,8 +163,8 @@ class Sources(unittest.TestCase):
 
     @unittest.skipUnless(numpy, "NumPy is not installed")
     def test_numpy(self):
-        moments = numpy.frombuffer(speedate.date_time_column(
-            ["2020-02-29T12:13:14.5Z", "never", "0000-01-01T00:00Z", "9999-12-31T23:59:59.999999Z"], faults="nat"), "datetime64[us]")
+        moments = numpy.asarray(speedate.datetime_column(
+            ["2020-02-29T12:13:14.5Z", "never", "0000-01-01T00:00Z", "9999-12-31T23:59:59.999999Z"], refused="number"))
         self.assertEqual(moments.astype(str).tolist(), ["2020-02-29T12:13:14.500000", "NaT", "0000-01-01T00:00:00.000000", "9999-12-31T23:59:59.999999"])
         for kind in ("U", "S", "U40", "S40", object):
             self.assertEqual(column(numpy.array([SECOND, "", SECOND], dtype=kind)), [1_000_000, NAT, 1_000_000])
@@ -181,7 +185,7 @@ class Sources(unittest.TestCase):
         for it in (0, 1, 86_399, 400 * 86_400, 10**9):
             self.assertEqual(speedate.duration(pandas.Timedelta(it, "s").isoformat()), datetime.timedelta(seconds=it))
         for it in (-1, -86_401, -(10**9)):
-            with self.assertRaisesRegex(speedate.Fault, "^duration_invalid_number at "):
+            with self.assertRaisesRegex(speedate.ParseError, "^duration_invalid_number at "):
                 speedate.duration(pandas.Timedelta(it, "s").isoformat())
         self.assertEqual(pandas.Timedelta(-1, "s").isoformat(), "P-1DT23H59M59S")
 
@@ -191,18 +195,18 @@ class Sources(unittest.TestCase):
         seconds = days * 86_400
         whole = [seconds, seconds.astype(">i8"), numpy.repeat(seconds, 2)[::2], seconds.tolist(), iter(seconds)]
         for it in [*whole, *([pandas.Series(seconds, index=-days), pandas.Index(seconds)] if pandas else [])]:
-            read = speedate.date_time_column(it, unix, timestamps=True)
-            self.assertEqual(numpy.frombuffer(read, "datetime64[us]").tolist(), seconds.astype("datetime64[s]").tolist())
-        self.assertEqual(speedate.date_column(seconds, speedate.Config("s"), timestamps=True).tolist(), days.tolist())
+            read = speedate.datetime_column(it, config=unix, timestamps=True)
+            self.assertEqual(numpy.asarray(read).tolist(), seconds.astype("datetime64[s]").tolist())
+        self.assertEqual(speedate.date_column(seconds, config=speedate.Config("s"), timestamps=True).tolist(), days.tolist())
         for kind in ("i2", "u2", "i4", "u4", "i8", "u8"):
             self.assertEqual(column(numpy.array([0, 20_000], kind), config=unix, timestamps=True), [0, 20_000_000_000])
         if pandas:
             self.assertEqual(column(pandas.Series([1, None], dtype="Int64"), config=unix, timestamps=True), [1_000_000, NAT])
         # A number that is too large is refused, and no error of an argument, wherever it is.
         for make in (list, iter, lambda it: numpy.array(it, "u8"), lambda it: array.array("Q", it), lambda it: numpy.array(it, "O")):
-            faults = []
-            self.assertEqual(column(make([0, 2**63, 2**64 - 1, 1]), config=unix, timestamps=True, faults=faults), [0, NAT, NAT, 1_000_000])
-            self.assertEqual([(it.index, it.name, it.place) for it in faults], [(1, "number_too_large", None), (2, "number_too_large", None)])
+            told, errors = collected(make([0, 2**63, 2**64 - 1, 1]), config=unix, timestamps=True)
+            self.assertEqual(told, [0, NAT, NAT, 1_000_000])
+            self.assertEqual([(it.index, it.code, it.start) for it in errors], [(1, "number_too_large", 0), (2, "number_too_large", 0)])
         for wrong, kind in ((numpy.array([True]), "bool_?"), (numpy.zeros(2), "float64"), (days.astype("M8[D]"), "datetime64")):
             with self.assertRaisesRegex(TypeError, f"^text 0 has to be .*, not {kind}(: .* makes integers of floats, .*)?$"):
                 column(wrong, config=unix, timestamps=True)
@@ -212,25 +216,25 @@ class Sources(unittest.TestCase):
 
     @unittest.skipUnless(pandas, "pandas is not installed")
     def test_integers(self):
-        """Integers among texts are one thing in lists, arrays and Series: timestamps, or faults of their rows."""
+        """Integers among texts are one thing in lists, arrays and Series: timestamps, or errors of their rows."""
         mixed, unix = [SECOND, 20_200_229, None, 2**64, 5, "x"], speedate.Config("s", 0)
         names, hint = ["too_short", "invalid_char_date_sep", "too_short", "too_short"], "it is an integer, which is a timestamp only with timestamps=True"
         for make in (list, iter, lambda it: numpy.array(it, "O"), lambda it: pandas.Series(it, index=range(len(it), 0, -1)), pandas.Index):
-            faults = []
-            self.assertEqual(column(make(mixed), faults=faults), [1_000_000, *[NAT] * 5])
-            self.assertEqual([(it.index, it.name, it.hint) for it in faults], list(zip((1, 3, 4, 5), names, [hint] * 3 + [None])))
-            self.assertEqual([it.text for it in faults], [str(mixed[it.index]) for it in faults])
-            faults = []
-            self.assertEqual(column(make(["x", 10**5000]), faults=faults), [NAT] * 2)
-            self.assertEqual((faults[1].text, faults[1].hint), (hex(10**5000), hint))
+            told, errors = collected(make(mixed))
+            self.assertEqual(told, [1_000_000, *[NAT] * 5])
+            self.assertEqual([(it.index, it.code, it.hint) for it in errors], list(zip((1, 3, 4, 5), names, [hint] * 3 + [None])))
+            self.assertEqual([it.text for it in errors], [str(mixed[it.index]) for it in errors])
+            told, errors = collected(make(["x", 10**5000]))
+            self.assertEqual(told, [NAT] * 2)
+            self.assertEqual((errors[1].text, errors[1].hint), (hex(10**5000), hint))
             self.assertEqual(column(make(mixed), config=unix, timestamps=True), [1_000_000, 20_200_229_000_000, NAT, NAT, 5_000_000, NAT])
         # A column of integers is the same in each form. Those of one byte in memory are texts, so a Series of them is refused.
         for kind in ("i2", "u4", "i8", "u8"):
             numbers = numpy.array([5, 20_000], kind)
             for it in (numbers, numbers.tolist(), pandas.Series(numbers), pandas.Series(numbers).astype("Int64")):
-                faults = []
-                self.assertEqual(column(it, faults=faults), [NAT] * 2)
-                self.assertEqual([(it.text, it.name, it.place) for it in faults], [("5", "too_short", 1), ("20000", "too_short", 5)])
+                told, errors = collected(it)
+                self.assertEqual(told, [NAT] * 2)
+                self.assertEqual([(it.text, it.code, it.start) for it in errors], [("5", "too_short", 1), ("20000", "too_short", 5)])
                 self.assertEqual(column(it, config=unix, timestamps=True), [5_000_000, 20_000_000_000])
         for kind in ("int8", "uint8"):
             for it in (pandas.Series([1, 2], dtype=kind), *([pandas.Index([1, 2], dtype=kind)] if pandas.Index([1], dtype=kind).dtype == kind else [])):
@@ -248,19 +252,19 @@ class Sources(unittest.TestCase):
     @unittest.skipUnless(pandas and not hasattr(sys, "gettotalrefcount"), "there is no pandas, or a debug Python, which its objects stop")
     def test_pandas(self):
         texts = ["1677-09-22T00:00Z", "2020-02-29T12:13:14.5+01:00", "2262-04-11T23:47:16Z"]
-        series = pandas.Series(numpy.frombuffer(speedate.date_time_column(texts), "datetime64[us]"))
+        series = pandas.Series(speedate.datetime_column(texts))
         self.assertEqual(series.tolist(), [pandas.Timestamp(it).tz_convert(None) for it in texts])
         self.assertEqual(series.dt.tz_localize("UTC").tolist(), [pandas.Timestamp(it).tz_convert("UTC") for it in texts])
         if int(pandas.__version__.partition(".")[0]) < 2:
             with self.assertRaises(ValueError):
-                pandas.Series(numpy.frombuffer(speedate.date_time_column(["2262-04-12T00:00Z"]), "datetime64[us]"))
+                pandas.Series(speedate.datetime_column(["2262-04-12T00:00Z"]))
         for missing in (None, float("nan"), pandas.NA, pandas.NaT):
             texts = pandas.Series([SECOND, missing, SECOND], dtype=object)
-            for options in ({"faults": "raise"}, {"faults": "nat"}, {"strict": True}, {"naive": "utc"}, {"timestamps": True}):
+            for options in ({"refused": "stop"}, {"refused": "number"}, {"strict": True}, {"missing_offset": "utc"}, {"timestamps": True}):
                 self.assertEqual(column(texts, **options), [1_000_000, NAT, 1_000_000])
-            faults = []
-            self.assertEqual(column(texts, faults=faults), [1_000_000, NAT, 1_000_000])
-            self.assertEqual(faults, [])
+            told, errors = collected(texts)
+            self.assertEqual(told, [1_000_000, NAT, 1_000_000])
+            self.assertEqual(errors, [])
         self.assertEqual(column(pandas.Series([SECOND, None, SECOND], dtype="string")), [1_000_000, NAT, 1_000_000])
         self.assertEqual(column(pandas.Series([None, float("nan")])), [NAT, NAT])
         self.assertEqual(column(pandas.Series([None], dtype="datetime64[ns]")), [NAT])
@@ -268,9 +272,8 @@ class Sources(unittest.TestCase):
         with unittest.mock.patch.object(pandas.Series, "__iter__", side_effect=AssertionError):
             self.assertEqual(column(pandas.Series([SECOND, None], index=[5, 3])), [1_000_000, NAT])
         self.assertEqual(column(pandas.Index([SECOND])), [1_000_000])
-        faults = {}
-        column(["x", SECOND, "1970-01-01"], faults=faults)
-        self.assertEqual(pandas.DataFrame(faults).values.tolist(), [[0, 1, 1], [2, 3, 10]])
+        refused = speedate.datetime_column(["x", SECOND, "1970-01-01"], refused="collect").refused
+        self.assertEqual(pandas.DataFrame({"index": refused.indices, "code": refused.codes}).values.tolist(), [[0, "too_short"], [2, "invalid_char_date_time_sep"]])
         frame = pandas.read_csv(io.StringIO(f"name,moment\na,{SECOND}\nb,\n"))
         self.assertEqual(column(frame["moment"]), [1_000_000, NAT])
         self.assertEqual(column(frame["moment"].astype("category")), [1_000_000, NAT])
@@ -294,30 +297,27 @@ class Blocks(unittest.TestCase):
         texts = [f"1970-01-01T{it // 3600 % 24:02}:{it // 60 % 60:02}:{it % 60:02}Z" for it in range(70_000)]
         wanted = [it % 86_400 * 1_000_000 for it in range(70_000)]
         for it in (texts, tuple(texts), iter(texts), *self.forms(texts, "\n"), *self.forms(texts, "\r\n")):
-            self.assertTrue(column(it, faults="raise") == wanted, type(it))
+            self.assertTrue(column(it, refused="stop") == wanted, type(it))
         for index in (1_000, 32_767, 32_768, 69_999):
             wrong = [*texts[:index], "24:00", *texts[index + 1:]]
             for it in (wrong, iter(wrong), *self.forms(wrong, "\n")):
-                with self.assertRaisesRegex(speedate.Fault, f"^too_short in text {index} at ") as caught:
-                    column(it, faults="raise")
+                with self.assertRaisesRegex(speedate.ParseError, f"^too_short in text {index} at ") as caught:
+                    column(it, refused="stop")
                 self.assertEqual(caught.exception.index, index)
         bad = {32_767, 32_768, 69_998, 5}
         wrong = ["" if it in bad else text for it, text in enumerate(texts)]
         for it in (wrong, iter(wrong), *self.forms(wrong, "\r\n")):
-            faults = []
-            told = column(it, faults=faults)
-            self.assertEqual([it.index for it in faults], sorted(bad))
+            told, errors = collected(it)
+            self.assertEqual([it.index for it in errors], sorted(bad))
             self.assertTrue(told == [NAT if it in bad else number for it, number in enumerate(wanted)])
 
     def test_all_refused(self):
         for lines in (b"x\n" * 70_000, ["x"] * 70_000):
-            faults = []
             # The difference of such lists would take minutes.
-            self.assertTrue(column(lines, faults=faults) == [NAT] * 70_000)
-            self.assertTrue([it.index for it in faults] == list(range(70_000)))
-            table = {}
-            self.assertTrue(column(lines, faults=table) == [NAT] * 70_000)
-            self.assertTrue([it.tolist() for it in table.values()] == [list(range(70_000)), [1] * 70_000, [1] * 70_000])
+            refused = speedate.datetime_column(lines, refused="collect").refused
+            self.assertTrue(column(lines) == [NAT] * 70_000)
+            self.assertTrue(refused.indices.tolist() == list(range(70_000)) and refused.codes == ["too_short"] * 70_000)
+            self.assertEqual((len(refused), refused[-1].index, refused[-1].start, len(refused[1:3])), (70_000, 69_999, 1, 2))
 
     def test_long_lines(self):
         for size in (1, 262_142, 262_143, 262_144, 262_145, 600_000):
@@ -339,12 +339,6 @@ class Blocks(unittest.TestCase):
         texts = [SECOND]
         texts.append(type("Text", (str,), {"__del__": lambda self: texts.extend([SECOND] * 3)})(SECOND))
         self.assertEqual(column(texts), [1_000_000] * 2)
-        faults = [5]
-        with self.assertRaisesRegex(TypeError, "^text 2 has to be .*, not Fault$"):
-            together = ["x", SECOND]
-            column(together, faults=together)
-        self.assertEqual(column(["x"], faults=faults), [NAT])
-        self.assertEqual((faults[0], faults[1].name), (5, "too_short"))
 
 
 class Refusals(unittest.TestCase):
@@ -355,23 +349,21 @@ class Refusals(unittest.TestCase):
         places = [1, 20, 16, 0, 8]
         for make in (list, iter, lambda it: [one.encode() for one in it], lambda it: "\n".join(it).encode(), lambda it: bytearray("\r\n".join([*it, ""]).encode()),
                      lambda it: io.BytesIO("\r\n".join(it).encode()), lambda it: io.StringIO("\n".join(it)), lambda it: [memoryview(one.encode()) for one in it]):
-            faults = []
-            column(make(texts), faults=faults)
-            self.assertEqual([(it.index, it.place) for it in faults], list(zip((0, 1, 2, 4, 5), places)), make(texts))
-            kept = [it.text for it in faults]
-            self.assertEqual([it if isinstance(it, str) else it.decode() for it in kept], [texts[it.index] for it in faults])
-            for it in faults:
-                with self.assertRaises(speedate.Fault) as caught:
-                    speedate.date_time_column([it.text])
-                self.assertEqual((caught.exception.name, caught.exception.place), (it.name, it.place))
+            errors = collected(make(texts))[1]
+            self.assertEqual([(it.index, it.start) for it in errors], list(zip((0, 1, 2, 4, 5), places)), make(texts))
+            kept = [it.text for it in errors]
+            self.assertEqual([it if isinstance(it, str) else it.decode() for it in kept], [texts[it.index] for it in errors])
+            for it in errors:
+                with self.assertRaises(speedate.ParseError) as caught:
+                    speedate.datetime_column([it.text])
+                self.assertEqual((caught.exception.code, caught.exception.start), (it.code, it.start))
 
     def test_written_later(self):
         data = bytearray(b"1970-01-01T00:00Z\n24:00\n")
         for source in (data, [data[18:23]], [memoryview(data)[18:23]]):
-            faults = []
-            column(source, faults=faults)
+            errors = collected(source)[1]
             data[18:23] = b"12:13"
-            self.assertEqual((faults[0].text, faults[0].place), (b"24:00", 5))
+            self.assertEqual((errors[0].text, errors[0].start), (b"24:00", 5))
             data[18:23] = b"24:00"
         del source
 
@@ -380,42 +372,31 @@ class Refusals(unittest.TestCase):
             pass
 
         text = Text("24:00")
-        text.faults = []
-        column([text], faults=text.faults)
+        text.refused = speedate.datetime_column([text], refused="collect").refused
         gone = weakref.ref(text)
-        self.assertIs(text.faults[0].text, text)
+        self.assertIs(text.refused[0].text, text)
         del text
         gc.collect()
         self.assertIsNone(gone())
 
     def test_many(self):
-        """The arrays of a dict beside the faults of a list, over blocks and rows."""
+        """The arrays beside the errors, over blocks and rows."""
         texts = ["" if it % 3 == 0 else "x" * (it % 40) if it % 3 == 1 else SECOND for it in range(70_000)]
         for make in (list, lambda it: "\n".join([*it, ""]).encode(), lambda it: bytearray("\r\n".join([*it, ""]).encode())):
             for options in ({}, {"empty": "nat"}):
-                faults, table = [], {}
-                told = column(make(texts), faults=faults, **options)
-                self.assertTrue(column(make(texts), faults=table, **options) == told)
-                for name in ("index", "code", "place"):
-                    self.assertTrue(table[name].tolist() == [getattr(it, name) for it in faults], name)
+                made = speedate.datetime_column(make(texts), refused="collect", **options)
+                self.assertTrue(made.tolist() == column(make(texts), **options))
                 empty = [] if options else range(0, 70_000, 3)
                 wanted = sorted([*empty, *(it for it in range(1, 70_000, 3) if it % 40 or not options)])
-                self.assertTrue(table["index"].tolist() == wanted)
-                self.assertTrue([it.text for it in faults] == [texts[it] if make is list else texts[it].encode() for it in wanted])
-        self.assertEqual({name: it.typecode for name, it in table.items()}, {"index": "q", "code": "B", "place": "q"})
-
-    def test_dict_of_a_call_that_fails(self):
-        table = {"index": 5}
-        with self.assertRaises(TypeError):
-            column(["x", 5.5], faults=table)
-        self.assertEqual(table, {"index": 5})
+                self.assertTrue(made.refused.indices.tolist() == wanted and made.refused.codes == [it.code for it in made.refused])
+                self.assertTrue([(it.index, it.text) for it in made.refused] == [(it, texts[it] if make is list else texts[it].encode()) for it in wanted])
 
     def test_empty_is_raised_past(self):
         lines = b"\n" * 70_000 + b"x\n"
         for it in (lines, bytearray(lines), io.BytesIO(lines), lines.decode().split("\n")):
-            with self.assertRaisesRegex(speedate.Fault, "^too_short in text 70000 at "):
-                column(it, faults="raise", empty="nat")
-        self.assertTrue(column(lines[:-2], faults="raise", empty="nat") == [NAT] * 70_000)
+            with self.assertRaisesRegex(speedate.ParseError, "^too_short in text 70000 at "):
+                column(it, refused="stop", empty="nat")
+        self.assertTrue(column(lines[:-2], refused="stop", empty="nat") == [NAT] * 70_000)
         for read in (speedate.date_column, speedate.duration_column):
             self.assertTrue(read(lines[:-2], empty="nat").tolist() == [NAT] * 70_000)
 
@@ -427,10 +408,10 @@ class Refusals(unittest.TestCase):
                 for mode, options in (("r", {}), ("r", {"newline": ""}), ("rb", {})):
                     with open(path, mode, **options) as file:
                         self.assertEqual(column(make(file), lines=True), NUMBERS)
-                    faults = []
                     with open(path, mode, **options) as file:
-                        self.assertEqual(column(make(file), faults=faults), [NAT] * 3)
-                    self.assertEqual([it.hint for it in faults], ["it has a line ending, which lines=True drops", None, "it has a line ending, which lines=True drops"])
+                        told, errors = collected(make(file))
+                        self.assertEqual(told, [NAT] * 3)
+                    self.assertEqual([it.hint for it in errors], ["it has a line ending, which lines=True drops", None, "it has a line ending, which lines=True drops"])
             with open(path, "w+") as file:
                 file.write(f"{SECOND}\n")
                 self.assertEqual(column(file), [])
@@ -441,10 +422,10 @@ class Refusals(unittest.TestCase):
     def test_byte_order_mark(self):
         lines = b"\xef\xbb\xbf" + LINES
         for it in (lines, io.BytesIO(lines), io.StringIO(lines.decode(), newline="")):
-            faults = []
-            self.assertEqual(column(it, faults=faults), [NAT, NAT, 2_500_000])
+            told, errors = collected(it)
+            self.assertEqual(told, [NAT, NAT, 2_500_000])
             cure = ", which the encoding utf-8-sig drops" if isinstance(it, io.StringIO) else ": skip its three bytes"
-            self.assertEqual([(it.name, it.hint) for it in faults], [("invalid_char_year", f"it begins with a byte order mark{cure}"), ("too_short", None)])
+            self.assertEqual([(it.code, it.hint) for it in errors], [("invalid_char_year", f"it begins with a byte order mark{cure}"), ("too_short", None)])
         mapped = mmap.mmap(-1, len(lines))
         mapped.write(lines)
         for it in (lines, bytearray(lines), mapped):
@@ -458,16 +439,16 @@ class Refusals(unittest.TestCase):
     def test_truth_values_of_numpy(self):
         with warnings.catch_warnings():
             warnings.simplefilter("ignore")
-            for call in (speedate.date_from_timestamp, speedate.date_time_from_timestamp, speedate.time_from_timestamp, speedate.Fault, lambda it: speedate.Config(timestamp_offset=it)):
+            for call in (lambda it: speedate.date(it, timestamps=True), lambda it: speedate.datetime(it, timestamps=True), lambda it: speedate.Config(timestamp_offset=it)):
                 with self.assertRaisesRegex(TypeError, "has to be int, not bool_?$"):
                     call(numpy.True_)
-                call(numpy.int64(1) if call is not speedate.date_from_timestamp else numpy.int64(86_400))
+                call(numpy.int64(0))
 
 
 class Fronts(unittest.TestCase):
     def test_long_text(self):
         """No more of a text than its front is encoded, and nothing of that stays in the text."""
-        for read, front in ((speedate.date_front, "2020-02-29"), (speedate.time_front, "12:13"), (speedate.date_time_front, "2020-02-29T12:13\u221201:00")):
+        for read, front in ((speedate.date_front, "2020-02-29"), (speedate.time_front, "12:13"), (speedate.datetime_front, "2020-02-29T12:13\u221201:00")):
             for wrong in (front, front[:-1] + "x"):
                 text = wrong + " \u00e9" * 100_000
                 before, wanted = sys.getsizeof(text), front_of(read, wrong + " \u00e9" * 10)
@@ -481,17 +462,17 @@ class Fronts(unittest.TestCase):
             for end in ("Z", "+01:00", "\u221201:00", "+1", "+01:60", "x"):
                 for after in ("\u00e9", "\u00e9" * 100, " \u00e9" * 2_000):
                     text = f"2020-02-29T12:13:14.{'1' * size}{end}{after}"
-                    told, size = front_of(speedate.date_time_front, text, cut)
-                    self.assertEqual((told, len(text[:size].encode())), front_of(speedate.date_time_front, text.encode(), cut))
-        self.assertEqual(front_of(speedate.date_time_front, "2020-02-29T12:13:14." + "1" * 300 + "\u00e9"), ("second_fraction_too_long", 26))
+                    told, size = front_of(speedate.datetime_front, text, config=cut)
+                    self.assertEqual((told, len(text[:size].encode())), front_of(speedate.datetime_front, text.encode(), config=cut))
+        self.assertEqual(front_of(speedate.datetime_front, "2020-02-29T12:13:14." + "1" * 300 + "\u00e9"), ("second_fraction_too_long", 26))
 
 
-def front_of(read, text, *config):
-    """The value at the front of a text and its size, or its fault and the place."""
+def front_of(read, text, **config):
+    """The value at the front of a text and its size, or its error and the place."""
     try:
-        return read(text, *config)
-    except speedate.Fault as fault:
-        return fault.name, fault.place
+        return read(text, **config)
+    except speedate.ParseError as error:
+        return error.code, error.start
 
 
 class Others(unittest.TestCase):
@@ -506,9 +487,9 @@ class Others(unittest.TestCase):
                 data = whole.encode()
                 for it in (texts, iter(texts), data, data[:-len(end)], bytearray(data), spread(data), array.array("b", data), io.BytesIO(data), io.StringIO(whole, newline="")):
                     with self.subTest(read, it=it):
-                        faults = []
-                        self.assertEqual(read(it, faults=faults).tolist(), wanted)
-                        self.assertEqual([it.index for it in faults], [1])
+                        told, errors = collected(it, read)
+                        self.assertEqual(told, wanted)
+                        self.assertEqual([it.index for it in errors], [1])
             with self.assertRaisesRegex(TypeError, "^text 1 has to be str or bytes or bytearray or memoryview, not bool$"):
                 read([texts[0], True])
             with self.assertRaisesRegex(TypeError, "^texts has to be one column, not dict"):
@@ -526,19 +507,19 @@ class Others(unittest.TestCase):
                 wanted = [NAT if it in bad else number for it, number in enumerate(numbers)]
                 data = "\n".join([*wrong, ""]).encode()
                 for it in (wrong, data, bytearray(data)):
-                    faults = []
-                    self.assertTrue(read(it, faults=faults).tolist() == wanted, (read, type(it)))
-                    self.assertEqual([it.index for it in faults], sorted(bad))
-                    self.assertTrue(read(it, faults="nat").tolist() == wanted, (read, type(it)))
+                    told, errors = collected(it, read)
+                    self.assertTrue(told == wanted, (read, type(it)))
+                    self.assertEqual([it.index for it in errors], sorted(bad))
+                    self.assertTrue(read(it, refused="number").tolist() == wanted, (read, type(it)))
                     if bad:
-                        with self.assertRaisesRegex(speedate.Fault, "^too_short in text 0 at "):
+                        with self.assertRaisesRegex(speedate.ParseError, "^too_short in text 0 at "):
                             read(it)
 
     @unittest.skipUnless(numpy, "NumPy is not installed")
     def test_numpy(self):
-        days = numpy.frombuffer(speedate.date_column(b"2020-02-29\nnever\n0000-01-01\n9999-12-31", faults="nat"), "datetime64[D]")
+        days = numpy.asarray(speedate.date_column(b"2020-02-29\nnever\n0000-01-01\n9999-12-31", refused="number"))
         self.assertEqual(days.astype(str).tolist(), ["2020-02-29", "NaT", "0000-01-01", "9999-12-31"])
-        sizes = numpy.frombuffer(speedate.duration_column(["PT1.5S", None, "-P1D"]), "timedelta64[us]")
+        sizes = numpy.asarray(speedate.duration_column(["PT1.5S", None, "-P1D"]))
         self.assertEqual(sizes.tolist(), [datetime.timedelta(seconds=1.5), None, datetime.timedelta(-1)])
 
 
@@ -547,8 +528,8 @@ EPOCH = datetime.datetime(1970, 1, 1)
 PRINTED = {
     "date": (speedate.date_column, -719_528, 2_932_896, lambda it: datetime.date(1970, 1, 1) + datetime.timedelta(it)),
     "time": (speedate.time_column, 0, 86_399_999_999, lambda it: (EPOCH + datetime.timedelta(microseconds=it)).time()),
-    "date_time": (speedate.date_time_column, -62_167_219_200_000_000, 253_402_300_799_999_999, lambda it: (EPOCH + datetime.timedelta(microseconds=it)).replace(tzinfo=datetime.timezone.utc)),
-    "date_time_clock": (speedate.date_time_clock_column, -62_167_219_200_000_000, 253_402_300_799_999_999, lambda it: EPOCH + datetime.timedelta(microseconds=it)),
+    "datetime": (speedate.datetime_column, -62_167_219_200_000_000, 253_402_300_799_999_999, lambda it: (EPOCH + datetime.timedelta(microseconds=it)).replace(tzinfo=datetime.timezone.utc)),
+    "datetime_clock": (speedate.datetime_clock_column, -62_167_219_200_000_000, 253_402_300_799_999_999, lambda it: EPOCH + datetime.timedelta(microseconds=it)),
     "duration": (speedate.duration_column, 1 - 2**63, 2**63 - 1, lambda it: datetime.timedelta(microseconds=it))}
 
 
@@ -601,7 +582,7 @@ class Printed(unittest.TestCase):
         for kind, (read, least, most, value) in PRINTED.items():
             numbers = [least, most, NAT, 0, *(draw.choice([NAT, draw.randrange(least, most + 1), draw.randrange(2_000)]) for _ in range(70_000))]
             for count in (0, 1, 4, 32_767, 32_768, 32_769, 70_004):
-                lines = speedate.text_column(array.array("q", numbers[:count]), kind)
+                lines = speedate.text_column(array.array("q", numbers[:count]), kind=kind)
                 self.assertIs(type(lines), bytes)
                 self.assertTrue(read(lines, empty="nat").tolist() == numbers[:count], (kind, count))
             for line, number in zip(lines.decode().split("\n"), numbers[:20_000]):
@@ -613,11 +594,11 @@ class Printed(unittest.TestCase):
                     self.check_refused(kind, [0] * 5 + [number] + [0], number)
 
     def check_refused(self, kind, numbers, number):
-        with self.assertRaises(speedate.Fault) as caught:
-            speedate.text_column(numbers, kind)
-        self.assertEqual((caught.exception.index, caught.exception.name), (5, refusal_of(kind, number)))
-        with self.assertRaisesRegex(speedate.Fault, "^[a-z_]*_too_(large|small) in text 40000: expected "):
-            speedate.text_column(itertools.chain([0] * 40_000, [number]), kind)
+        with self.assertRaises(speedate.ParseError) as caught:
+            speedate.text_column(numbers, kind=kind)
+        self.assertEqual((caught.exception.index, caught.exception.code), (5, refusal_of(kind, number)))
+        with self.assertRaisesRegex(speedate.ParseError, "^[a-z_]*_too_(large|small) in text 40000 at 0: expected "):
+            speedate.text_column(itertools.chain([0] * 40_000, [number]), kind=kind)
 
     def test_wide_numbers(self):
         for kind, (*_, value) in PRINTED.items():
@@ -625,39 +606,37 @@ class Printed(unittest.TestCase):
                 refusal = refusal_of(kind, number)
                 for numbers in sources_of(number):
                     if refusal is None:
-                        line = speedate.text_column(numbers, kind).split(b"\n")[1]
+                        line = speedate.text_column(numbers, kind=kind).split(b"\n")[1]
                         self.assertEqual(line.decode(), "" if number == NAT else speedate.text(value(number)), (kind, numbers))
                         continue
-                    with self.assertRaises(speedate.Fault) as caught:
-                        speedate.text_column(numbers, kind)
-                    self.assertEqual((caught.exception.name, caught.exception.index), (refusal, 1), (kind, numbers))
+                    with self.assertRaises(speedate.ParseError) as caught:
+                        speedate.text_column(numbers, kind=kind)
+                    self.assertEqual((caught.exception.code, caught.exception.index), (refusal, 1), (kind, numbers))
 
     def test_wide_timestamps(self):
         unit = speedate.Config("us", 0)
-        for read in (speedate.date_time_column, speedate.date_time_clock_column, speedate.date_time_offset_column, speedate.date_column):
+        for read in (speedate.datetime_column, speedate.datetime_clock_column, speedate.datetime_offset_column, speedate.date_column):
             read = functools.partial(read, timestamps=True, config=unit)
             for number in EDGES:
                 if abs(number) < 2**62:
                     refusal = None if read.func is not speedate.date_column else "date_not_exact"
                 else:
                     refusal = "number_too_large" if not fits(number, 64, False) else "date_too_large" if number > 0 else "date_too_small"
-                wanted = NAT if refusal else 0 if read.func is speedate.date_time_offset_column else number
+                wanted = NAT if refusal else 0 if read.func is speedate.datetime_offset_column else number
                 for numbers in sources_of(number):
-                    faults, table = [], {}
-                    for it in (faults, table):
-                        self.assertEqual(read(numbers, faults=it)[1], wanted, numbers)
+                    told, errors = collected(numbers, read)
+                    self.assertEqual(told[1], wanted, numbers)
                     if refusal is None:
-                        self.assertEqual((faults, len(table["code"])), ([], 0))
+                        self.assertEqual(errors, [])
                         continue
-                    self.assertEqual([(it.name, it.index, it.text) for it in faults], [(refusal, 1, None)], numbers)
-                    self.assertEqual([it.tolist() for it in table.values()], [[1], [faults[0].code], [-1]])
-                    with self.assertRaisesRegex(speedate.Fault, f"^{refusal} in text 1: expected "):
+                    self.assertEqual([(it.code, it.index, it.text, it.start, it.end) for it in errors], [(refusal, 1, str(number), 0, len(str(number)))], numbers)
+                    with self.assertRaisesRegex(speedate.ParseError, f"^{refusal} in text 1 at 0: expected "):
                         read(numbers)
 
     def test_sources(self):
         for kind, (read, *_) in PRINTED.items():
             numbers = [5, NAT, 1_000]
-            wanted = speedate.text_column(numbers, kind)
+            wanted = speedate.text_column(numbers, kind=kind)
             self.assertEqual(wanted.count(b"\n"), 3)
             missing = [None, float("nan"), decimal.Decimal("nan"), *([pandas.NA, pandas.NaT] if pandas else [])]
             sources = [array.array("q", numbers), tuple(numbers), iter(numbers), memoryview(array.array("q", [5, 0, NAT, 0, 1_000, 0]))[::2], read(wanted, empty="nat"), *([5, it, 1_000] for it in missing)]
@@ -665,20 +644,20 @@ class Printed(unittest.TestCase):
                 unit = {"date": "M8[D]", "time": "m8[us]", "duration": "m8[us]"}.get(kind, "M8[us]")
                 whole = numpy.array(numbers)
                 sources += [whole, whole.astype(">i8"), numpy.repeat(whole, 2)[::2], whole.view(unit), numpy.repeat(whole.view(unit), 2)[::2], whole.astype(object)]
-                self.assertEqual(speedate.text_column(numpy.array([5, 100], "i1"), kind), speedate.text_column([5, 100], kind))
+                self.assertEqual(speedate.text_column(numpy.array([5, 100], "i1"), kind=kind), speedate.text_column([5, 100], kind=kind))
                 for wrong in ("M8[ns]", "m8[s]", "M8[D]" if unit != "M8[D]" else "M8[us]"):
                     with self.assertRaisesRegex(TypeError, r"^numbers has to be of \w+64\[\w+\], not \w+64\[\w+\]: astype\(.* makes it so$"):
-                        speedate.text_column(whole.view(wrong), kind)
+                        speedate.text_column(whole.view(wrong), kind=kind)
             if pandas:
                 sources += [pandas.Series(numbers, index=[3, 2, 1]), pandas.Index(numbers), pandas.Series([5, None, 1_000], dtype="Int64")]
             for it in sources:
-                self.assertEqual(speedate.text_column(it, kind), wanted, (kind, it))
+                self.assertEqual(speedate.text_column(it, kind=kind), wanted, (kind, it))
         if pandas and int(pandas.__version__.partition(".")[0]) >= 1:
             moments = pandas.Series(pandas.to_datetime(["2020-02-29T12:13:14.5Z", None]))
-            self.assertEqual(speedate.text_column(moments.dt.tz_convert(None).to_numpy("datetime64[us]"), "date_time"), b"2020-02-29T12:13:14.500000Z\n\n")
+            self.assertEqual(speedate.text_column(moments.dt.tz_convert(None).to_numpy("datetime64[us]"), kind="datetime"), b"2020-02-29T12:13:14.500000Z\n\n")
         for wrong, words in ((5, "'int' object is not iterable"), ("5", "an iterable of integers, not str"), (b"5", "not bytes"), ({}, "one column, not dict"), ([1.5], "number 0 has to be int, not float"), ([0, "1"], "number 1 has to be int, not str"), ([True], "not bool")):
             with self.assertRaisesRegex(TypeError, words):
-                speedate.text_column(wrong, "date")
+                speedate.text_column(wrong, kind="date")
 
 
 class Interpreter(unittest.TestCase):
@@ -697,13 +676,13 @@ class Interpreter(unittest.TestCase):
 
         before = signal.signal(signal.SIGALRM, interrupt)
         try:
-            moments = [(speedate.date_time_column, it) for it in self.sources(2_000_000)]
+            moments = [(speedate.datetime_column, it) for it in self.sources(2_000_000)]
             for read, it in (*moments, (speedate.date_column, b"1970-01-02\n" * 6_000_000), (speedate.duration_column, b"PT1S\n" * 6_000_000), *((speedate.text_column, it) for it in ([5] * 4_000_000, array.array("q", [5] * 4_000_000)))):
                 told = []
                 with self.assertRaises(Interrupt):
                     signal.setitimer(signal.ITIMER_REAL, 0.005)
                     # A column that has heard nothing is in the list before the interpreter hears it.
-                    told.extend(map(read, [it], ["date_time"]) if read is speedate.text_column else map(read, [it]))
+                    told.extend(map(functools.partial(read, kind="datetime") if read is speedate.text_column else read, [it]))
                     time.sleep(1)
                 self.assertEqual(len(told), 0, type(it))
         finally:
@@ -718,7 +697,7 @@ class Interpreter(unittest.TestCase):
 
             def run():
                 state.append("begun")
-                told.append(speedate.date_time_column(it, cut))
+                told.append(speedate.datetime_column(it, config=cut))
                 state.append("done")
 
             thread, count = threading.Thread(target=run), 0
@@ -756,10 +735,10 @@ class Interpreter(unittest.TestCase):
             thread.join()
             return longest, took[0]
 
-        texts, numbers, unix, read = [SECOND] * 2_000_000, array.array("q", range(8_000_000)), speedate.Config("s", 0), speedate.date_time_column
+        texts, numbers, unix, read = [SECOND] * 2_000_000, array.array("q", range(8_000_000)), speedate.Config("s", 0), speedate.datetime_column
         for call in (
-                lambda: read(texts), lambda: read(numbers, unix, timestamps=True), lambda: read(b"x\n" * 4_000_000, faults={}),
-                lambda: speedate.text_column(numbers, "date_time")):
+                lambda: read(texts), lambda: read(numbers, config=unix, timestamps=True), lambda: read(b"x\n" * 4_000_000, refused="collect"),
+                lambda: speedate.text_column(numbers, kind="datetime")):
             waits = []
             # Other programs may have the processors for a while.
             while len(waits) < 8 and not any(wait < min(took / 3, max(0.06, took / 8)) for wait, took in waits):
@@ -771,7 +750,7 @@ class Interpreter(unittest.TestCase):
         data, told = bytearray(lines), [None] * 4
 
         def run(place):
-            told[place] = speedate.date_time_column(lines if place % 2 else data)
+            told[place] = speedate.datetime_column(lines if place % 2 else data)
 
         threads = [threading.Thread(target=run, args=[it]) for it in range(4)]
         for it in threads:
@@ -798,9 +777,9 @@ class Interpreter(unittest.TestCase):
         call = f"""
 import resource, speedate, sys
 texts = [b"{SECOND}\\n" * 4_000_000, bytearray(b"{SECOND}\\n" * 4_000_000), ["{SECOND}"] * 4_000_000][int(sys.argv[1])]
-speedate.date_time_column(b"{SECOND}\\n" * 100_000)
+speedate.datetime_column(b"{SECOND}\\n" * 100_000)
 before = resource.getrusage(resource.RUSAGE_SELF).ru_maxrss
-column = speedate.date_time_column(texts)
+column = speedate.datetime_column(texts)
 print((resource.getrusage(resource.RUSAGE_SELF).ru_maxrss - before) * 1024 / 32_000_000)
 """
         if os.environ.get("LD_PRELOAD"):
@@ -814,14 +793,13 @@ print((resource.getrusage(resource.RUSAGE_SELF).ru_maxrss - before) * 1024 / 32_
         if not hasattr(testcapi, "set_nomemory"):
             self.skipTest("this Python has no _testcapi")
         texts = [SECOND, bytearray(SECOND, "utf-8"), SECOND.replace("Z", "\u221200:00"), "\ud800", None, "x"]
-        read, listed = speedate.date_time_column, lambda make: lambda: functools.partial(speedate.date_time_column, make(), faults=[])
-        others = [functools.partial(call, lines, faults="nat") for call, lines in ((speedate.date_column, b"1970-01-01\nx"), (speedate.duration_column, b"PT0S\nx"))]
+        read, listed = speedate.datetime_column, lambda make: lambda: functools.partial(speedate.datetime_column, make(), refused="collect")
+        others = [functools.partial(call, lines, refused="number") for call, lines in ((speedate.date_column, b"1970-01-01\nx"), (speedate.duration_column, b"PT0S\nx"))]
         makers = [
             *(lambda it=it: it for it in others),
-            *(lambda it=it: functools.partial(read, it, faults={}) for it in (texts, LINES, bytearray(LINES))),
             *map(listed, [lambda: texts, lambda: iter(texts), lambda: LINES, lambda: bytearray(LINES * 3), lambda: spread(LINES), lambda: io.BytesIO(LINES)]),
-            lambda: functools.partial(read, LINES), lambda: functools.partial(read, [5], faults="nat"), lambda: functools.partial(speedate.Config, "s", 0),
-            lambda: functools.partial(speedate.text_column, [5, None] * 50_000, "duration"), lambda: functools.partial(speedate.text_column, array.array("q", [5, 2**40]), "date"),
+            lambda: functools.partial(read, LINES), lambda: functools.partial(read, [5], refused="number"), lambda: functools.partial(speedate.Config, "s", 0),
+            lambda: functools.partial(speedate.text_column, [5, None] * 50_000, kind="duration"), lambda: functools.partial(speedate.text_column, array.array("q", [5, 2**40]), kind="date"),
             lambda: functools.partial(speedate.time, "24:00"), lambda: functools.partial(speedate.time, type("Text", (str,), {})("12:13"))]
         for make in makers:
             failed = 0

@@ -26,13 +26,13 @@ from speedate import _speedate
 
 COUNT = 100_000
 SIDES = (speedate, oracle)
-CALLS = [name for name in ("date", "time", *speedate.__all__) if inspect.isbuiltin(getattr(speedate, name))]
+CALLS = speedate.__all__
 DAY = datetime.date(2020, 2, 29)
-KINDS = ["date", "time", "date_time", "date_time_clock", "duration"]
+KINDS = ["date", "time", "datetime", "datetime_clock", "duration"]
 # A good text of each call on columns.
 COLUMNS = {
-    "date_time_column": "1970-01-01T00:00Z", "date_time_clock_column": "1970-01-01T00:00", "date_time_offset_column": "1970-01-01T00:00Z",
-    "date_column": "1970-01-01", "time_column": "00:00", "time_offset_column": "00:00Z", "duration_column": "PT0S"}
+    "datetime_column": "1970-01-01T00:00Z", "datetime_clock_column": "1970-01-01T00:00", "datetime_offset_column": "1970-01-01T00:00Z",
+    "date_column": "1970-01-01", "time_column": "00:00", "duration_column": "PT0S"}
 
 
 # ---- Drawn arguments: each of them as a function of a side, since each side has its own Config ----
@@ -103,7 +103,7 @@ def drawn_text(draw, name):
     """A text that is mostly one that a call reads, or one but for a character, as one of the types of texts."""
     day = f"{draw.choice([0, draw.randrange(10_000)]):04}-{draw.randrange(1, 13):02}-{draw.randrange(1, 32):02}"
     kinds = {
-        "date_time": lambda: day + draw.choice("TTT _") + drawn_clock(draw), "date": lambda: day, "time": lambda: drawn_clock(draw),
+        "datetime": lambda: day + draw.choice("TTT _") + drawn_clock(draw), "date": lambda: day, "time": lambda: drawn_clock(draw),
         "duration": lambda: drawn_duration(draw), "number": lambda: drawn_number(draw), "": lambda: ""}
     own = next(kind for kind in kinds if name.startswith(kind))
     text = kinds[own if draw.random() < 0.7 else draw.choice(list(kinds))]()
@@ -128,6 +128,11 @@ def drawn_value(draw, name):
     return draw.choice([
         lambda: datetime.date(*day), lambda: datetime.time(*clock), lambda: datetime.datetime(*day, *clock), lambda: Moment(*day, *clock),
         lambda: datetime.timedelta(*size), lambda: Size(*size), lambda: datetime.time(*clock, fold=1)])()
+
+
+def drawn_input(draw, name):
+    """What a call parses: a text, or at times an integer."""
+    return drawn_text(draw, name) if draw.random() < 0.8 or not name.startswith("date") else drawn_integer(draw, name)
 
 
 def drawn_integer(draw, name):
@@ -195,18 +200,14 @@ def mapped(lines):
     return made
 
 
-def drawn_faults(draw, name):
-    return draw.choice([lambda: "raise", lambda: "nat", list, dict])
-
-
-# The drawn values of a parameter, and what makes those that a call changes or uses up.
+# The drawn values of a parameter, and what makes those that a call uses up. The first parameter of `text` has its own.
 DRAWN = {
-    "text": drawn_text, "value": drawn_value, "timestamp": drawn_integer, "second": drawn_integer, "microsecond": drawn_integer,
-    **dict.fromkeys(["timestamps", "exact", "strict", "lines"], lambda draw, name: draw.random() < 0.5),
-    "naive": lambda draw, name: draw.choice(["error", "utc", "UTC"]), "newline": lambda draw, name: draw.choice(["\r\n", "\n"]),
-    "empty": lambda draw, name: draw.choice(["error", "nat"]), "kind": lambda draw, name: draw.choice(KINDS),
+    "text": drawn_text, "value": drawn_input,
+    **dict.fromkeys(["timestamps", "strict", "lines"], lambda draw, name: draw.random() < 0.5),
+    "missing_offset": lambda draw, name: draw.choice(["error", "utc"]), "refused": lambda draw, name: draw.choice(["stop", "number", "collect"]),
+    "empty": lambda draw, name: draw.choice(["error", "nat"]), "kind": lambda draw, name: draw.choice([*KINDS, *KINDS, None]),
     "digits": lambda draw, name: draw.choice([None, 0, 3, 6, 6, 3, 1, 9, -3, "3", True])}
-MADE = {"texts": drawn_column, "faults": drawn_faults, "numbers": drawn_numbers}
+MADE = {"texts": drawn_column, "numbers": drawn_numbers}
 PARAMETERS = {name: list(inspect.signature(getattr(speedate, name)).parameters.values()) for name in CALLS}
 
 
@@ -218,6 +219,8 @@ def drawn_call(draw):
             continue
         if it.name in MADE:
             value = anew(MADE[it.name](draw, name))
+        elif (name, it.name) == ("text", "value"):
+            value = same(drawn_value(draw, name))
         else:
             value = draw.choice(CONFIGS) if it.name == "config" else same(DRAWN[it.name](draw, name))
         if it.kind is not it.KEYWORD_ONLY and len(positional) == place and draw.random() < 0.8:
@@ -232,17 +235,16 @@ def outcome(side, name, positional=(), named={}):
     named = {word: it(side) for word, it in named.items()}
     try:
         value = getattr(side, name)(*(it(side) for it in positional), **named)
-        told = type(value).__name__, repr(value)
+        if type(value).__name__ == "Column":
+            return "Column", value.kind, value.numbers, list(map(told_error, value.refused))
+        return type(value).__name__, repr(value)
     except Exception as error:
-        told = told_error(error)
-    faults = named.get("faults")
-    return (*told, *map(told_error, faults)) if type(faults) is list else (*told, faults) if type(faults) is dict else told
+        return told_error(error)
 
 
 def told_error(error):
-    if not isinstance(error, Exception):
-        return error
-    return type(error).__name__, str(error), error.args, dict(vars(error)), getattr(error, "place", None), getattr(error, "text", None)
+    found = [getattr(error, name, None) for name in ("text", "start", "end", "expected", "hint")]
+    return type(error).__name__, str(error), error.args, dict(vars(error)), found
 
 
 # ---- Wrong types ----
@@ -286,14 +288,14 @@ ODD = list(map(same, [
     array.array("B", [50]), array.array("b", [10, 13, 10]), array.array("h", [1]), [5], ["1", None, 5], memoryview(b"12345678").cast("d"), memoryview(b"12345678").cast("B", [2, 2, 2]), memoryview(b"12345678").cast("c"), memoryview(b""),
     Index(5), Index(2**70), Index(None), Iterates("2020-02-29T00:00Z"), Iterates(5), Iterates("2020-02-29T00:00Z", "2020-02-29T00:00Z"), Nameless("N", (), {})(),
     Other("2020-02-29"), type("Bytes", (bytes,), {})(b"12:13"), collections.UserString("1"), Ellipsis, NotImplemented, ValueError("x"), types,
-])) + [lambda side: released(), lambda side: side.Config, lambda side: side.Config("ms", 0), lambda side: side, lambda side: side.Fault, lambda side: io.BytesIO(b"\n")]
-RIGHT = {"text": "12:13", "value": DAY, "timestamp": 0, "second": 1, "texts": [], "numbers": [0], "kind": "date"}
+])) + [lambda side: released(), lambda side: side.Config, lambda side: side.Config("ms", 0), lambda side: side, lambda side: side.ParseError, lambda side: io.BytesIO(b"\n")]
+RIGHT = {"text": "12:13", "value": "12:13", "texts": [], "numbers": []}
 
 
 def wrong_calls():
     """Each of the objects for each argument of each call, the others right; and the words that no call has."""
     for name in CALLS:
-        needed = {it.name: same(RIGHT[it.name]) for it in PARAMETERS[name] if it.default is it.empty}
+        needed = {it.name: same(DAY if name == "text" else RIGHT[it.name]) for it in PARAMETERS[name] if it.default is it.empty}
         for it in PARAMETERS[name]:
             for wrong in ODD:
                 yield name, (), {**needed, it.name: wrong}
@@ -349,24 +351,24 @@ def fail_import(module, **names):
         sys.modules[module] = real
 
 
-def fault_of(call, *given):
+def error_of(call, *given, **named):
     try:
-        call(*given)
-    except speedate.Fault as fault:
-        return fault.with_traceback(None)
+        call(*given, **named)
+    except speedate.ParseError as error:
+        return error.with_traceback(None)
 
 
 # ---- Interpreters ----
 
 INTERPRETER = """
 import speedate, datetime
-assert speedate.date_time("2020-02-29T12:13Z").tzinfo is datetime.timezone.utc
-assert speedate.date_time("2020-02-29T12:13+05:53").utcoffset().seconds == 353 * 60
-assert list(speedate.date_time_column(b"1970-01-01T00:00:01Z")) == [1000000]
+assert speedate.datetime("2020-02-29T12:13Z").tzinfo is datetime.timezone.utc
+assert speedate.datetime("2020-02-29T12:13+05:53").utcoffset().seconds == 353 * 60
+assert list(speedate.datetime_column(b"1970-01-01T00:00:01Z")) == [1000000]
 try:
     speedate.time("24:00")
-except speedate.Fault as fault:
-    assert (fault.name, fault.place) == ("out_of_range_hour", 0)
+except speedate.ParseError as error:
+    assert (error.code, error.start) == ("out_of_range_hour", 0)
 """
 
 
@@ -425,17 +427,17 @@ class Extension(unittest.TestCase):
         draw, numbers = random.Random(COUNT), collections.Counter()
         for name in [*COLUMNS] * 4:
             texts = [drawn_text(draw, name) for _ in range(min(COUNT // 10, 2_000))]
-            options = {it.name: same(DRAWN[it.name](draw, name)) for it in PARAMETERS[name] if it.name in DRAWN and it.name != "strict"}
+            options = {it.name: same(DRAWN[it.name](draw, name)) for it in PARAMETERS[name] if it.name in DRAWN and it.name not in ("strict", "refused")}
             if draw.random() < 0.5:
                 options["config"] = configured("infer", None, draw.choice(["error", "truncate"]), draw.choice(["lax", "strict"]))
             lines = joined(texts, draw.choice([b"\n", b"\r\n"]))
-            for faults in (lambda: "nat", list, dict):
+            for refused in ("number", "collect"):
                 for kinds in (kinds_of_items(texts), kinds_of_lines(lines)):
-                    first, *others = [(name, [anew(make)], {**options, "faults": anew(faults)}) for make in kinds]
+                    first, *others = [(name, [anew(make)], {**options, "refused": same(refused)}) for make in kinds]
                     wanted = outcome(oracle, *first)
                     for call in (first, *others):
                         self.assertTrue(outcome(speedate, *call) == wanted, (name, type(call[1][0](speedate))))
-            numbers[name] += sum(it != -(2**63) for it in getattr(speedate, name)(texts, faults="nat"))
+            numbers[name] += sum(it != -(2**63) for it in getattr(speedate, name)(texts, refused="number"))
         for name in COLUMNS:
             self.assertGreater(numbers[name], 4 * min(COUNT // 10, 2_000) // 20, name)
 
@@ -470,17 +472,19 @@ class Extension(unittest.TestCase):
                 object.__setattr__(config, "_numbers", bytes(0xFF if it == byte else 0 for it in range(8)))
                 try:
                     getattr(speedate, name)(right, config=config)
-                except speedate.Fault as fault:
-                    self.assertNotEqual(fault.name, "ok")
+                except speedate.ParseError as error:
+                    self.assertNotEqual(error.code, "ok")
+                except ValueError as error:
+                    self.assertEqual(str(error), "the library refuses an argument: config_out_of_range")
                 except TypeError as error:
                     self.assertIn("which is not read here", str(error))
             if name in COLUMNS:
                 options = {"timestamps": True} if name == "date_column" else {}
                 object.__setattr__(config, "_numbers", bytes([0] * 6 + [0xFF, 0]))
-                for faults in ("nat", [], {}):
+                for refused in ("stop", "number", "collect"):
                     for texts in ([COLUMNS[name]], COLUMNS[name].encode(), b"\n"):
-                        with self.assertRaisesRegex(speedate.Fault, "^config_out_of_range in text 0: expected "):
-                            getattr(speedate, name)(texts, config, faults=faults, **options)
+                        with self.assertRaisesRegex(ValueError, "^the library refuses an argument: config_out_of_range$"):
+                            getattr(speedate, name)(texts, config=config, refused=refused, **options)
             object.__delattr__(config, "_numbers")
             with self.assertRaises(AttributeError):
                 getattr(speedate, name)(right, config=config)
@@ -495,21 +499,20 @@ class Extension(unittest.TestCase):
 
     def test_references(self):
         text, odd, config = "2020-02-29T12:13:14.5+05:53", "2020-02-29T12:13\u221200:30", speedate.Config()
-        watched = [text, odd, config, None, True, datetime.timezone.utc, speedate.Config, speedate.Fault, DAY]
+        watched = [text, odd, config, None, True, datetime.timezone.utc, speedate.Config, speedate.ParseError, DAY]
         calls = [(name, positional, named) for name, positional, named in wrong_calls()]
         calls += [drawn_call(random.Random(seed)) for seed in range(1500)]
-        calls += [("date_time", [same(it)], {"config": same(config)}) for it in (text, odd, odd.encode(), bytearray(odd.encode()))]
+        calls += [("datetime", [same(it)], {"config": same(config)}) for it in (text, odd, odd.encode(), bytearray(odd.encode()))]
         for name, positional, named in calls:
             positional, named = [it(speedate) for it in positional], {word: it(speedate) for word, it in named.items()}
             call = getattr(speedate, name)
 
             def once():
                 try:
-                    call(*positional, **named)
+                    for it in getattr(call(*positional, **named), "refused", ()):
+                        it.start
                 except Exception as error:
-                    getattr(error, "place", None)
-                if type(named.get("faults")) in (list, dict):
-                    named["faults"].clear()
+                    getattr(error, "start", None)
 
             def grown():
                 before = [sys.getrefcount(it) for it in [*watched, *positional, *named.values()]]
@@ -527,64 +530,75 @@ class Extension(unittest.TestCase):
         self.assertLess(growth(each, 20), len(calls) / 200)
 
     def test_kept_text(self):
-        """A place is that of the text that was refused, whatever becomes of it, and the text goes with its `Fault`."""
+        """A place is that of the text that was refused, whatever becomes of it, and the text goes with its error."""
         for make in (bytearray, lambda it: memoryview(bytearray(it)), memoryview, lambda it: memoryview(it + b"x")[:-1]):
             text, config = make(b"12:13:60"), speedate.Config(overflow_behavior="truncate")
-            fault = fault_of(speedate.time, text, config)
+            error = error_of(speedate.time, text, config=config)
             if isinstance(text, bytearray):
                 text[:] = b"12:60" * 1_000
             else:
                 if not text.readonly:
                     text[0] = 120
                 text.release()
-            self.assertEqual((fault.place, copy.copy(fault).place), (6, 6))
+            self.assertEqual((error.start, copy.copy(error).start), (6, 6))
         for kind in (str, bytes):
             text = type("Text", (kind,), {})("12:13:60" if kind is str else b"12:13:60")
-            text.fault = fault_of(speedate.time, text)
-            self.assertEqual(text.fault.place, 6)
-            gone = weakref.ref(text.fault)
+            text.error = error_of(speedate.time, text)
+            self.assertEqual(text.error.start, 6)
+            gone = weakref.ref(text.error)
             del text
             gc.collect()
             self.assertIsNone(gone())
 
     def test_found_once(self):
-        """One call finds the place, the end and what was expected, when the first of them is read."""
+        """One call finds the start, the end, what was expected and the hint, when the first of them is read."""
         module, called = sys.modules["speedate._speedate"], []
         found = module._found
         try:
             module._found = lambda *given: called.append(given) or found(*given)
-            for names in itertools.permutations(("place", "end", "expected")):
-                for make in (lambda: fault_of(speedate.time, "12:13:60"), lambda: fault_of(speedate.date_column, ["x"]), lambda: speedate.Fault(1)):
-                    fault = make()
+            for names in itertools.permutations(("start", "end", "expected", "hint")):
+                for make in (lambda: error_of(speedate.time, "12:13:60"), lambda: error_of(speedate.date_column, ["x"]),
+                             lambda: speedate.date_column(["x"], refused="collect").refused[0], lambda: error_of(speedate.date, 1, timestamps=True)):
+                    error = make()
                     self.assertEqual(called, [])
-                    told = [getattr(fault, name) for name in names]
-                    again = copy.deepcopy(fault)
+                    told = [getattr(error, name) for name in names]
+                    again = copy.deepcopy(error)
                     self.assertEqual([getattr(again, name) for name in names], told)
-                    self.assertEqual(told, [getattr(fault, name) for name in names])
+                    self.assertEqual(told, [getattr(error, name) for name in names])
                     self.assertEqual(len(called), 1)
                     called.clear()
         finally:
             module._found = found
 
-    def test_tampered_fault(self):
+    def test_tampered_error(self):
         for slot in ("_source", "_call"):
-            for it in (None, *range(-1, 130), 2**31, 2**70, "", "12:13", speedate.Config("ms", 0), 1.5, b"x", [], memoryview(b"12345678").cast("d")):
-                for call in (speedate.time, lambda text: speedate.date("1x", speedate.Config("ms"), timestamps=True)):
-                    fault = fault_of(call, "12:13:60")
-                    setattr(fault, slot, it)
-                    for read in (lambda: fault.place, lambda: copy.copy(fault).place):
+            for it in (None, *range(-1, 4_200), 2**31, 2**70, "", "12:13", speedate.Config("ms", 0), 1.5, b"x", [], memoryview(b"12345678").cast("d")):
+                for call in (speedate.time, lambda text: speedate.date("1x", config=speedate.Config("ms"), timestamps=True)):
+                    error = error_of(call, "12:13:60")
+                    setattr(error, slot, it)
+                    for read in (lambda: error.start, lambda: copy.copy(error).start):
                         try:
-                            # A call that is None or 0 is none.
-                            self.assertIsInstance(read(), int if it not in (None, 0) else (int, type(None)))
+                            self.assertIsInstance(read(), int)
                         except (OverflowError, TypeError, ValueError):
                             pass
-        fault = fault_of(speedate.time, "x")
-        for name in ("place", "end", "expected"):
+        error = error_of(speedate.time, "x")
+        for name in ("start", "end", "expected", "text", "hint"):
             with self.assertRaises(AttributeError):
-                setattr(fault, name, 5)
-        del fault._source
+                setattr(error, name, 5)
+        del error._source
         with self.assertRaises(AttributeError):
-            fault.place
+            error.start
+
+    def test_tampered_refused(self):
+        for given in ((0, 0, "x", 257), (43, 0, "x", 257), (102, 0, "x", 257), (255, 0, "x", 257), (-1, 0, "x", 257), (1, -1, "x", 257), (1, 0, 5, 257), (1, 0, "x", 2**30), (1, 2**70, "x", 1)):
+            try:
+                error = _speedate._refusal(*given)
+                self.assertIs(type(error), speedate.ParseError)
+                error.start
+            except (OverflowError, TypeError, ValueError):
+                pass
+        with self.assertRaises(IndexError):
+            speedate.date_column(["x"], refused="collect").refused[1]
 
     def test_references_of_columns(self):
         # Python keeps the small integers, so an index has to be a large one.
@@ -593,22 +607,21 @@ class Extension(unittest.TestCase):
 
     def check_references_of_column(self, name, text):
         texts = [text] * 1_000 + [""] * 3
-        lines, long = "\n".join(texts).encode(), f"{text}\n".encode() * (40_000 if name == "date_time_column" else 10_000) + b"\n\n"
+        lines, long = "\n".join(texts).encode(), f"{text}\n".encode() * (40_000 if name == "datetime_column" else 10_000) + b"\n\n"
         sources = [lambda: texts, lambda: iter(texts), lambda: lines, lambda: bytearray(lines), lambda: memoryview(lines), lambda: array.array("B", lines),
                    lambda: io.BytesIO(lines), lambda: memoryview(lines)[::2], lambda: [*texts, 5], lambda: {}, lambda: long, lambda: [None] * 1_000]
         for make in sources:
-            # A dict gets arrays, whatever the texts are.
-            for faults in (lambda: "raise", lambda: "nat", list, *[dict] * (make in sources[:3] or make is sources[8])):
-                once = lambda: outcome(speedate, name, [anew(make)], {"faults": anew(faults), "lines": same(True)})
-                self.assertLess(growth(once, 20), 0.5, (make(), faults))
+            for refused in ("stop", "number", "collect"):
+                once = lambda: outcome(speedate, name, [anew(make)], {"refused": same(refused), "lines": same(True)})
+                self.assertLess(growth(once, 20), 0.5, (make(), refused))
 
     def test_imports(self):
-        # What is left behind by an import that leaks are all its zones, faults and functions.
+        # What is left behind by an import that leaks are all its zones, errors and functions.
         self.assertLess(growth(import_anew, 20), 20)
-        failing = [("datetime", {"datetime_CAPI": None}), *(("speedate._types", it) for it in ({"Config": None}, {"_items": None}, {"Fault": KeyError}, {"Fault": 5}, {"Fault": ValueError}))]
+        failing = [("datetime", {"datetime_CAPI": None}), *(("speedate._types", it) for it in ({"Config": None}, {"_items": None}, {"ParseError": KeyError}, {"ParseError": 5}, {"ParseError": ValueError}))]
         for module, names in failing:
             with self.subTest(module, names=names):
-                self.assertRegex(fail_import(module, **names), "^speedate needs|^speedate.Fault is no ValueError|^speedate.Fault has no slot _source")
+                self.assertRegex(fail_import(module, **names), "^speedate needs|^speedate.ParseError is no ValueError|^speedate.ParseError has no slot _source")
                 self.assertLess(growth(lambda: fail_import(module, **names), 20), 20)
         with self.assertRaises(ValueError):
             fail_import("datetime", datetime_CAPI=5)

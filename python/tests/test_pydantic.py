@@ -23,7 +23,7 @@ class Form(unittest.TestCase):
                 self.assertTrue(it["msg"].isascii() and it["msg"].isprintable() and len(it["msg"]) < 100 + 10 * LONGEST, it)
                 self.assertIn(it["loc"][0], ("day", "wait"))
                 if isinstance(day if it["loc"][0] == "day" else wait, (str, bytes)):
-                    self.assertEqual({type(it["ctx"][name]) for name in ("place", "end")}, {int})
+                    self.assertEqual({type(it["ctx"][name]) for name in ("start", "end")}, {int})
                 json.dumps({name: it[name] for name in ("loc", "msg", "type")})
             return True
         return False

@@ -38,7 +38,7 @@ class Wheel(unittest.TestCase):
         sources = {f"speedate/{it.name}": it.read_bytes() for it in package.iterdir() if it.is_file()}
         for place, data in {**sources, "speedate/GRAMMAR.md": (ROOT / "docs/GRAMMAR.md").read_bytes(), f"{info}/LICENSE": (ROOT / "LICENSE").read_bytes()}.items():
             self.assertEqual(files.get(place), data, place)
-        made = {"speedate/_version.py", "speedate/GRAMMAR.md", *(f"{info}/{it}" for it in ("LICENSE", "METADATA", "RECORD", "WHEEL"))}
+        made = {"speedate/GRAMMAR.md", *(f"{info}/{it}" for it in ("LICENSE", "METADATA", "RECORD", "WHEEL"))}
         [extension] = {*files} - {*sources} - made
         self.assertRegex(extension, r"^speedate/_speedate\.\S+\.so$")
         self.assertEqual({(it.external_attr >> 16, it.date_time) for it in entries}, {(0o100644, (1980, 1, 1, 0, 0, 0))})
@@ -52,10 +52,8 @@ class Wheel(unittest.TestCase):
         self.assertEqual((fields["Wheel-Version"], fields["Root-Is-Purelib"], fields.get_all("Tag")), ("1.0", "false", [f"{python}-{abi}-{platform}"]))
         fields, page = said(files[f"{info}/METADATA"].decode())
         self.assertEqual((fields["Name"], fields["Version"], fields["License-File"], fields["Requires-Python"]), ("speedate", version, "LICENSE", ">=3.8"))
-        self.assertIn("Programming Language :: Python :: {}.{}".format(*sys.version_info), fields.get_all("Classifier"))
         self.assertIn("# Calling the library from Python", page)
         self.assertEqual([it for it in re.findall(r"\]\(([^)]*)\)", page) if not it.startswith("https://")], [])
-        self.assertEqual(files["speedate/_version.py"].decode(), f'__version__ = "{version}"\n')
 
 
 if __name__ == "__main__":

@@ -9,8 +9,6 @@ import speedate
 
 texts: List[str] = []
 lacking: List[Union[str, bytes, int, None]] = []
-faults: List[speedate.Fault] = []
-table: Dict[str, "array.array[int]"] = {}
 row: Dict[str, str] = {}
 floats: List[float] = []
 mixed: List[Union[str, float]] = []
@@ -22,63 +20,63 @@ def generated() -> Iterator[str]:
 
 # What is right.
 day: datetime.date = speedate.date("2020-02-29")
-moment: datetime.datetime = speedate.date_time(b"1", speedate.Config("s", 0), timestamps=True)
+moment: datetime.datetime = speedate.datetime(b"1", config=speedate.Config("s", 0), timestamps=True)
+moment = speedate.datetime(1, timestamps=True)
 front, size = speedate.time_front(memoryview(b"12:13 lunch"))
 printed: str = speedate.text(front) + speedate.text(day) + speedate.text(moment - moment)
-column: "array.array[int]" = speedate.date_time_column(texts, faults=faults, naive="UTC")
-column = speedate.date_time_column(lacking, timestamps=True, faults=table)
+column: speedate.Column = speedate.datetime_column(texts, refused="collect", missing_offset="utc")
+column = speedate.datetime_column(lacking, timestamps=True, refused="number")
 column = speedate.date_column(generated(), empty="nat")
-column = speedate.date_column(io.StringIO(), newline="\n")
-column = speedate.duration_column(io.BytesIO(), faults="raise")
+column = speedate.date_column(io.StringIO())
+column = speedate.duration_column(io.BytesIO(), refused="stop")
 column = speedate.time_column(row.values(), strict=True)
-column = speedate.time_offset_column({""}, lines=True)
-column = speedate.date_time_clock_column(mmap.mmap(-1, 1))
-column = speedate.date_time_offset_column(array.array("q"), timestamps=True)
-lines: bytes = speedate.text_column(column, "date") + speedate.text_column([1, None], "duration")
-refusal: speedate.Refusal = speedate.Unrepresentable("year_zero")
-said: str = refusal.message() + refusal.name + refusal.documentation + refusal.expected
-number: int = speedate.Fault(1, 5).code
+column = speedate.time_column({""}, lines=True)
+column = speedate.datetime_clock_column(mmap.mmap(-1, 1))
+column = speedate.datetime_offset_column(array.array("q"), timestamps=True)
+lines: bytes = speedate.text_column(column) + speedate.text_column([1, None], kind="duration")
+total: int = sum(column) + column[0] + len(column) + len(column.numbers)
+shown: List[str] = [f"{it.message()} {it.text[it.start:it.end]!r} {len(it.text)} {it.expected.title()}" for it in column.refused] + column.refused.codes
+error: speedate.ParseError = speedate.ParseError("too_short", b"", 0, 0, "a date: YYYY-MM-DD")
 
 # What is refused as it runs.
-speedate.date(20200229)  # arg-type
-speedate.date("2020-02-29", timestamps="s")  # arg-type
-speedate.date("2020-02-29", None, True)  # misc
+speedate.date(20200229)  # call-overload
+speedate.date("2020-02-29", timestamps="s")  # call-overload
+speedate.date("2020-02-29", None)  # call-overload
 speedate.time("12:13", timestamps=True)  # call-arg
+speedate.time(1)  # arg-type
 speedate.time()  # call-arg
-speedate.duration("P1D", {"iso_order": "strict"})  # arg-type
+speedate.datetime(1, timestamps=True, strict=True)  # call-overload
+speedate.duration("P1D", config={"iso_order": "strict"})  # arg-type
 speedate.Config("minutes")  # arg-type
 speedate.Config(timestamp_offset="+01:00")  # arg-type
 speedate.Config().iso_order = "strict"  # misc
 speedate.text("2020-02-29")  # call-overload
 speedate.text(None)  # call-overload
-speedate.date_from_timestamp(1.5)  # arg-type
-speedate.date_time_from_timestamp("1")  # arg-type
-column = speedate.date_time_column("1970-01-01T00:00Z")  # assignment
+speedate.date(1.5, timestamps=True)  # call-overload
+column = speedate.datetime_column("1970-01-01T00:00Z")  # assignment
 column = speedate.date_column(row)  # assignment
 print(speedate.duration_column({}).tolist())  # attr-defined
 column = speedate.time_column(floats)  # arg-type
-column = speedate.date_time_column(mixed)  # arg-type
-column = speedate.date_time_column(array.array("d"), timestamps=True)  # arg-type
-column = speedate.date_time_column([day])  # list-item
-column = speedate.date_time_column(5)  # call-overload
+column = speedate.datetime_column(mixed)  # arg-type
+column = speedate.datetime_column(array.array("d"), timestamps=True)  # arg-type
+column = speedate.datetime_column([day])  # list-item
+column = speedate.datetime_column(5)  # call-overload
 column = speedate.date_column(texts, strict=True)  # call-overload
-column = speedate.date_time_clock_column(texts, naive="utc")  # call-overload
-column = speedate.date_time_column(texts, faults="coerce")  # call-overload
-column = speedate.date_time_column(texts, errors="coerce")  # call-overload
-column = speedate.date_time_column(texts, faults=())  # call-overload
-column = speedate.date_time_column(texts, newline="\r")  # call-overload
-column = speedate.date_time_column(texts, lines=1)  # call-overload
+column = speedate.datetime_clock_column(texts, missing_offset="utc")  # call-overload
+column = speedate.datetime_column(texts, refused="coerce")  # call-overload
+column = speedate.datetime_column(texts, errors="coerce")  # call-overload
+column = speedate.datetime_column(texts, lines=1)  # call-overload
 speedate.text(datetime.date(2020, 2, 29), digits=3)  # call-overload
 speedate.text(datetime.time(12), digits=2)  # call-overload
-lines = speedate.text_column(b"1", "date")  # assignment
-lines = speedate.text_column("1", "date")  # assignment
-lines = speedate.text_column(floats, "date")  # call-overload
-lines = speedate.text_column(column, "dates")  # call-overload
-lines = speedate.text_column(column)  # call-overload
-speedate.Fault("too_short")  # arg-type
-refusal.place = 5  # misc
-refusal.expected + 5  # operator
-len(refusal.text)  # arg-type
+lines = speedate.text_column(b"1", kind="date")  # assignment
+lines = speedate.text_column("1", kind="date")  # assignment
+lines = speedate.text_column(floats, kind="date")  # call-overload
+lines = speedate.text_column(column, kind="dates")  # call-overload
+lines = speedate.text_column([1])  # call-overload
+speedate.ParseError("too_short")  # call-arg
+error.start = 5  # misc
+error.expected + 5  # operator
+column.refused[0].code + 5  # operator
 
 
 class Strict(speedate.Config):  # misc
