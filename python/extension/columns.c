@@ -267,7 +267,8 @@ static PyObject *kept_text(PyObject *item, const Text *text, size_t cut) {
 /* The number of this call, in what its errors keep. */
 static int number_of_call(const Column *column) {
     const ColumnReader *reader = &column->reader;
-    return call_number(reader->parser, reader->config) + OF_COLUMN + (reader->lines.assumes_utc ? ASSUMES_UTC : 0) +
+    bool needs_offset = !reader->lines.assumes_utc && reader->number_of != number_of_clock;
+    return call_number(reader->parser, reader->config) + OF_COLUMN + (needs_offset ? 0 : ASSUMES_UTC) +
            (column->are_lines ? OF_LINE : 0);
 }
 

@@ -228,9 +228,8 @@ static int refuse_number(const PrintedColumn *column, int code, Py_ssize_t index
     SpeedatePart part = SPEEDATE_PART_NONE;
     char words[SPEEDATE_CODE_TEXT_SIZE];
     size_t length;
-    if (code > LAST_OF_TEXTS || (code != SPEEDATE_NUMBER_TOO_LARGE &&
-                                 speedate_code_expected(code, &part, words, sizeof words, &length) != SPEEDATE_OK))
-        return raise_mistake(code), -1;
+    if (speedate_code_expected(code, &part, words, sizeof words, &length) != SPEEDATE_OK)
+        return Py_XDECREF(integer), raise_mistake(code), -1;
     PyObject *digits = integer ? call_on_item(state, DIGITS, index, integer, DURATION) : NULL;
     Py_XDECREF(integer);
     if (digits)
