@@ -208,6 +208,13 @@ class Column:
 
     __hash__ = None
 
+    @property
+    def dtype(self):
+        """What the numbers are in NumPy."""
+        import numpy
+
+        return numpy.dtype(_UNITS[self.kind])
+
     def tolist(self):
         """The numbers, as a list."""
         return self.numbers.tolist()
@@ -216,7 +223,7 @@ class Column:
         import numpy
 
         # pandas 1.5 writes into the times that it is given.
-        times = numpy.frombuffer(memoryview(self.numbers).toreadonly(), _UNITS[self.kind])
+        times = numpy.frombuffer(memoryview(self.numbers).toreadonly(), self.dtype)
         if copy is False and dtype not in (None, times.dtype):
             raise ValueError(f"a column of {times.dtype} has {dtype} only in a copy")
         return times.astype(times.dtype if dtype is None else dtype, copy=bool(copy))
@@ -258,7 +265,7 @@ def _wrong_text(index, item, can_read_timestamps):
         cure = ': in pandas astype("Int64") makes integers of floats, which timestamps=True reads'
     elif isinstance(item, (datetime.date, datetime.time, datetime.timedelta)) or type(item).__name__ in ("datetime64", "timedelta64"):
         cure = ": it is parsed already"
-    return TypeError(f"{_wrong('text' if index < 0 else f'text {index}', item, str, bytes, bytearray, memoryview)}{cure}")
+    return TypeError(f"{_wrong('value' if index < 0 else f'text {index}', item, str, bytes, bytearray, memoryview)}{cure}")
 
 
 def _digits(index, item, can_read_timestamps):
@@ -382,7 +389,7 @@ def _checked(name, values):
     of_numpy = getattr(values, "dtype", None)
     if of_numpy is not None and of_numpy.itemsize > 1 and getattr(values, "ndim", 1) != 1:
         raise TypeError(f"{name} has to be one column, not an array of {values.ndim} dimensions: pass values[:, 0], or values.ravel()")
-    return values.astype(object).filled(None) if hasattr(values, "filled") else values
+    return values.tolist() if hasattr(values, "filled") else values
 
 
 def _items(texts):
@@ -397,7 +404,8 @@ def _items(texts):
         # An iteration over such an array makes an object of NumPy for each item, which takes longer.
         from itertools import chain
 
-        values = chain.from_iterable(values[it:it + 1024].tolist() for it in range(0, len(values), 1024))
+        parts = (values[it:it + 1024].tolist() for it in range(0, len(values), 1024))
+        return chain.from_iterable(parts), False
     return values, hasattr(texts, "readline")
 
 

@@ -30,9 +30,6 @@ CASES = {
         "pathlib.Path('payments.csv').write_text(pathlib.Path('payments.csv').read_text() + 'x,29.2.2020\\nx,2020-02-29T00:00Z\\nx,never\\n')",
         "rows", "[3, 5]"),
     "csv.DictReader": ("import csv; file = pathlib.Path('payments.csv'); file.write_text('\\ufeff' + ''.join(file.open().readlines()[:4]))", "list(column)", "[1793520000000000, -2**63, 1793608200000000]"),
-    "days.csv": (
-        "import pandas; pathlib.Path('days.csv').write_text('name,day\\nrent,2026-11-01\\nfood,\\nlamp,1970-01-02\\n')", "frame['day'].tolist()",
-        "[pandas.Timestamp('2026-11-01'), pandas.NaT, pandas.Timestamp('1970-01-02')]"),
     "multiprocessing": (
         "import functools, multiprocessing", "[(it.tolist(), [error.text for error in it.refused]) for it in columns]",
         "[(it.tolist(), [error.text for error in it.refused]) for it in map(read, [chunk['moment'] for chunk in pandas.read_csv('payments.csv', dtype=str, keep_default_na=False, chunksize=100_000)])]"),

@@ -12,6 +12,7 @@ import itertools
 import mmap
 import os
 import pathlib
+import pickle
 import random
 import signal
 import subprocess
@@ -339,6 +340,102 @@ class Blocks(unittest.TestCase):
         texts = [SECOND]
         texts.append(type("Text", (str,), {"__del__": lambda self: texts.extend([SECOND] * 3)})(SECOND))
         self.assertEqual(column(texts), [1_000_000] * 2)
+
+
+class Units(unittest.TestCase):
+    """What other programs make of a column."""
+
+    def made(self):
+        """A column of each kind with 1,000 of its units and one that is missing, and what it is in NumPy."""
+        for read, text, unit in (
+                (speedate.date_column, "1972-09-27", "M8[D]"), (speedate.datetime_column, "1970-01-01T00:00:00.001Z", "M8[us]"),
+                (speedate.datetime_clock_column, "1970-01-01T00:00:00.001", "M8[us]"), (speedate.time_column, "00:00:00.001", "m8[us]"),
+                (speedate.duration_column, "PT0.001S", "m8[us]"), (speedate.datetime_offset_column, "1970-01-01T00:00+00:16", "m8[s]")):
+            yield read([text, None]), unit, 960 if unit == "m8[s]" else 1_000
+
+    def test_pickle(self):
+        for column, *_ in self.made():
+            self.assertEqual(pickle.loads(pickle.dumps(column)), column)
+        texts = ["x", SECOND, b"y", memoryview(b"z"), bytearray(b"24:00"), 5, "1970-01-01T00:00"]
+        for column in (speedate.datetime_column(texts, refused="collect"), speedate.datetime_column(MIXED, refused="collect")):
+            again = pickle.loads(pickle.dumps(column))
+            self.assertEqual((again, list(map(str, again.refused)), again.refused.indices), (column, list(map(str, column.refused)), column.refused.indices))
+
+    @unittest.skipUnless(numpy, "NumPy is not installed")
+    def test_numpy(self):
+        for column, unit, number in self.made():
+            times = numpy.asarray(column)
+            self.assertEqual((times.dtype, times.view("i8").tolist(), numpy.isnat(times).tolist()), (numpy.dtype(unit), [number, NAT], [False, True]))
+            self.assertTrue(numpy.shares_memory(times, numpy.frombuffer(column.numbers, "i8")))
+            with self.assertRaises(ValueError):
+                times[0] = times[0]
+            copied = numpy.array(column)
+            copied[0] = "NaT"
+            self.assertEqual((column.tolist(), memoryview(column.numbers).tolist()), ([number, NAT], [number, NAT]))
+            self.assertEqual(numpy.asarray(column, "M8[ns]" if unit[0] == "M" else "m8[ms]").dtype.kind, unit[0])
+            self.assertEqual(speedate.text_column(times, kind=column.kind) if unit != "m8[s]" else b"", speedate.text_column(column) if unit != "m8[s]" else b"")
+            with self.assertRaises(ValueError):
+                column.__array__("M8[ns]", copy=False)
+        self.assertEqual(numpy.asarray(speedate.date_column([])).shape, (0,))
+
+    @unittest.skipUnless(pandas, "pandas is not installed")
+    def test_pandas(self):
+        """NaT stays NaT, and no call writes into the column."""
+        for column, unit, number in self.made():
+            wanted = [pandas.Timestamp(number, unit=unit[3:-1]) if unit[0] == "M" else pandas.Timedelta(number, unit=unit[3:-1]), pandas.NaT]
+            frame = pandas.DataFrame({"a": [1, 2]})
+            frame["b"] = column
+            made = [pandas.Series(column), frame.assign(m=column)["m"], frame["b"], pandas.DataFrame({"m": column})["m"], pandas.Series(column, index=[5, 3])]
+            if unit[0] == "M":
+                made += [pandas.Series(pandas.to_datetime(column)), pandas.Series(pandas.to_datetime(column, utc=True)).dt.tz_convert(None)]
+            else:
+                made += [pandas.Series(pandas.to_timedelta(column))]
+            for it in made:
+                self.assertEqual((it.tolist(), it.dtype.kind), (wanted, unit[0]))
+            self.assertEqual(column.tolist(), [number, NAT])
+        for unit in ("us", "ns"):
+            try:
+                told = pandas.to_datetime(column, unit=unit, utc=True)
+            except (TypeError, ValueError):
+                continue
+            self.assertIs(told[1], pandas.NaT)
+        self.assertEqual(column.tolist(), [960, NAT])
+
+    @unittest.skipUnless(numpy, "NumPy is not installed")
+    def test_masked(self):
+        mask = [False, True, False]
+        for items, options in (([SECOND, SECOND, SECOND], {}), ([b"1970-01-01T00:00:01Z"] * 3, {}), ([1, 1, 1], {"timestamps": True, "config": speedate.Config("s", 0)}), (numpy.array([SECOND] * 3, "O"), {})):
+            self.assertEqual(column(numpy.ma.array(items, mask=mask), **options), [1_000_000, NAT, 1_000_000])
+            self.assertEqual(column(numpy.ma.array(items), **options), [1_000_000] * 3)
+        self.assertEqual(speedate.text_column(numpy.ma.array([1, 2, 3], mask=mask), kind="date"), b"1970-01-02\n\n1970-01-04\n")
+
+    @unittest.skipUnless(pandas, "pandas is not installed")
+    def test_errors_with_cures(self):
+        texts = numpy.array([[SECOND, SECOND], [SECOND, SECOND]])
+        for wrong in (texts, texts.astype("O"), numpy.ma.array(texts), numpy.zeros((1, 2), "i8"), texts[:1], numpy.array(SECOND)):
+            with self.assertRaisesRegex(TypeError, r"^texts has to be one column, not an array of [02] dimensions: pass values\[:, 0\], or values.ravel\(\)$"):
+                column(wrong)
+        self.assertEqual(column(texts[:, 0]) + column(texts.ravel()), [1_000_000] * 6)
+        moments = pandas.Series(pandas.to_datetime([SECOND]))
+        for wrong in (moments, moments.dt.tz_convert(None), pandas.Index(moments), moments.dt.tz_convert(None).to_numpy()):
+            with self.assertRaisesRegex(TypeError, "^text 0 has to be .*, not (Timestamp|datetime64): it is parsed already$"):
+                column(wrong)
+        for wrong in (moments, pandas.Index(moments), moments.dt.tz_convert(None)):
+            with self.assertRaisesRegex(TypeError, r"^numbers has to be of datetime64\[us\], not datetime64\[ns(, UTC)?\]: (.*) makes it so$") as caught:
+                speedate.text_column(wrong, kind="datetime")
+            cured = eval(f"wrong{str(caught.exception).split(': ')[1].replace(' makes it so', '')}")
+            self.assertEqual(speedate.text_column(cured, kind="datetime"), b"1970-01-01T00:00:01Z\n")
+
+    @unittest.skipUnless(numpy, "NumPy is not installed")
+    def test_texts_of_numpy(self):
+        """An array of texts takes no longer than its list, though an iteration over it makes an object of NumPy for each."""
+        for array_of in (numpy.array([SECOND] * 200_000), numpy.array([SECOND.encode()] * 200_000)):
+            took = {}
+            for name, read in [("array", lambda: column(array_of)), ("list", lambda: column(array_of.tolist()))] * 5:
+                before = time.process_time()
+                read()
+                took[name] = min(took.get(name, 9), time.process_time() - before)
+            self.assertLess(took["array"], 1.3 * took["list"], took)
 
 
 class Refusals(unittest.TestCase):

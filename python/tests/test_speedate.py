@@ -60,6 +60,36 @@ speedate.datetime("2020-02-29t12:13:14.1234567-01:00", config=Config(overflow_be
 time_front("12:13\u221200:30 \u00e9") == (time("12:13-00:30"), 11) -> True
 time_front("12:13\u221200:30 \u00e9".encode()) == (time("12:13-00:30"), 13) -> True
 date_front("0000-01-01 x") -> ParseError: year_zero
+date(1582934400, timestamps=True), date(numbers(-86400), timestamps=True), date(0, timestamps=True) -> (datetime.date(2020, 2, 29), datetime.date(1969, 12, 31), datetime.date(1970, 1, 1))
+speedate.datetime(1793520000, config=Config("s", 0), timestamps=True), speedate.datetime(-1, config=Config("us"), timestamps=True) -> (datetime.datetime(2026, 11, 1, 8, 0, tzinfo=datetime.timezone.utc), datetime.datetime(1969, 12, 31, 23, 59, 59, 999999))
+date(1, timestamps=True) -> ParseError: date_not_exact
+date(2**63 - 1, timestamps=True) -> ParseError: date_too_large
+date(2**63, timestamps=True) -> ParseError: number_too_large
+whole(date, 1, timestamps=True), whole(date, numbers(-2**63 - 1), timestamps=True) -> (('1', 'a timestamp at midnight, or a duration of whole days'), ('-9223372036854775809', 'a number that fits 64 bits'))
+whole(speedate.datetime, 2**62, timestamps=True), whole(speedate.datetime, -62167219200, config=Config("s"), timestamps=True) -> (('4611686018427387904', 'a date up to 9999-12-31'), ('-62167219200', 'a year from 0001 to 9999'))
+refusal(speedate.datetime, 10**5000, timestamps=True)[0] == hex(10**5000) -> True
+date(20200229) -> TypeError: value has to be str or bytes or bytearray or memoryview, not int: timestamps=True reads integers
+speedate.datetime(numbers(1)), -> TypeError: value has to be str or bytes or bytearray or memoryview, not numbers: timestamps=True reads integers
+time(1) -> TypeError: value has to be str or bytes or bytearray or memoryview, not int
+date(datetime.date(2020, 2, 29)) -> TypeError: value has to be str or bytes or bytearray or memoryview, not date: it is parsed already
+date(True, timestamps=True) -> TypeError: value has to be int, not bool
+date(1.0, timestamps=True) -> TypeError: value has to be str or bytes or bytearray or memoryview, not float
+speedate.datetime("1", timestamps=True, strict=True) -> ValueError: strict and timestamps exclude each other
+speedate.datetime("2020-02-29T12:13", None) -> TypeError: datetime() takes at most 1 positional arguments but 2 were given
+date("2020-02-29", strict=True) -> TypeError: date() got an unexpected keyword argument 'strict'
+datetime_front("2026-11-01 08:00:00 -0500") -> (datetime.datetime(2026, 11, 1, 8, 0), 19)
+text_column(date_column(["2020-01-01"]), kind="datetime") -> ValueError: the column is of kind date, not datetime
+text_column(date_column(["2020-01-01", None])), text_column(date_column(["2020-01-01"]), kind="date") -> (b'2020-01-01\n\n', b'2020-01-01\n')
+text_column([18262]) -> TypeError: text_column() needs the kind of numbers that are not a Column
+text_column(datetime_offset_column(["1970-01-01T00:00Z"])) -> ValueError: kind has to be date or time or datetime or datetime_clock or duration
+whole(text_column, [0, 10**30], kind="duration"), whole(text_column, [86400000000], kind="time") -> (('1000000000000000000000000000000', 'a number that fits 64 bits, or 32 if it counts days'), ('86400000000', 'a time within the day: 00:00:00 to 23:59:59.999999'))
+whole(text_column, array.array("q", [0, 0, 2932897]), kind="date"), whole(text_column, array.array("Q", [2**63]), kind="time") -> (('2932897', 'a date up to 9999-12-31'), ('9223372036854775808', 'a number that fits 64 bits, or 32 if it counts days'))
+date_column(["1970-01-02"] * 12) -> Column('date', [1, 1, 1, 1, 1, 1, 1, 1, 1, 1, .. 2 more])
+date_column(["1970-01-02"]) == date_column(["1970-01-02"]), date_column([]) == time_column([]), date_column(["1970-01-02"]) == [1], date_column([]) != date_column(["1970-01-02"]) -> (True, False, False, True)
+len(date_column(["1970-01-02"])), date_column(["1970-01-02"])[0], [*date_column(["1970-01-02", None])], date_column(["1970-01-02"]).numbers -> (1, 1, [1, -9223372036854775808], array('q', [1]))
+hash(date_column([])) -> TypeError: unhashable type: 'Column'
+str(checked(ParseError("too_short", b"12", 2, 2, "a time", 5, "a hint"))) -> "too_short in text 5 at 2: expected a time: b'12' (a hint)"
+date_column(["x"], refused="collect").refused, len(date_column(["x"], refused="number").refused) -> (<1 refused texts>, 0)
 datetime_front("2020-02-29") -> ParseError: invalid_char_date_time_sep
 speedate.datetime("2020-01-01T00:00Z").tzinfo is datetime.timezone.utc -> True
 datetime_column([]) -> Column('datetime', [])
