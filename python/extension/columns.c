@@ -7,7 +7,7 @@
 
 #define BLOCK_BYTES 262144 /* of memory that may change, at a time */
 #define LONG_BYTES 65536   /* of lines, from which on other threads run meanwhile */
-#define REFUSED 256        /* lines at a time that are refused */
+#define REFUSED_LINES 256  /* at a time */
 #define ROWS 1024          /* of a table of errors, at a time */
 
 /* How the library reads lines into numbers. */
@@ -321,7 +321,7 @@ typedef struct {
 
 /* How many lines have been read, and those of them that are refused. */
 typedef struct {
-    Refused refused[REFUSED];
+    Refused refused[REFUSED_LINES];
     size_t count, lines;
 } Read;
 
@@ -349,7 +349,7 @@ static int read_refused(const Column *column, Text *rest, SpeedateColumnConfig l
 static int read_lines(const Column *column, Text *rest, SpeedateColumnConfig lines, Read *read) {
     const ColumnReader *reader = &column->reader;
     SpeedateProgress progress = {0, 0, SPEEDATE_OK, SPEEDATE_PART_NONE};
-    size_t most = column->refused == STOP ? 1 : REFUSED;
+    size_t most = column->refused == STOP ? 1 : REFUSED_LINES;
     int code;
     /* The library ends at each line that is refused, if anyone wants to know of it. */
     lines.goes_on = column->refused == NUMBER;
@@ -379,7 +379,7 @@ static int add_some_lines(Column *column, Text *text, bool is_last) {
     if (thread)
         PyEval_RestoreThread(thread);
     /* Where many lines are refused, little is read at once: to wait for the lock each time would take the column longer. */
-    column->keeps_lock = read.count == REFUSED;
+    column->keeps_lock = read.count == REFUSED_LINES;
     for (size_t i = 0; i < read.count; i++) {
         const Refused *it = &read.refused[i];
         if (refuse_text(column, it->code, column->before + (Py_ssize_t)it->place, NULL, &it->text, 0) < 0)

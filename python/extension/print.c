@@ -185,19 +185,14 @@ static int print_dates(int64_t *numbers, size_t count, char *lines, size_t size,
     return speedate_date_print_column((const int32_t *)numbers, count, lines, size, progress);
 }
 
-/* The kinds of columns that can be printed, by the name of the call that reads one, and the largest number that C can
- * take. The smallest is its opposite, since one less stands for a refused line. */
-enum { KINDS = 5 };
+/* The kinds of columns that can be printed, in the order of _PRINTED in _types.py, and the largest number that C can take.
+ * The smallest is its opposite, since one less stands for a refused line. */
 static const struct {
-    const char *name;
     PrintLines *print;
     int64_t largest;
-} kinds[KINDS] = {
-    {"date", print_dates, INT32_MAX},
-    {"time", print_times, INT64_MAX},
-    {"datetime", print_datetimes, INT64_MAX},
-    {"datetime_clock", print_clocks, INT64_MAX},
-    {"duration", print_durations, INT64_MAX},
+} kinds[] = {
+    {print_dates, INT32_MAX},  {print_times, INT64_MAX},     {print_datetimes, INT64_MAX},
+    {print_clocks, INT64_MAX}, {print_durations, INT64_MAX},
 };
 
 /* A column that is printed: its lines so far, with room after them, and the numbers of the next ones. */
@@ -349,22 +344,16 @@ static PyObject *lines_of(PrintedColumn *column, PyObject *numbers) {
 PyObject *call_text_column(GIVEN) {
     static const Signature signature = {"text_column", {"numbers", "kind"}, 1};
     PrintedColumn column = {.state = PyModule_GetState(module)};
-    PyObject *bound[2], *lines = NULL, *numbers, *kind;
+    PyObject *bound[2], *lines = NULL, *numbers;
+    int kind;
     if (bind(&signature, arguments, count, keywords, bound) < 0)
         return NULL;
     PyObject *pair = PyObject_CallFunctionObjArgs(column.state->held[NUMBERS_OF], bound[0], bound[1] ? bound[1] : Py_None, NULL);
-    if (!pair || !PyArg_ParseTuple(pair, "OO", &numbers, &kind)) {
-        Py_XDECREF(pair);
-        return NULL;
-    }
-    PyObject *place = PyObject_CallFunction(column.state->held[CHOICE], "sOsssss", "kind", kind, kinds[0].name,
-                                            kinds[1].name, kinds[2].name, kinds[3].name, kinds[4].name);
-    if (place) {
-        column.print = kinds[PyLong_AsLong(place)].print;
-        column.largest = kinds[PyLong_AsLong(place)].largest;
+    if (pair && PyArg_ParseTuple(pair, "Oi", &numbers, &kind)) {
+        column.print = kinds[kind].print;
+        column.largest = kinds[kind].largest;
         lines = lines_of(&column, numbers);
     }
-    Py_XDECREF(place);
-    Py_DECREF(pair);
+    Py_XDECREF(pair);
     return lines;
 }

@@ -97,9 +97,9 @@ class ParseError(ValueError):
         return "\n".join([self._told(), *_marked(self.text, self.start, self.end), *([] if self.hint is None else [self.hint])])
 
     def __reduce__(self):
-        text, (start, end, expected, hint) = self.text, self._part()
+        text, (start, end, expected, hint) = _plain_text(self.text), self._part()
         first = max(0, min(start - _KEPT // 2, len(text) - _KEPT))
-        kept = _plain_text(text)[first:first + _KEPT]
+        kept = text[first:first + _KEPT]
         return type(self), (self.code, kept, start - first, min(end - first, len(kept)), expected, self.index, hint), vars(self)
 
 
@@ -171,6 +171,9 @@ class Refused:
         return f"<{len(self)} refused texts>"
 
 
+_NONE_REFUSED = Refused()
+
+
 class Column:
     """The numbers of the texts of a column, in the unit of its `kind`. -2**63 stands for a text that is missing or refused.
 
@@ -191,8 +194,8 @@ class Column:
     __module__ = "speedate"
     __slots__ = "kind", "numbers", "refused"
 
-    def __init__(self, kind, numbers, refused=Refused()):
-        self.kind, self.numbers, self.refused = kind, numbers, refused
+    def __init__(self, kind, numbers, refused=None):
+        self.kind, self.numbers, self.refused = kind, numbers, refused or _NONE_REFUSED
 
     def __len__(self):
         return len(self.numbers)
@@ -204,7 +207,7 @@ class Column:
         return iter(self.numbers)
 
     def __eq__(self, other):
-        return (self.kind, self.numbers) == (other.kind, other.numbers) if isinstance(other, Column) else NotImplemented
+        return (self.kind, self.numbers) == (other.kind, other.numbers) if type(other) is type(self) else NotImplemented
 
     __hash__ = None
 
@@ -409,22 +412,30 @@ def _items(texts):
     return values, hasattr(texts, "readline")
 
 
+_PRINTED = "date", "time", "datetime", "datetime_clock", "duration"
+
+
 def _numbers_of(numbers, kind):
-    """The integers that a column is printed from, and its kind."""
-    if isinstance(numbers, Column):
-        if kind not in (None, numbers.kind):
-            raise ValueError(f"the column is of kind {numbers.kind}, not {kind}")
-        return numbers.numbers, numbers.kind
+    """The integers that a column is printed from, and the place of its kind."""
+    from ._speedate import Column
+
     if kind is None:
-        raise TypeError("text_column() needs the kind of numbers that are not a Column")
+        if not isinstance(numbers, Column):
+            raise TypeError(f"numbers has to be a Column, not {type(numbers).__name__}, unless there is a kind")
+        kind = numbers.kind
+    place = _choice("kind", kind, *_PRINTED)
+    if isinstance(numbers, Column):
+        if kind != numbers.kind:
+            raise ValueError(f"the column is of kind {numbers.kind}, not {kind}")
+        return numbers.numbers, place
     if isinstance(numbers, (str, bytes, bytearray)):
         raise TypeError(f"numbers has to be an iterable of integers, not {type(numbers).__name__}")
     values = _checked("numbers", numbers)
-    of_numpy, unit = getattr(values, "dtype", None), _UNITS.get(kind)
+    of_numpy, unit = getattr(values, "dtype", None), _UNITS[kind]
     if getattr(of_numpy, "kind", "") not in ("m", "M"):
-        return values, kind
+        return values, place
     if of_numpy == unit:
-        return values.to_numpy().view("int64") if _is_of_pandas(values) else values.view("int64"), kind
+        return values.to_numpy().view("int64") if _is_of_pandas(values) else values.view("int64"), place
     zone = f"{'.dt' * hasattr(values, 'dt')}.tz_convert(None)" if hasattr(of_numpy, "tz") else ""
     cure = f'{zone}.to_numpy("{unit}")' if _is_of_pandas(values) else f'astype("{unit}")'
     raise TypeError(f"numbers has to be of {unit}, not {of_numpy}: {cure} makes it so")

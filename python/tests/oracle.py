@@ -671,12 +671,15 @@ PRINTED = "date", "time", "datetime", "datetime_clock", "duration"
 
 def _numbers_of(numbers, kind):
     """The integers of a column, and its kind, if it has no times of NumPy."""
-    if type(numbers).__name__ == "Column":
-        if kind not in (None, numbers.kind):
+    is_column = type(numbers).__name__ == "Column"
+    if kind is None and not is_column:
+        raise TypeError(f"numbers has to be a Column, not {type(numbers).__name__}, unless there is a kind")
+    kind = numbers.kind if kind is None else kind
+    _choice("kind", kind, *PRINTED)
+    if is_column:
+        if kind != numbers.kind:
             raise ValueError(f"the column is of kind {numbers.kind}, not {kind}")
-        return numbers.numbers, numbers.kind
-    if kind is None:
-        raise TypeError("text_column() needs the kind of numbers that are not a Column")
+        return numbers.numbers, kind
     if isinstance(numbers, (str, bytes, bytearray)):
         raise TypeError(f"numbers has to be an iterable of integers, not {type(numbers).__name__}")
     if isinstance(numbers, dict):
@@ -686,7 +689,6 @@ def _numbers_of(numbers, kind):
 
 def text_column(numbers, *, kind=None):
     numbers, kind = _numbers_of(numbers, kind)
-    _choice("kind", kind, *PRINTED)
     lines, most = [], 2**31 - 1 if kind == "date" else 2**63 - 1
     for index, it in enumerate(numbers):
         number = -(2**63) if _is_missing(it) else _whole("number", index, it)

@@ -65,9 +65,9 @@ speedate.datetime(1793520000, config=Config("s", 0), timestamps=True), speedate.
 date(1, timestamps=True) -> ParseError: date_not_exact
 date(2**63 - 1, timestamps=True) -> ParseError: date_too_large
 date(2**63, timestamps=True) -> ParseError: number_too_large
-whole(date, 1, timestamps=True), whole(date, numbers(-2**63 - 1), timestamps=True) -> (('1', 'a timestamp at midnight, or a duration of whole days'), ('-9223372036854775809', 'a number that fits 64 bits'))
-whole(speedate.datetime, 2**62, timestamps=True), whole(speedate.datetime, -62167219200, config=Config("s"), timestamps=True) -> (('4611686018427387904', 'a date up to 9999-12-31'), ('-62167219200', 'a year from 0001 to 9999'))
-refusal(speedate.datetime, 10**5000, timestamps=True)[0] == hex(10**5000) -> True
+whole(date, 1, timestamps=True), whole(date, numbers(-2**63 - 1), timestamps=True) -> (('1', 'a date, or a timestamp at midnight'), ('-9223372036854775809', 'a number that fits 64 bits'))
+whole(speedate.datetime, 2**62, timestamps=True), whole(speedate.datetime, -62167219200, config=Config("s"), timestamps=True) -> (('4611686018427387904', 'a date in the years 0000 to 9999'), ('-62167219200', 'a year from 0001 to 9999'))
+refusal(speedate.datetime, 10**4000, timestamps=True)[0] == str(10**4000) -> True
 date(20200229) -> TypeError: value has to be str or bytes or bytearray or memoryview, not int: timestamps=True reads integers
 speedate.datetime(numbers(1)), -> TypeError: value has to be str or bytes or bytearray or memoryview, not numbers: timestamps=True reads integers
 time(1) -> TypeError: value has to be str or bytes or bytearray or memoryview, not int
@@ -80,10 +80,10 @@ date("2020-02-29", strict=True) -> TypeError: date() got an unexpected keyword a
 datetime_front("2026-11-01 08:00:00 -0500") -> (datetime.datetime(2026, 11, 1, 8, 0), 19)
 text_column(date_column(["2020-01-01"]), kind="datetime") -> ValueError: the column is of kind date, not datetime
 text_column(date_column(["2020-01-01", None])), text_column(date_column(["2020-01-01"]), kind="date") -> (b'2020-01-01\n\n', b'2020-01-01\n')
-text_column([18262]) -> TypeError: text_column() needs the kind of numbers that are not a Column
+text_column([18262]) -> TypeError: numbers has to be a Column, not list, unless there is a kind
 text_column(datetime_offset_column(["1970-01-01T00:00Z"])) -> ValueError: kind has to be date or time or datetime or datetime_clock or duration
 whole(text_column, [0, 10**30], kind="duration"), whole(text_column, [86400000000], kind="time") -> (('1000000000000000000000000000000', 'a number that fits 64 bits, or 32 if it counts days'), ('86400000000', 'a time within the day: 00:00:00 to 23:59:59.999999'))
-whole(text_column, array.array("q", [0, 0, 2932897]), kind="date"), whole(text_column, array.array("Q", [2**63]), kind="time") -> (('2932897', 'a date up to 9999-12-31'), ('9223372036854775808', 'a number that fits 64 bits, or 32 if it counts days'))
+whole(text_column, array.array("q", [0, 0, 2932897]), kind="date"), whole(text_column, array.array("Q", [2**63]), kind="time") -> (('2932897', 'a date in the years 0000 to 9999'), ('9223372036854775808', 'a number that fits 64 bits, or 32 if it counts days'))
 date_column(["1970-01-02"] * 12) -> Column('date', [1, 1, 1, 1, 1, 1, 1, 1, 1, 1, .. 2 more])
 date_column(["1970-01-02"]) == date_column(["1970-01-02"]), date_column([]) == time_column([]), date_column(["1970-01-02"]) == [1], date_column([]) != date_column(["1970-01-02"]) -> (True, False, False, True)
 len(date_column(["1970-01-02"])), date_column(["1970-01-02"])[0], [*date_column(["1970-01-02", None])], date_column(["1970-01-02"]).numbers -> (1, 1, [1, -9223372036854775808], array('q', [1]))
@@ -116,7 +116,7 @@ datetime_column(b"\n\r\n1970-01-01T00:00Z\n\n", empty="nat") -> Column('datetime
 datetime_column(b"\n \n", empty="nat") -> ParseError: too_short in text 1
 datetime_column([], empty="NaT") -> ValueError: empty has to be error or nat
 datetime_column([], errors="coerce") -> TypeError: datetime_column() got an unexpected keyword argument 'errors': the word is refused, and refused='number' does what errors='coerce' does in pandas
-speedate.datetime("", errors="coerce") -> TypeError: speedate.datetime() got an unexpected keyword argument 'errors'
+speedate.datetime("", errors="coerce") -> TypeError: datetime() got an unexpected keyword argument 'errors'
 datetime_column(bytearray(b"1970-01-01T00:00:00.000001Z\n1969-12-31T23:59:59Z")) -> Column('datetime', [1, -1000000])
 datetime_column(memoryview(b"1970-01-01T00:00Z\n\n"), refused="number") -> Column('datetime', [0, -9223372036854775808])
 datetime_column(it for it in ["0000-01-01T00:00Z", b"9999-12-31T23:59:59.999999-23:59"]) -> Column('datetime', [-62167219200000000, 253402387139999999])
@@ -137,7 +137,7 @@ faulted(["1970-01-01T00:00Z"]) -> (1, [])
 faulted(["x", 5, numbers(20200229)]) -> (3, ['too_short in text 0', 'too_short in text 1: it is an integer, which is a timestamp only with timestamps=True', 'too_short in text 2: it is an integer, which is a timestamp only with timestamps=True'])
 faulted([5], time_column), faulted([-5], duration_column) -> ((1, ['too_short in text 0: it is an integer, not a text']), (1, ['duration_invalid_days in text 0: it is an integer, not a text']))
 refusal(date_column, [20200229]), refusal(date_column, [numbers(10**30)]), refusal(time_column, [20200229]) -> (('20200229', 8), ('1000000000000000000000000000000', 4), ('20200229', 2))
-listed(["x", 5, None, 2**70]), listed(range(2), duration_column) -> (([0, 1, 3], [1, 1, 4], [1, 1, 4]), ([0, 1], [34, 34], [1, 1]))
+listed(["x", 5, None, 2**70]), listed(range(2), duration_column) -> (([0, 1, 3], ['too_short', 'too_short', 'invalid_char_date_sep'], [1, 1, 4]), ([0, 1], ['duration_invalid_days', 'duration_invalid_days'], [1, 1]))
 datetime_column([True], refused="number") -> TypeError: text 0 has to be str or bytes or bytearray or memoryview, not bool
 date_column([numbers("x")]) -> TypeError: text 0 has to be str or bytes or bytearray or memoryview, not numbers
 datetime_column([], refused=[]) -> TypeError: refused has to be str, not list
@@ -171,15 +171,15 @@ date_column("1970-01-02") -> TypeError: texts has to be an iterable of texts, a 
 datetime_column([1654646404, "1970-01-01T00:00:01Z", None, numbers(2)], config=Config(timestamp_offset=0), timestamps=True) -> Column('datetime', [1654646404000000, 1000000, -9223372036854775808, 2000000])
 datetime_column(array.array("q", [0, -1, 1500000]), config=Config("us", 0), timestamps=True) -> Column('datetime', [0, -1, 1500000])
 datetime_column(array.array("q", [0, 3600]), config=Config("s", 3600), timestamps=True), datetime_column(range(2), timestamps=True, missing_offset="utc") -> (Column('datetime', [-3600000000, 0]), Column('datetime', [0, 1000000]))
-[datetime_column(array.array(it, [1, 20000]), timestamps=True, missing_offset="utc") for it in "hilqHILQ"] == [array.array("q", [1000000, 20000000000])] * 8 -> True
+[datetime_column(array.array(it, [1, 20000]), timestamps=True, missing_offset="utc") for it in "hilqHILQ"] == [Column("datetime", array.array("q", [1000000, 20000000000]))] * 8 -> True
 datetime_column(memoryview(array.array("q", [1, 2, 3]))[::2], timestamps=True, missing_offset="utc") -> Column('datetime', [1000000, 3000000])
 datetime_column(array.array("q", [20000000000, 20000000001]), timestamps=True, missing_offset="utc") -> Column('datetime', [20000000000000000, 20000000001000])
 datetime_column(array.array("q", [1]), timestamps=True), datetime_column([1], timestamps=True) -> ParseError: tz_required in text 0
 datetime_column(array.array("q", [0, 253402300800000, -(2**63)]), timestamps=True, missing_offset="utc", refused="number") -> Column('datetime', [0, -9223372036854775808, -9223372036854775808])
 date_column(array.array("q", [0, 86400, -86400]), timestamps=True), date_column([172800], timestamps=True) -> (Column('date', [0, 1, -1]), Column('date', [2]))
 date_column(array.array("q", [0, 1]), timestamps=True) -> ParseError: date_not_exact in text 1
-refusal(date_column, [1], timestamps=True), expected(date_column, [1], timestamps=True) -> ((None, None), 'a timestamp at midnight, or a duration of whole days')
-numbered(date_column, [0, 1, 86400, 2**60]), numbered(datetime_column, [0, 2**60]) -> ((4, [1, 3], [5, 39], [-1, -1]), (2, [0, 1], [19, 39], [-1, -1]))
+refusal(date_column, [1], timestamps=True), expected(date_column, [1], timestamps=True) -> (('1', 0), 'a date, or a timestamp at midnight')
+numbered(date_column, [0, 1, 86400, 2**60]), numbered(datetime_column, [0, 2**60]) -> ((4, [1, 3], ['date_not_exact', 'date_too_large']), (2, [0, 1], ['tz_required', 'date_too_large']))
 datetime_column([True], timestamps=True) -> TypeError: text 0 has to be int, not bool
 datetime_column([1, 2**63], timestamps=True, missing_offset="utc") -> ParseError: number_too_large in text 1
 datetime_column(array.array("Q", [1, 2**63]), timestamps=True, missing_offset="utc") -> ParseError: number_too_large in text 1
@@ -194,7 +194,7 @@ datetime_column([1.5], timestamps=True) -> TypeError: text 0 has to be str or by
 datetime_column([1]) -> ParseError: too_short in text 0: it is an integer, which is a timestamp only with timestamps=True
 datetime_column(array.array("q", [1])) -> ParseError: too_short in text 0: it is an integer, which is a timestamp only with timestamps=True
 len(datetime_column(array.array("q", [1]) * 100000, timestamps=True, missing_offset="utc")) -> 100000
-datetime_clock_column([]), time_column(b""), datetime_offset_column(b""), time_offset_column([]) -> (Column('datetime_clock', []), Column('time', []), Column('datetime_offset', []), Column('time_offset', []))
+datetime_clock_column([]), time_column(b""), datetime_offset_column(b"") -> (Column('datetime_clock', []), Column('time', []), Column('datetime_offset', []))
 datetime_clock_column(["1970-01-01T01:00+01:00", b"1970-01-01 00:00:00.000001", None]), datetime_clock_column(b"1970-01-01T01:00+01:00\r\n1969-12-31T23:59:59.999999-23:59") -> (Column('datetime_clock', [3600000000, 1, -9223372036854775808]), Column('datetime_clock', [3600000000, -1]))
 datetime_clock_column(["0000-01-01T00:00+23:59", "9999-12-31T23:59:59.999999-23:59"]) -> Column('datetime_clock', [-62167219200000000, 253402300799999999])
 datetime_clock_column(["1970-01-01T00:00\n"]) -> ParseError: invalid_char_tz_sign in text 0: it has a line ending, which lines=True drops
@@ -221,9 +221,8 @@ time_column(["00:00:01Z", "00:00Z"], strict=True, refused="number"), time_column
 time_column([], timestamps=True) -> TypeError: time_column() got an unexpected keyword argument 'timestamps'
 time_column([1]) -> ParseError: too_short in text 0: it is an integer, not a text
 time_column([], config=Config(timestamp_offset=0)) -> TypeError: config has a timestamp_offset, which is not read here: date and datetime do with timestamps=True
-faulted(["00:00", "00:00+01:00", "24:00"], time_offset_column), faulted(b"00:00\n00:00+01:00\n24:00", time_offset_column) -> ((3, ['tz_required in text 0', 'out_of_range_hour in text 2']), (3, ['tz_required in text 0', 'out_of_range_hour in text 2']))
-listed(["00:00:00.5", "1:30", "00:00Z"], time_offset_column), listed(b"1970-01-01T00:00:00.5\n1970-01-01", datetime_offset_column) -> (([0, 1], [19, 1], [10, 4]), ([0, 1], [19, 3], [21, 10]))
-expected(time_offset_column, ["00:00"]), expected(time_column, ["1:30"]), expected(datetime_clock_column, ["x"], timestamps=True) -> ('an offset: Z or +01:00', 'a time: HH:MM or HH:MM:SS', 'a date-time, as YYYY-MM-DDTHH:MM:SS, or a number')
+listed(b"1970-01-01T00:00:00.5\n1970-01-01", datetime_offset_column) -> ([0, 1], ['tz_required', 'invalid_char_date_time_sep'], [21, 10])
+expected(time_column, ["1:30"]), expected(datetime_clock_column, ["x"], timestamps=True) -> ('a time: HH:MM or HH:MM:SS', 'a date-time, as YYYY-MM-DDTHH:MM:SS, or a number')
 duration_column(["PT1.5S", "-00:01:00", "1 day", "-PT0S"]) -> Column('duration', [1500000, -60000000, 86400000000, 0])
 duration_column(b"PT1.5S\r\n-00:01:00\n1 day") -> Column('duration', [1500000, -60000000, 86400000000])
 duration_column(["P106751991DT4H54.775807S"]) -> Column('duration', [9223372036854775807])
@@ -238,16 +237,13 @@ duration_column([], timestamps=True) -> TypeError: duration_column() got an unex
 faulted(["PT1S", None, "P106751992D", "x"], duration_column) -> (4, ['number_too_large in text 2', 'duration_invalid_number in text 3'])
 faulted(b"PT1S\n\nP106751992D\nx", duration_column) -> (4, ['too_short in text 1', 'number_too_large in text 2', 'duration_invalid_number in text 3'])
 faulted(b"1970-01-01\nx\n2021-02-29", date_column) -> (3, ['too_short in text 1', 'out_of_range_day in text 2'])
-faulty(["1970-01-01T00:00Z", "1970-01-01T00:00"]) -> ('tz_required', 1, (19, 1))
-date_from_timestamp(1) -> ParseError: date_not_exact
-date_from_timestamp(2**63 - 1) -> ParseError: date_too_large
 Config(timestamp_offset=86_400) -> ValueError: timestamp_offset has to be from -86399 to 86399
 Config(iso_order="loose") -> ValueError: iso_order has to be lax or strict
 Config(timestamp_offset=numbers(3600)).timestamp_offset -> 3600
 Config("ms") -> Config(timestamp_unit='ms', timestamp_offset=None, overflow_behavior='error', iso_order='lax')
 Config() == pickle.loads(pickle.dumps(Config())) != Config("s") -> True
 Config("s", 0, "truncate", "strict") == copy.deepcopy(Config("s", 0, "truncate", "strict")) -> True
-len({Config(), config=Config(timestamp_offset=0), config=Config("s"), config=Config("infer", None)}) -> 3
+len({Config(), Config(timestamp_offset=0), Config("s"), Config("infer", None)}) -> 3
 Config() == 5 -> False
 Config().__reduce__() -> (<class 'speedate.Config'>, ('infer', None, 'error', 'lax'))
 pickle.loads(pickle.dumps(Config()).replace(b"error", b"trunc")) -> ValueError: overflow_behavior has to be error or truncate
@@ -276,17 +272,17 @@ place(date, "2020-02-29"), place(duration, "x"), place(duration, b"P1D ") -> (No
 place(date_column, ["x"]), place(date_column, b"1970-01-01\n2020-02-30"), place(date_column, ["2020-1\u00e901"]), place(date_column, ["2020-1\u00e901".encode()]) -> (1, 8, 5, 5)
 place(datetime_column, ["1970-01-01T00:00"]), place(datetime_column, b"1970-01-01 00:00:00.5\r\n"), place(datetime_column, ["1"], timestamps=True) -> (16, 21, 1)
 place(datetime_column, ["1970-01-01T00:00"], strict=True), place(datetime_column, ["1.0000000"], timestamps=True) -> (16, 8)
-place(duration_column, ["P1D1Q"]), place(duration_column, b"P106751992D"), place(duration_column, ["P1D1Y"], config=Config(iso_order="strict")) -> (4, None, 4)
+place(duration_column, ["P1D1Q"]), place(duration_column, b"P106751992D"), place(duration_column, ["P1D1Y"], config=Config(iso_order="strict")) -> (4, 0, 4)
 refusal(date, "2020-02-30"), refusal(date, bytearray(b"2020-02-30")), refusal(date, memoryview(b"2020-02-30")) -> (('2020-02-30', 8), (b'2020-02-30', 8), (b'2020-02-30', 8))
 refusal(date, "0000-01-01"), refusal(speedate.datetime, b"0000-01-01T00:00"), refusal(date_front, memoryview(b"0000-01-01 x")) -> (('0000-01-01', 0), (b'0000-01-01T00:00', 0), (b'0000-01-01 x', 0))
-refusal(duration, "-P999999999DT1S"), refusal(date_from_timestamp, -62167219200), refusal(date_from_timestamp, 1) -> (('-P999999999DT1S', 0), (None, None), (None, None))
+refusal(duration, "-P999999999DT1S") -> ('-P999999999DT1S', 0)
 whole(date, "0000-01-01"), whole(speedate.datetime, b"0000-01-01T00:00"), whole(date_front, "0000-01-01 \u00e9"), whole(duration, "-P999999999DT1S") -> (('0000-01-01', 'a year from 0001 to 9999'), (b'0000-01-01T00:00', 'a year from 0001 to 9999'), ('0000-01-01', 'a year from 0001 to 9999'), ('-P999999999DT1S', 'a duration of at least -999999999 days'))
 whole(date, "-62167219200", config=Config("s"), timestamps=True), whole(datetime_front, "0000-01-01T00:00\u221201:00 " + "\u00e9" * 300)[0] == "0000-01-01T00:00\u221201:00" -> (('-62167219200', 'a year from 0001 to 9999'), True)
 refusal(date_column, ["1970-01-01", "x"]), refusal(date_column, b"1970-01-01\nx\r\n"), refusal(date_column, ["x\r\n"], lines=True) -> (('x', 1), (b'x', 1), ('x', 1))
-refusal(date_column, [bytearray(b"x")]), refusal(duration_column, ["PT1S", "P106751992D"]), refusal(date_column, bytearray(b"y")) -> ((b'x', 1), ('P106751992D', None), (b'y', 1))
-listed(["x", "1970-01-01T00:00", None, "1970-01-01T00:00Z", b"2020-02-30T00:00Z"]) -> ([0, 1, 4], [1, 19, 22], [1, 16, 8])
-listed(b"x\n1970-01-01T00:00\n1970-01-01T00:00Z\n\n2020-02-30T00:00Z") -> ([0, 1, 3, 4], [1, 19, 1, 22], [1, 16, 0, 8])
-listed(b"PT1S\nP106751992D\nP1D1Q\n", duration_column), listed(["1970-01-01"], date_column) -> (([1, 2], [97, 33], [-1, 4]), ([], [], []))
+refusal(date_column, [bytearray(b"x")]), refusal(duration_column, ["PT1S", "P106751992D"]), refusal(date_column, bytearray(b"y")) -> ((b'x', 1), ('P106751992D', 0), (b'y', 1))
+listed(["x", "1970-01-01T00:00", None, "1970-01-01T00:00Z", b"2020-02-30T00:00Z"]) -> ([0, 1, 4], ['too_short', 'tz_required', 'out_of_range_day'], [1, 16, 8])
+listed(b"x\n1970-01-01T00:00\n1970-01-01T00:00Z\n\n2020-02-30T00:00Z") -> ([0, 1, 3, 4], ['too_short', 'tz_required', 'too_short', 'out_of_range_day'], [1, 16, 0, 8])
+listed(b"PT1S\nP106751992D\nP1D1Q\n", duration_column), listed(["1970-01-01"], date_column) -> (([1, 2], ['number_too_large', 'duration_invalid_date_unit'], [0, 4]), ([], [], []))
 expected(date, "2020-13-01"), expected(date, "2020-2-9"), expected(date, "2020-2-9", timestamps=True) -> ('month, 01 to 12', 'a date: YYYY-MM-DD', 'a date, YYYY-MM-DD, or a whole number')
 expected(time, "1:30"), expected(time, b"12:00 PM"), expected(time_front, "1:30") -> ('a time: HH:MM or HH:MM:SS', 'after the clock at most an offset: Z or +01:00', 'a time: HH:MM or HH:MM:SS')
 expected(time, "12:13", strict=True), expected(speedate.datetime, "2020-02-29 12:13:14Z", strict=True), expected(speedate.datetime, "2020-02-29x12:13") -> ('a colon, as in HH:MM:SS', 'T or t, then a time', 'T, t, _ or a space, then a time')
@@ -301,7 +297,7 @@ part(time, "12:13:14\U0001f552"), part(time, "12:13\u221201:60"), part(time, "12
 part(time_front, "12:13:14." + "5" * 1000 + "Z \u00e9"), part(time_front, b"12:13:14." + b"5" * 1000) -> ((15, 1009), (15, 1009))
 part(duration, "1h30m"), part(duration, "00:0\u00e9\u00e9\u00e9\u00e9\u00e9\u00e9\u00e9"), part(duration, "P1DT4294967296S") -> ((1, 2), (9, 10), (4, 14))
 part(speedate.datetime, "2020-02-29T1:13:14"), part(datetime_front, "2020-02-29 opening"), part(speedate.datetime, "1.00000000", timestamps=True) -> ((11, 12), (11, 12), (8, 10))
-part(datetime_column, ["1970-01-01T00:00"]), part(date_column, ["2020-1\u00e901"]), part(duration_column, b"P106751992D") -> ((16, 16), (5, 7), (None, None))
+part(datetime_column, ["1970-01-01T00:00"]), part(date_column, ["2020-1\u00e901"]), part(duration_column, b"P106751992D") -> ((16, 16), (5, 7), (0, 11))
 text(datetime.datetime.max) -> '9999-12-31T23:59:59.999999'
 text(datetime.datetime(2020, 10, 25, 2, tzinfo=Zone())) -> '2020-10-25T02:00:00+02:00'
 text(datetime.datetime(2020, 10, 25, 2, tzinfo=Zone(), fold=1)) -> '2020-10-25T02:00:00+01:00'
@@ -437,9 +433,9 @@ CALLS = [getattr(speedate, name) for name in (*speedate.__all__, "Config")]
 FLAG, NAME = (True, bool), ("us", str)
 ARGUMENTS = {
     "text": ("2020-02-29", str, bytes), "config": (None, type(None), speedate.Config), "timestamps": FLAG, "strict": FLAG,
-    "value": (None, datetime.date, str, bytes), "timestamp_unit": NAME, "timestamp_offset": (0, int, type(None)), "overflow_behavior": NAME,
+    "value": ("2020-02-29", str, bytes, datetime.date), "timestamp_unit": NAME, "timestamp_offset": (0, int, type(None)), "overflow_behavior": NAME,
     "iso_order": NAME, "texts": ([], bytes, list), "missing_offset": ("utc", str), "refused": ("number", str), "empty": ("nat", str), "lines": FLAG,
-    "numbers": ([], list, dict, array.array, memoryview), "kind": ("date", str), "digits": (3, int, type(None)),
+    "numbers": ([], list, dict, array.array, memoryview), "kind": ("date", str, type(None)), "digits": (3, int, type(None)),
 }
 WRONG = [None, True, 0, 1.0, 3j, "1", b"1", [], {}, object(), speedate.text, array.array("d", [1]), memoryview(b"12345678").cast("d"),
          datetime.date(2020, 2, 29), speedate.Config, speedate.Config()]
@@ -553,7 +549,7 @@ def call_of(name, fields, text_of=str.encode):
     if name.endswith("_to_text"):
         value = value_of(fields[0])
         return lambda: speedate.text(value)
-    if name == "code_name":
+    if name == "code_name" and _speedate._names()[int(fields[0])] in {"ok", *CODES}:
         return lambda: _speedate._names()[int(fields[0])]
 
 
@@ -679,7 +675,7 @@ class Speedate(unittest.TestCase):
 
     def test_docstrings(self):
         self.assertEqual([it.__name__ for it in CALLS if ">>> " not in it.__doc__], [])
-        self.assertEqual(doctest.testmod(speedate, extraglobs={"datetime": datetime}).failed, 0)
+        self.assertEqual(doctest.testmod(speedate).failed, 0)
 
     def test_names(self):
         functions = [name for name, it in vars(_speedate).items() if inspect.isbuiltin(it) and not name.startswith("_")]
