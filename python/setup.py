@@ -121,6 +121,6 @@ setup(
     # What the include path of the interpreter has comes first: it may have another pyconfig.h than the folders of the system.
     ext_modules=[Extension(
         "speedate._speedate", sorted(glob.glob("extension/*.c")), include_dirs=["extension"], extra_objects=[LIBRARY],
-        depends=glob.glob("extension/*.h"), extra_compile_args=["-std=c99", "-O2", "-g0", "-Wall", "-Wextra"],
+        depends=glob.glob("extension/*.h"), extra_compile_args=["-std=c99", "-O2", "-g0", "-fno-wrapv", "-fno-stack-protector", "-Wall", "-Wextra"],
         extra_link_args=["-s", "-Wl,--version-script=extension/exports"])],
     cmdclass={"bdist_wheel": Wheel, "sdist": Sources})

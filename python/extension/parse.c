@@ -3,17 +3,24 @@
 
 /* ---- Arguments ---- */
 
+static bool is_name(PyObject *keyword, const char *name) {
+    if (!PyUnicode_IS_COMPACT_ASCII(keyword))
+        return false;
+    const char *bytes = (const char *)PyUnicode_1BYTE_DATA(keyword);
+    return bytes[0] == name[0] && strcmp(bytes, name) == 0 && strlen(name) == (size_t)PyUnicode_GET_LENGTH(keyword);
+}
+
 /* What is said of the keyword that pandas has for texts that are refused. */
 static const char *words_on_errors(const Signature *signature, PyObject *keyword) {
     for (int i = 0; signature->parameters[i]; i++)
-        if (strcmp(signature->parameters[i], "refused") == 0 && PyUnicode_CompareWithASCIIString(keyword, "errors") == 0)
+        if (strcmp(signature->parameters[i], "refused") == 0 && is_name(keyword, "errors"))
             return ": the word is refused, and refused='number' does what errors='coerce' does in pandas";
     return "";
 }
 
 int bind_keyword(const Signature *signature, PyObject *keyword, PyObject *argument, PyObject **bound) {
     for (int i = 0; signature->parameters[i]; i++) {
-        if (PyUnicode_CompareWithASCIIString(keyword, signature->parameters[i]) != 0)
+        if (!is_name(keyword, signature->parameters[i]))
             continue;
         if (bound[i])
             return type_error("%s() got multiple values for argument '%U'", signature->name, keyword);

@@ -2,11 +2,13 @@
 
 They are outside of the package, so that a package that is loaded once more has the classes that the extension raises and takes.
 """
+import array
 import datetime
 import math
 import operator
 import struct
 import sys
+from itertools import chain, repeat
 
 
 class ParseError(ValueError):
@@ -143,7 +145,7 @@ class Refused:
     __module__ = "speedate"
     __slots__ = "indices", "_codes", "_texts", "_call"
 
-    def __init__(self, indices=(), codes=(), texts=(), call=0):
+    def __init__(self, indices, codes, texts, call):
         self.indices, self._codes, self._texts, self._call = indices, codes, texts, call
 
     def __len__(self):
@@ -155,6 +157,11 @@ class Refused:
         if isinstance(place, slice):
             return [self[it] for it in range(len(self))[place]]
         return _refusal(self._codes[place], self.indices[place], self._texts[place], self._call)
+
+    def __iter__(self):
+        from ._speedate import _refusal
+
+        return map(_refusal, self._codes, self.indices, self._texts, repeat(self._call))
 
     @property
     def codes(self):
@@ -171,7 +178,7 @@ class Refused:
         return f"<{len(self)} refused texts>"
 
 
-_NONE_REFUSED = Refused()
+_NONE_REFUSED = Refused(array.array("q"), array.array("B"), [], 0)
 
 
 class Column:
@@ -405,8 +412,6 @@ def _items(texts):
         raise TypeError(f'texts has integers of one byte, which are texts in memory: astype("int64") makes integers of a {type(texts).__name__} of {values.dtype}')
     if kind in ("S", "U"):
         # An iteration over such an array makes an object of NumPy for each item, which takes longer.
-        from itertools import chain
-
         parts = (values[it:it + 1024].tolist() for it in range(0, len(values), 1024))
         return chain.from_iterable(parts), False
     return values, hasattr(texts, "readline")

@@ -1,5 +1,5 @@
 import array
-from typing import Any, Iterator, List, Literal, Optional, Sequence, Union, final, overload
+from typing import Any, Iterator, List, Literal, Optional, Union, final, overload
 
 class ParseError(ValueError):
     code: str
@@ -23,13 +23,14 @@ class ParseError(ValueError):
 class Refused:
     indices: array.array[int]
     def __init__(
-        self, indices: Sequence[int] = (), codes: Sequence[int] = (), texts: Sequence[Union[str, bytes]] = (), call: int = 0
+        self, indices: array.array[int], codes: array.array[int], texts: List[Union[str, bytes]], call: int
     ) -> None: ...
     def __len__(self) -> int: ...
     @overload
     def __getitem__(self, place: int) -> ParseError: ...
     @overload
     def __getitem__(self, place: slice) -> List[ParseError]: ...
+    def __iter__(self) -> Iterator[ParseError]: ...
     @property
     def codes(self) -> List[str]: ...
 
