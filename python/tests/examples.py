@@ -26,7 +26,7 @@ CASES = {
         "[pandas.Timestamp('2026-11-01T08:00Z'), pandas.NaT, pandas.Timestamp('2026-11-02T08:30Z')]"),
     "lines = speedate.text_column": (
         "frame = pandas.DataFrame({'moment': pandas.to_datetime(['2020-02-29T12:13:14.5Z', None])})", "lines", "b'2020-02-29T12:13:14.500000Z\\n\\n'"),
-    "chunksize": (
+    "rows = []": (
         "pathlib.Path('payments.csv').write_text(pathlib.Path('payments.csv').read_text() + 'x,29.2.2020\\nx,2020-02-29T00:00Z\\nx,never\\n')",
         "rows", "[3, 5]"),
     "csv.DictReader": ("import csv; file = pathlib.Path('payments.csv'); file.write_text('\\ufeff' + ''.join(file.open().readlines()[:4]))", "list(column)", "[1793520000000000, -2**63, 1793608200000000]"),
