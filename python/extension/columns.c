@@ -682,15 +682,15 @@ static int add_texts(Column *column, PyObject *texts) {
 
 /* The Column of what was read. */
 static PyObject *new_column(Column *column, const char *kind) {
-    PyObject *class = column->state->held[COLUMN];
-    if (!column->table)
-        return PyObject_CallFunction(class, "sO", kind, column->array);
     Table *table = column->table;
-    PyObject *refused = end_rows(column->state, table) < 0 ? NULL
-                        : PyObject_CallFunction(column->state->held[REFUSED], "OOOi", table->arrays[INDICES],
-                                                table->arrays[CODES], table->texts, number_of_call(column));
-    PyObject *made = refused ? PyObject_CallFunction(class, "sOO", kind, column->array, refused) : NULL;
+    PyObject *refused = NULL, *made = NULL, *name = PyUnicode_InternFromString(kind);
+    if (table && end_rows(column->state, table) == 0)
+        refused = PyObject_CallFunction(column->state->held[REFUSED], "OOOi", table->arrays[INDICES],
+                                        table->arrays[CODES], table->texts, number_of_call(column));
+    if (name && (refused || !table))
+        made = PyObject_CallFunctionObjArgs(column->state->held[COLUMN], name, column->array, refused, NULL);
     Py_XDECREF(refused);
+    Py_XDECREF(name);
     return made;
 }
 

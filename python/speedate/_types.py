@@ -397,7 +397,7 @@ def _checked(name, values):
         raise TypeError(f"{name} has to be one column, not {type(values).__name__}: pass its values, or one of its columns")
     values = values.to_numpy() if _is_of_pandas(values) and values.dtype.kind in "Oiu" else values
     of_numpy = getattr(values, "dtype", None)
-    if of_numpy is not None and of_numpy.itemsize > 1 and getattr(values, "ndim", 1) != 1:
+    if getattr(of_numpy, "itemsize", 0) > 1 and getattr(values, "ndim", 1) != 1:
         raise TypeError(f"{name} has to be one column, not an array of {values.ndim} dimensions: pass values[:, 0], or values.ravel()")
     return values.tolist() if hasattr(values, "filled") else values
 
