@@ -684,7 +684,7 @@ static int add_texts(Column *column, PyObject *texts) {
 static PyObject *new_column(Column *column, const char *kind) {
     Table *table = column->table;
     PyObject *refused = NULL, *made = NULL, *name = PyUnicode_InternFromString(kind);
-    if (table && end_rows(column->state, table) == 0)
+    if (name && table && end_rows(column->state, table) == 0)
         refused = PyObject_CallFunction(column->state->held[REFUSED], "OOOi", table->arrays[INDICES],
                                         table->arrays[CODES], table->texts, number_of_call(column));
     if (name && (refused || !table))
