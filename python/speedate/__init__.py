@@ -1,4 +1,4 @@
-"""Parses dates, times of day, date-times and durations into the types of `datetime`, and prints such values.
+"""Parses dates, times of day, date-times and durations into the types of the module `datetime`, and prints these.
 
     >>> import speedate
     >>> speedate.datetime("2020-02-29T12:13:14.5+01:00")
@@ -18,7 +18,7 @@
 
 A text is a `str`, or UTF-8 in `bytes`, a `bytearray` or a `memoryview`. GRAMMAR.md, in the folder of this
 module, says which are accepted, and why any other is refused. A value with an offset is aware, one without is naive,
-and `datetime` refuses to compare the two. Arguments after the text are keywords.
+and Python refuses to compare the two. Arguments after the text are keywords.
 
 What is refused raises a `ParseError`, which is a `ValueError`. An argument that is out of range is a plain `ValueError`, one
 of a wrong type a `TypeError`. So is a `Config` with a unit or an offset of timestamps in a call that parses none: `date`,
