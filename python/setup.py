@@ -1,5 +1,6 @@
 """Compiles the extension with the library of lib/, and packs wheels and source distributions, which are equal byte for byte
-however often they are built. In a clone, bin/build_python first writes the sources and the libraries into a temporary folder."""
+however often they are built. Wheels need no package `wheel`, which setuptools before 70.1 would need. In a clone,
+bin/build_python first writes the sources and the library into a temporary folder."""
 import atexit
 import base64
 import glob
@@ -89,7 +90,7 @@ class Wheel(Packing):
 class Sources(Packing):
     def run(self):
         pathlib.Path("PKG-INFO").write_bytes(self.information())
-        folders = "extension", "lib", "speedate"
+        folders = "examples", "extension", "lib", "speedate"
         names = [it for it in glob.glob("**", recursive=True) if os.path.isfile(it) and it.partition("/")[0] in (*folders, it) and "__pycache__" not in it]
 
         def plain(entry):
@@ -114,7 +115,7 @@ setup(
     description="Exact dates, times of day, date-times and durations, parsed from texts and printed",
     long_description=pathlib.Path("README.md").read_text("utf-8"), long_description_content_type="text/markdown",
     classifiers=[
-        "Development Status :: 4 - Beta", "Intended Audience :: Developers", "License :: OSI Approved :: MIT License",
+        "Intended Audience :: Developers", "License :: OSI Approved :: MIT License",
         "Operating System :: POSIX :: Linux", "Programming Language :: C", "Programming Language :: Python :: 3",
         "Programming Language :: Python :: Implementation :: CPython", "Typing :: Typed"],
     packages=["speedate"], package_data={"speedate": ["*.pyi", "py.typed", "GRAMMAR.md"]},

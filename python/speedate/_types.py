@@ -220,9 +220,11 @@ class Column:
 
     @property
     def dtype(self):
-        """What the numbers are in NumPy."""
-        import numpy
-
+        """What the numbers are in NumPy, if that is there."""
+        try:
+            import numpy
+        except ImportError:
+            raise AttributeError("there is no NumPy") from None
         return numpy.dtype(_UNITS[self.kind])
 
     def tolist(self):

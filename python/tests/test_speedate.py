@@ -89,6 +89,7 @@ date_column(["1970-01-02"]) == date_column(["1970-01-02"]), date_column([]) == t
 len(date_column(["1970-01-02"])), date_column(["1970-01-02"])[0], [*date_column(["1970-01-02", None])], date_column(["1970-01-02"]).numbers -> (1, 1, [1, -9223372036854775808], array('q', [1]))
 hash(date_column([])) -> TypeError: unhashable type: 'Column'
 str(checked(ParseError("too_short", b"12", 2, 2, "a time", 5, "a hint"))) -> "too_short in text 5 at 2: expected a time: b'12' (a hint)"
+date_column(date_column(["1970-01-02", None]), refused="collect").refused.codes, hasattr(date_column([]), "dtype") == (importlib.util.find_spec("numpy") is not None) -> (['too_short', 'invalid_char_year'], True)
 date_column(["x"], refused="collect").refused, len(date_column(["x"], refused="number").refused) -> (<1 refused texts>, 0)
 datetime_front("2020-02-29") -> ParseError: invalid_char_date_time_sep
 speedate.datetime("2020-01-01T00:00Z").tzinfo is datetime.timezone.utc -> True
