@@ -413,10 +413,14 @@ def _items(texts):
     if values is not texts and kind in ("i", "u") and values.dtype.itemsize == 1:
         raise TypeError(f'texts has integers of one byte, which are texts in memory: astype("int64") makes integers of a {type(texts).__name__} of {values.dtype}')
     if kind in ("S", "U"):
-        # An iteration over such an array makes an object of NumPy for each item, which takes longer.
-        parts = (values[it:it + 1024].tolist() for it in range(0, len(values), 1024))
-        return chain.from_iterable(parts), False
+        return chain.from_iterable(_lists(values)), False
     return values, hasattr(texts, "readline")
+
+
+def _lists(values):
+    """Lists of the items of an array of NumPy: an iteration over it would make an object of NumPy for each, which takes longer."""
+    for place in range(0, len(values), 1024):
+        yield values[place:place + 1024].tolist()
 
 
 _PRINTED = "date", "time", "datetime", "datetime_clock", "duration"
