@@ -359,9 +359,13 @@ static inline PyObject *read_text(const Reader *reader, GIVEN) {
     SpeedateConfig config;
     Text text;
     Value value;
-    if (bind(&reader->signature, arguments, count, keywords, bound) < 0 ||
-        take_form(reader->timestamps ? bound[reader->timestamps] : NULL, reader->strict ? bound[reader->strict] : NULL,
-                  &form) < 0)
+    if (count == 1 && !keywords)
+        bound[0] = arguments[0];
+    else if (bind(&reader->signature, arguments, count, keywords, bound) < 0)
+        return NULL;
+    PyObject *timestamps = reader->timestamps ? bound[reader->timestamps] : NULL;
+    PyObject *strict = reader->strict ? bound[reader->strict] : NULL;
+    if ((timestamps || strict) && take_form(timestamps, strict, &form) < 0)
         return NULL;
     int parser = reader->parser[form];
     if (!is_text(bound[0])) {
@@ -446,8 +450,11 @@ static inline PyObject *read_front(const Reader *reader, GIVEN) {
     Text text;
     Value value;
     size_t taken = 0;
-    if (bind(&reader->signature, arguments, count, keywords, bound) < 0 ||
-        take_config(state, bound[1], SPEEDATE_PARSER_TEXT, &config) < 0)
+    if (count == 1 && !keywords)
+        bound[0] = arguments[0];
+    else if (bind(&reader->signature, arguments, count, keywords, bound) < 0)
+        return NULL;
+    if (take_config(state, bound[1], SPEEDATE_PARSER_TEXT, &config) < 0)
         return NULL;
     if (is_long(bound[0])) {
         if (parse_long_front(parser, bound[0], config, &text, &value, &taken, &code) < 0)
