@@ -357,3 +357,7 @@ PyObject *call_text_column(GIVEN) {
     Py_XDECREF(pair);
     return lines;
 }
+
+/* The linker puts the library behind this file, which comes last. So its functions keep their places in lines of the cache, and
+ * their speed, whatever the extension has before them. */
+__asm__(".text\n.balign 64\n");
