@@ -378,7 +378,7 @@ class Units(unittest.TestCase):
                 column.__array__("M8[ns]", copy=False)
         self.assertEqual(numpy.asarray(speedate.date_column([])).shape, (0,))
 
-    @unittest.skipUnless(pandas, "pandas is not installed")
+    @unittest.skipUnless(pandas and not hasattr(sys, "gettotalrefcount"), "there is no pandas, or a debug Python, which its objects stop")
     def test_pandas(self):
         """NaT stays NaT, and no call writes into the column."""
         for column, unit, number in self.made():
@@ -409,7 +409,7 @@ class Units(unittest.TestCase):
             self.assertEqual(column(numpy.ma.array(items), **options), [1_000_000] * 3)
         self.assertEqual(speedate.text_column(numpy.ma.array([1, 2, 3], mask=mask), kind="date"), b"1970-01-02\n\n1970-01-04\n")
 
-    @unittest.skipUnless(pandas, "pandas is not installed")
+    @unittest.skipUnless(pandas and not hasattr(sys, "gettotalrefcount"), "there is no pandas, or a debug Python, which its objects stop")
     def test_errors_with_cures(self):
         texts = numpy.array([[SECOND, SECOND], [SECOND, SECOND]])
         for wrong in (texts, texts.astype("O"), numpy.ma.array(texts), numpy.zeros((1, 2), "i8"), texts[:1], numpy.array(SECOND)):
