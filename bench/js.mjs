@@ -49,9 +49,9 @@ async function measure(addresses) {
       named("parseDateTimeFront, 40 units", reading("parseDateTimeFront", lines(40))),
       named("parseDateTimeFront, 1000 units", reading("parseDateTimeFront", lines(1000))),
       reading("dateTimeFromTimestamp", days, always("s")), ...kinds.map((it) => of("format", it)),
-      of("epochMilliseconds", "DateTime"), of("compare", "Date", moved(values.Date)), of("compare", "DateTime", moved(values.DateTime)),
-      of("addDays", "Date", days), of("daysBetween", "Date", moved(values.Date)), of("between", "DateTime", moved(values.DateTime)),
-      of("after", "DateTime", values.Duration), of("inTimezone", "DateTime", days.map((it) => 60 * it)),
+      of("toDate", "DateTime"), of("compare", "Date", moved(values.Date)), of("compare", "DateTime", moved(values.DateTime)),
+      of("daysBetween", "Date", moved(values.Date)), of("until", "DateTime", moved(values.DateTime)), of("add", "DateTime", values.Duration),
+      of("withOffset", "DateTime", days.map((it) => 60 * it)),
     ];
   }
 

@@ -1,4 +1,4 @@
-# Turns a document of docs/ into a page, with an anchor at each heading. NAME.md is the page NAME.html beside it, if PAGES has it.
+# Turns a document of docs/ without its title into a part of a page, with an anchor at each heading. It links only within itself.
 function inline(text,    out, at, word, to) {
     gsub(/&/, "\\&amp;", text)
     gsub(/</, "\\&lt;", text)
@@ -16,17 +16,10 @@ function inline(text,    out, at, word, to) {
         else {
             at = index(word, "](")
             to = substr(word, at + 2, length(word) - at - 2)
-            out = out "<a href=\"" target(to) "\">" inline(substr(word, 2, at - 2)) "</a>"
+            out = out "<a href=\"" to "\">" inline(substr(word, 2, at - 2)) "</a>"
         }
     }
     return out text
-}
-function target(to,    name) {
-    if (to ~ /^(https?:|#)/) return to
-    name = to
-    sub(/\.md.*/, "", name)
-    if (index(" " PAGES " ", " " name " ")) return tolower(name) ".html" substr(to, length(name) + 4)
-    return "../docs/" to
 }
 function slug(text) {
     text = tolower(text)
@@ -52,16 +45,7 @@ function block(now) {
     if (now != "") print (now == "table" ? "<div><table>" : "<" now ">")
     kind = now
 }
-NR == 1 {
-    title = substr($0, 3)
-    print "<!DOCTYPE html>\n<html lang=\"en\">\n<meta charset=\"utf-8\">\n<meta name=\"viewport\" content=\"width=device-width, initial-scale=1\">"
-    print "<meta name=\"referrer\" content=\"no-referrer\">\n<link rel=\"icon\" href=\"data:,\">\n<title>speedate: " title "</title>\n<style>"
-    print ":root { color-scheme: light dark; --line: #d4d7db; --link: #0b57d0 }"
-    print "@media (prefers-color-scheme: dark) { :root { --line: #43484f; --link: #9cc3ff } }"
-    print "body { font: 1rem/1.5 system-ui, sans-serif; max-width: 60rem; margin: 0 auto; padding: 1rem; overflow-wrap: anywhere } a { color: var(--link) }"
-    print "div, pre { overflow-x: auto } table { border-collapse: collapse; overflow-wrap: normal } th, td { text-align: left; vertical-align: top; padding: .25rem .75rem .25rem 0; border-bottom: 1px solid var(--line); min-width: 6rem }"
-    print "code, pre { font-family: ui-monospace, monospace; font-size: .9375em } :target { scroll-margin-top: 3rem } tr:has(:target) { background: Mark; color: MarkText } tr:has(:target) a { color: inherit }\n</style>"
-}
+NR == 1 { next }
 /^```/ {
     block("")
     fenced = !fenced

@@ -6,12 +6,9 @@ import { setTimeout as sleep } from "node:timers/promises";
 import { setFlagsFromString } from "node:v8";
 import { runInNewContext } from "node:vm";
 import {
-  addDays, dateColumn, dateColumnReader, dateTimeClockColumn, dateTimeClockColumnReader, dateTimeColumn, dateTimeColumnReader, dateTimeFromTimestamp, dateTimeFrontColumn, dateTimeFrontColumnReader,
-  dateTimeOffsetColumn,
-  dateTimeOffsetColumnReader, daysBetween, durationColumn, durationColumnReader, durationFromMicroseconds, epochMilliseconds, format, inTimezone, parseDate, parseDateTime, safeParseDate, safeParseDateTime, safeParseDateTimeFront,
-  safeParseDuration, safeParseTime, SpeedateError, textColumn, timeColumn,
-  timeColumnReader, timeFromTimestamp, timeOffsetColumn, timeOffsetColumnReader, toDate,
-} from "speedate";
+  columnReader, dateTimeFromTimestamp, daysBetween, durationFromMicroseconds, format, fromDate, parseDate, parseDateTime, printColumn, readColumn, safeParseDate, safeParseDateTime,
+  safeParseDateTimeFront, safeParseDuration, safeParseTime, SpeedateError, toDate, withOffset,
+} from "speedate/columns";
 
 let drawn = 1;
 const below = (most) => (drawn = (drawn * 48271) % 2147483647) % most;
@@ -31,28 +28,28 @@ function linesOf(text) {
 }
 
 /** What a line has in a column of dates. */
-function day(line, { timestamps }) {
-  const { ok, value, ...refusal } = safeParseDate(Buffer.from(line), { timestamps });
+function day(line, options) {
+  const { ok, value, ...refusal } = safeParseDate(Buffer.from(line), options);
   return ok ? { number: daysBetween(EPOCH, value) } : { number: SMALLEST, refusal };
 }
 
 /** Of a decimal text JavaScript makes the nearest double. */
 const inUnit = (microseconds, unit) => (unit === "us" ? microseconds : Number(`${microseconds}e-3`));
-const TZ_REQUIRED = safeParseDateTime("2020-02-29T12:13:14", { strict: true });
+const TZ_REQUIRED = safeParseDateTime("2020-02-29T12:13:14", { form: "strict" });
 /** The refusal of a line that is accepted where no offset is wanted. */
 function lacksOffset(line) {
   const { ok, ...refusal } = TZ_REQUIRED;
-  return { ...refusal, place: line.length, end: line.length };
+  return { ...refusal, start: line.length, end: line.length };
 }
 
 /** A refusal of a column that requires an offset, by the call that requires none: its phrase names no text without one. */
-function namesOffset({ expected, ...refusal }, safeParse, { strict }) {
-  if (refusal.fault === "too_short") return { ...refusal, expected: safeParse("", { strict: true }).expected };
-  return { ...refusal, expected: refusal.fault === "invalid_char_tz_sign" && !strict ? TZ_REQUIRED.expected : expected };
+function namesOffset({ expected, ...refusal }, safeParse, { form }) {
+  if (refusal.code === "too_short") return { ...refusal, expected: safeParse("", { form: "strict" }).expected };
+  return { ...refusal, expected: refusal.code === "invalid_char_tz_sign" && form !== "strict" ? TZ_REQUIRED.expected : expected };
 }
 
 /** What a line has in a column of date-times. */
-function moment(line, { missingOffset, unit, refusals, ...options }) {
+function moment(line, { missingOffset, unit, ...options }) {
   const { ok, value, ...refusal } = safeParseDateTime(Buffer.from(line), options);
   const refused = { number: unit === "us" ? TOO_FEW_MICROSECONDS : NaN };
   if (!ok && missingOffset === "utc") return { ...refused, refusal };
@@ -67,29 +64,29 @@ function moment(line, { missingOffset, unit, refusals, ...options }) {
     return { ...refused, refusal };
   }
   assert.deepEqual(safeParseDateTime(line, { ...options, missingOffset: missingOffset ?? "error" }).value, { ...value, offsetSeconds: value.offsetSeconds ?? 0 }, line);
-  const milliseconds = epochMilliseconds({ ...value, offsetSeconds: value.offsetSeconds ?? 0 });
+  const milliseconds = toDate({ ...value, offsetSeconds: value.offsetSeconds ?? 0 }).getTime();
   return { number: inUnit(BigInt(milliseconds) * 1000n + BigInt(value.microsecond), unit) };
 }
 
 /** What a line has in a column of what clocks show, by the call of its text, and by the date on which the clock stands if it shows none. */
-const clockBy = (safeParse, date) => (line, { unit, refusals, ...options }) => {
+const clockBy = (safeParse, date) => (line, { unit, ...options }) => {
   const { ok, value, ...refusal } = safeParse(Buffer.from(line), options);
   if (!ok) return { number: unit === "us" ? TOO_FEW_MICROSECONDS : NaN, refusal };
-  const milliseconds = epochMilliseconds({ ...date, ...value, offsetSeconds: 0 });
+  const milliseconds = toDate({ ...date, ...value, offsetSeconds: 0 }).getTime();
   return { number: inUnit(BigInt(milliseconds) * 1000n + BigInt(value.microsecond), unit) };
 };
 
 /** What a line has in a column of offsets, by the call of its text. */
-const offsetBy = (safeParse) => (line, { refusals, ...options }) => {
+const offsetBy = (safeParse) => (line, options) => {
   const { ok, value, ...refusal } = safeParse(Buffer.from(line), options);
   if (!ok) return { number: SMALLEST, refusal: namesOffset(refusal, safeParse, options) };
   if (value.offsetSeconds !== null) return { number: value.offsetSeconds };
   return { number: SMALLEST, refusal: lacksOffset(line) };
 };
 
-const TOO_LARGE = { fault: "number_too_large", code: 97, message: "the number of a line does not fit 64 bits", expected: "a duration of less than 2^63 microseconds", place: 0 };
+const TOO_LARGE = { code: "number_too_large", expected: "a duration of less than 2^63 microseconds", start: 0 };
 /** What a line has in a column of durations. */
-function length(line, { unit, refusals, ...options }) {
+function length(line, { unit, ...options }) {
   const { ok, value, ...refusal } = safeParseDuration(Buffer.from(line), options);
   const refused = { number: unit === "us" ? TOO_FEW_MICROSECONDS : NaN };
   if (!ok) return { ...refused, refusal };
@@ -102,11 +99,12 @@ function length(line, { unit, refusals, ...options }) {
 const asIntegers = () => Int32Array;
 const byUnit = ({ unit }) => (unit === "us" ? BigInt64Array : Float64Array);
 
-/** What a column and its refusals have to be. */
+/** What a column has to be that collects refusals. */
 function expected({ of, Numbers }, text, options) {
-  const lines = linesOf(text).map((it) => of(it, options));
-  const refused = lines.flatMap(({ refusal }, index) => (refusal ? [{ index, ...refusal }] : []));
-  return { numbers: Numbers(options).from(lines, (it) => it.number), refusals: refused.map(({ place, end, ...refusal }) => refusal), first: refused[0] };
+  const lines = linesOf(text);
+  const its = lines.map((it) => of(it, options));
+  const refusals = its.flatMap(({ refusal }, index) => (refusal ? [{ index, text: new Uint8Array(Buffer.from(lines[index])), ...refusal }] : []));
+  return { numbers: Numbers(options).from(its, (it) => it.number), refusedCount: refusals.length, refusals };
 }
 
 const thrown = (call) => {
@@ -117,21 +115,21 @@ const thrown = (call) => {
   }
 };
 
-/** Compares a column, by both ways of refusing, and gives the number of lines that are refused. */
+/** Compares a column, by all ways of refusing, and gives the number of lines that are refused. */
 function compareColumn(kind, text, options) {
-  const { numbers, refusals, first } = expected(kind, text, options);
+  const wanted = expected(kind, text, options);
+  const { refusals: [first] } = wanted;
   for (const it of [text, Buffer.from(text)]) {
-    const list = [];
-    assert.deepEqual(kind.column(it, { ...options, refusals: list }), numbers, text);
-    assert.deepEqual(list, refusals, text);
-    if (refusals.length === 0) assert.deepEqual(kind.column(it, options), numbers, text);
+    assert.deepEqual(readColumn(it, kind.kind, { ...options, refused: "collect" }), wanted, text);
+    assert.deepEqual(readColumn(it, kind.kind, { ...options, refused: "number" }), { ...wanted, refusals: [] }, text);
+    if (first === undefined) assert.deepEqual(readColumn(it, kind.kind, options), wanted, text);
     else {
-      const error = thrown(() => kind.column(it, options));
+      const error = thrown(() => readColumn(it, kind.kind, { refused: "stop", ...options }));
       assert.ok(error instanceof SpeedateError, text);
-      assert.deepEqual({ ...error, message: error.message }, { name: "SpeedateError", ...first }, text);
+      assert.deepEqual({ ...error, message: error.message }, { name: "SpeedateError", message: `expected ${first.expected}`, ...first }, text);
     }
   }
-  return refusals.length;
+  return wanted.refusedCount;
 }
 
 // ---- Drawn columns ----
@@ -152,31 +150,18 @@ const DURATIONS = [
 const LINE_ENDS = ["\n", "\n", "\n", "\r\n", "\r\r\n", "\n\n", "\r"];
 const anyOf = (choices) => Object.fromEntries(Object.entries(choices).map(([name, all]) => [name, one(all)]).filter(([, it]) => it !== undefined));
 const OVERFLOW = { overflow: [undefined, "error", "truncate"] };
-const STRICT = { strict: [undefined, false, true], ...OVERFLOW };
+const STRICT = { form: [undefined, "text", "strict"], ...OVERFLOW };
 const UNIT = { unit: [undefined, "ms", "us"] };
-function dateTimeOptions(more) {
-  const { timestamps, timestampOffset, strict, ...others } = anyOf({
-    timestamps: [undefined, undefined, "infer", "s", "ms", "us"], timestampOffset: [undefined, 0, 3600, -86399], ...STRICT, ...more,
-  });
-  return timestamps === undefined ? { ...others, ...(strict === undefined ? {} : { strict }) } : { ...others, timestamps, ...(timestampOffset === undefined ? {} : { timestampOffset }) };
-}
+const OR_TIMESTAMP = { form: ["orTimestamp"], timestampUnit: ["infer", "s", "ms", "us"] };
+const dateTimeOptions = (more) => anyOf({ ...(below(2) ? STRICT : { ...OR_TIMESTAMP, ...OVERFLOW }), ...more });
 const KINDS = [
-  { column: dateColumn, newReader: dateColumnReader, of: day, Numbers: asIntegers, forms: DATES, drawn: () => anyOf({ timestamps: [undefined, "infer", "s", "ms", "us"] }) },
-  {
-    column: dateTimeColumn, newReader: dateTimeColumnReader, of: moment, Numbers: byUnit, forms: DATE_TIMES,
-    drawn: () => dateTimeOptions({ missingOffset: [undefined, "error", "utc"], ...UNIT }),
-  },
-  {
-    column: dateTimeClockColumn, newReader: dateTimeClockColumnReader, of: clockBy(safeParseDateTime, {}), Numbers: byUnit, forms: DATE_TIMES,
-    drawn: () => dateTimeOptions(UNIT),
-  },
-  {
-    column: dateTimeOffsetColumn, newReader: dateTimeOffsetColumnReader, of: offsetBy(safeParseDateTime), Numbers: asIntegers, forms: DATE_TIMES,
-    drawn: () => dateTimeOptions({}),
-  },
-  { column: timeColumn, newReader: timeColumnReader, of: clockBy(safeParseTime, EPOCH), Numbers: byUnit, forms: TIMES, drawn: () => anyOf({ ...STRICT, ...UNIT }) },
-  { column: timeOffsetColumn, newReader: timeOffsetColumnReader, of: offsetBy(safeParseTime), Numbers: asIntegers, forms: TIMES, drawn: () => anyOf(STRICT) },
-  { column: durationColumn, newReader: durationColumnReader, of: length, Numbers: byUnit, forms: DURATIONS, drawn: () => anyOf({ isoOrder: [undefined, "lax", "strict"], ...OVERFLOW, ...UNIT }) },
+  { kind: "date", of: day, Numbers: asIntegers, forms: DATES, drawn: () => anyOf(below(2) ? OR_TIMESTAMP : { form: [undefined, "text"] }) },
+  { kind: "dateTime", of: moment, Numbers: byUnit, forms: DATE_TIMES, drawn: () => dateTimeOptions({ missingOffset: [undefined, "error", "utc"], ...UNIT }) },
+  { kind: "dateTimeClock", of: clockBy(safeParseDateTime, {}), Numbers: byUnit, forms: DATE_TIMES, drawn: () => dateTimeOptions(UNIT) },
+  { kind: "dateTimeOffset", of: offsetBy(safeParseDateTime), Numbers: asIntegers, forms: DATE_TIMES, drawn: () => dateTimeOptions({}) },
+  { kind: "time", of: clockBy(safeParseTime, EPOCH), Numbers: byUnit, forms: TIMES, drawn: () => anyOf({ ...STRICT, ...UNIT }) },
+  { kind: "timeOffset", of: offsetBy(safeParseTime), Numbers: asIntegers, forms: TIMES, drawn: () => anyOf(STRICT) },
+  { kind: "duration", of: length, Numbers: byUnit, forms: DURATIONS, drawn: () => anyOf({ isoOrder: [undefined, "lax", "strict"], ...OVERFLOW, ...UNIT }) },
 ];
 const refusedOnes = KINDS.map(() => 0);
 const acceptedOnes = KINDS.map(() => 0);
@@ -191,20 +176,21 @@ for (let i = 0; i < 4000; i++) {
   }
 }
 for (const it of [...refusedOnes, ...acceptedOnes]) assert.ok(it > 2000, `lines of both sorts are drawn: ${refusedOnes}, ${acceptedOnes}`);
-const distinct = (year) => new Set(dateTimeColumn(Array.from({ length: 999 }, (_, i) => `${year}-06-29T12:13:14.5${String(i).padStart(5, "0")}Z`).join("\n"))).size;
+const numbersOf = (text, kind, options) => readColumn(text, kind, options).numbers;
+const distinct = (year) => new Set(numbersOf(Array.from({ length: 999 }, (_, i) => `${year}-06-29T12:13:14.5${String(i).padStart(5, "0")}Z`).join("\n"), "dateTime")).size;
 assert.deepEqual(["1691", "1692", "1970", "2247", "2248"].map(distinct), [999, 999, 999, 999, 999], "each microsecond has a number of its own");
 for (const year of ["1690", "2249"]) assert.ok(distinct(year) < 999);
 
 // ---- The Date of a line: the way that the declarations say is that of a single text ----
 
-const [, way] = /`(toDate\(dateTimeFromTimestamp\([^`]*)`/.exec(readFileSync("node_modules/speedate/speedate.d.ts", "utf8"));
+const [, way] = /`(toDate\(dateTimeFromTimestamp\([^`]*)`/.exec(readFileSync("node_modules/speedate/columns.d.ts", "utf8"));
 const dateOf = new Function("toDate", "dateTimeFromTimestamp", "it", `return ${way}`);
 const ENDS = ["0000-01-01T00:00", "0000-12-31T23:59", "1691-06-29T12:13", "1969-12-31T23:59", "1970-01-01T00:00", "2248-06-29T12:13", "9999-01-01T00:00", "9999-12-31T23:59"];
 const FRACTIONS = ["00", "00.000001", "00.000999", "00.001", "00.9995", "59.9985", "59.999", "59.9995", "59.999999"];
 const lines = ENDS.flatMap((end) => FRACTIONS.flatMap((fraction) => ["Z", "+23:59", "-23:59"].map((offset) => `${end}:${fraction}${offset}`)));
-for (const [i, it] of dateTimeColumn(lines.join("\n"), { unit: "us" }).entries()) {
-  const of = (call) => thrown(call)?.fault ?? call().getTime();
-  assert.equal(of(() => dateOf(toDate, dateTimeFromTimestamp, it)), of(() => toDate(inTimezone(parseDateTime(lines[i]), 0))), lines[i]);
+for (const [i, it] of numbersOf(lines.join("\n"), "dateTime", { unit: "us" }).entries()) {
+  const of = (call) => thrown(call)?.code ?? call().getTime();
+  assert.equal(of(() => dateOf(toDate, dateTimeFromTimestamp, it)), of(() => toDate(withOffset(parseDateTime(lines[i]), 0))), lines[i]);
 }
 
 // ---- Fronts of lines: beside the front of each ----
@@ -212,44 +198,47 @@ for (const [i, it] of dateTimeColumn(lines.join("\n"), { unit: "us" }).entries()
 const fronts = { accepted: 0, refused: 0 };
 for (let i = 0; i < 2000; i++) {
   const { overflow, missingOffset, unit } = anyOf({ missingOffset: [undefined, "error", "utc"], ...OVERFLOW, ...UNIT });
+  const options = { form: "front", overflow, missingOffset, unit };
   const text = Array.from({ length: below(8) }, () => digits(one(DATE_TIMES)) + one(["", " GET /", "x", "0", " \u{1f600}", ",Z"]) + one(LINE_ENDS)).join("");
-  const expected = linesOf(text).map((line, index) => {
-    const { ok, value: front, ...refusal } = safeParseDateTimeFront(Buffer.from(line), { overflow });
+  const wanted = linesOf(text).map((line, index) => {
+    const { ok, value: front, code } = safeParseDateTimeFront(Buffer.from(line), { overflow });
     const refused = { number: unit === "us" ? TOO_FEW_MICROSECONDS : NaN, size: 0 };
-    if (!ok) return { ...refused, refusal: { index, fault: refusal.fault } };
-    if (front.value.offsetSeconds === null && missingOffset !== "utc") return { ...refused, refusal: { index, fault: "tz_required" } };
+    if (!ok) return { ...refused, refusal: { index, code } };
+    if (front.value.offsetSeconds === null && missingOffset !== "utc") return { ...refused, refusal: { index, code: "tz_required" } };
     return { number: moment(Buffer.from(line).subarray(0, front.size).toString(), { overflow, missingOffset, unit }).number, size: front.size };
   });
-  const numbers = byUnit({ unit }).from(expected, (it) => it.number);
-  const sizes = Int32Array.from(expected, (it) => it.size);
-  const faults = expected.flatMap(({ refusal }) => (refusal ? [refusal] : []));
-  fronts.refused += faults.length;
-  fronts.accepted += sizes.length - faults.length;
-  const refusals = [];
-  assert.deepEqual(dateTimeFrontColumn(text, { overflow, missingOffset, unit, refusals }), { numbers, sizes }, text);
-  assert.deepEqual(refusals.map((it) => [it.index, it.fault]), faults.map((it) => [it.index, it.fault]), text);
-  const [at, reader] = [below(text.length + 1), dateTimeFrontColumnReader({ overflow, missingOffset, unit, refusals: [] })];
+  const numbers = byUnit({ unit }).from(wanted, (it) => it.number);
+  const sizes = Int32Array.from(wanted, (it) => it.size);
+  const refused = wanted.flatMap(({ refusal }) => (refusal ? [refusal] : []));
+  fronts.refused += refused.length;
+  fronts.accepted += sizes.length - refused.length;
+  const { refusals, ...column } = readColumn(text, "dateTime", { ...options, refused: "collect" });
+  assert.deepEqual(column, { numbers, sizes, refusedCount: refused.length }, text);
+  assert.deepEqual(refusals.map(({ index, code }) => ({ index, code })), refused, text);
+  assert.deepEqual(readColumn(text, "dateTime", { ...options, refused: "number" }), { ...column, refusals: [] });
+  const [at, reader] = [below(text.length + 1), columnReader("dateTime", { ...options, refused: "collect" })];
   const parts = [reader.read(text.slice(0, at)), reader.read(text.slice(at)), reader.end()];
-  assert.deepEqual(parts.flatMap((it) => [...it.numbers]), [...numbers], text);
-  assert.deepEqual(parts.flatMap((it) => [...it.sizes]), [...sizes], text);
-  const { fault, place, end, index } = thrown(() => dateTimeFrontColumn(text, { overflow, missingOffset, unit })) ?? {};
-  if (faults.length > 0) assert.deepEqual([index, fault, place <= end], [faults[0].index, faults[0].fault, true], text);
+  for (const name of ["numbers", "sizes", "refusals"]) assert.deepEqual(parts.flatMap((it) => [...it[name]]), [...{ numbers, sizes, refusals }[name]], text);
+  const error = thrown(() => readColumn(text, "dateTime", options));
+  if (refused.length > 0) assert.deepEqual({ ...error }, { name: "SpeedateError", ...refusals[0] }, text);
+  for (const { start, end, text: line } of refusals) assert.ok(start <= end && end <= line.length, text);
 }
 assert.ok(fronts.accepted > 1000 && fronts.refused > 1000, JSON.stringify(fronts));
 
 // ---- Columns in print: beside the text of each value, and read again ----
 
 const DAY = 86400000000n;
-/** By kind what reads it, the first and the last number, the faults of those before and after, and the value of a number. */
+/** By kind the first and the last number, the errors of those before and after, and the value of a number. */
 const PRINTED = {
-  date: [dateColumn, -719528, 2932896, "date_too_small", "date_too_large", (it) => addDays(EPOCH, it)],
-  time: [timeColumn, 0, DAY - 1n, "time_too_large", "time_too_large", (it) => timeFromTimestamp(it, "us")],
-  dateTime: [dateTimeColumn, -719528n * DAY, 2932897n * DAY - 1n, "date_too_small", "date_too_large", (it) => dateTimeFromTimestamp(it, "us", { timestampOffset: 0 })],
-  dateTimeClock: [dateTimeClockColumn, -719528n * DAY, 2932897n * DAY - 1n, "date_too_small", "date_too_large", (it) => dateTimeFromTimestamp(it, "us")],
-  duration: [durationColumn, 1n - 2n ** 63n, 2n ** 63n - 1n, "number_too_large", "number_too_large", (it) => durationFromMicroseconds(it)],
+  date: [-719528, 2932896, "date_too_small", "date_too_large", (it) => { const { year, month, day } = fromDate(new Date(it * 86400000)); return { year, month, day }; }],
+  time: [0, DAY - 1n, "time_too_large", "time_too_large", (it) => { const { year, month, day, ...time } = dateTimeFromTimestamp(it, "us"); return { ...time, offsetSeconds: null }; }],
+  dateTime: [-719528n * DAY, 2932897n * DAY - 1n, "date_too_small", "date_too_large", (it) => dateTimeFromTimestamp(it, "us")],
+  dateTimeClock: [-719528n * DAY, 2932897n * DAY - 1n, "date_too_small", "date_too_large", (it) => ({ ...dateTimeFromTimestamp(it, "us"), offsetSeconds: null })],
+  duration: [1n - 2n ** 63n, 2n ** 63n - 1n, "number_too_large", "number_too_large", (it) => durationFromMicroseconds(it)],
 };
 const isRefused = (it) => it === SMALLEST || it === TOO_FEW_MICROSECONDS || Number.isNaN(it);
-for (const [kind, [read, ...bounds]] of Object.entries(PRINTED)) {
+for (const [kind, bounds] of Object.entries(PRINTED)) {
+  const read = (text, options) => numbersOf(text, kind, { refused: "number", ...options });
   const [least, most] = bounds.slice(0, 2).map(BigInt);
   const [tooSmall, tooLarge, valueOf] = bounds.slice(2);
   const [Exact, options, empty] = kind === "date" ? [Int32Array, {}, SMALLEST] : [BigInt64Array, { unit: "us" }, TOO_FEW_MICROSECONDS];
@@ -261,49 +250,48 @@ for (const [kind, [read, ...bounds]] of Object.entries(PRINTED)) {
   numbers[1] = numbers[4100] = empty;
   for (const count of [0, 1, 3, 4095, 4096, 4097, numbers.length]) {
     const column = numbers.subarray(0, count);
-    const text = textColumn(column, kind);
+    const text = printColumn(column, kind);
     assert.deepEqual(linesOf(text), Array.from(column, (it) => (isRefused(it) ? "" : format(valueOf(it)))));
-    assert.deepEqual(read(text, { ...options, refusals: [] }), column);
+    assert.deepEqual(read(text, options), column);
     if (kind === "date") continue;
     // The last numbers are rounded up, to one that has no line.
-    const milliseconds = read(text, { refusals: [] }).map((it) => (Math.abs(it) < Number(most) / 1000 ? it : NaN));
-    assert.deepEqual(read(textColumn(milliseconds, kind), { refusals: [] }), milliseconds, "the number of milliseconds is printed as a line of this number");
-    if (kind !== "duration") assert.equal(textColumn(milliseconds.map((it) => (Math.abs(it) < 2 ** 43 ? it : NaN)), kind), textColumn(column.map((it, i) => (Math.abs(milliseconds[i]) < 2 ** 43 ? it : empty)), kind));
+    const milliseconds = read(text).map((it) => (Math.abs(it) < Number(most) / 1000 ? it : NaN));
+    assert.deepEqual(read(printColumn(milliseconds, kind)), milliseconds, "the number of milliseconds is printed as a line of this number");
+    if (kind !== "duration") assert.equal(printColumn(milliseconds.map((it) => (Math.abs(it) < 2 ** 43 ? it : NaN)), kind), printColumn(column.map((it, i) => (Math.abs(milliseconds[i]) < 2 ** 43 ? it : empty)), kind));
   }
   const others = kind === "duration" ? [] : [Exact.of(inArray(least - 1n)), Exact.of(inArray(most + 1n))];
   if (kind !== "date") others.push(Float64Array.of(-9.3e15), Float64Array.of(9.3e15), Float64Array.of(-Infinity), Float64Array.of(Infinity));
   for (const [i, it] of others.entries()) {
     const isWide = it.constructor === Float64Array;
-    const fault = isWide ? "number_too_large" : [tooSmall, tooLarge][i];
+    const code = isWide ? "number_too_large" : [tooSmall, tooLarge][i];
     const many = new it.constructor(9000);
     for (const at of [0, 1, 4096, 8999]) {
-      const error = thrown(() => textColumn(many.with(at, it[0]), kind));
-      assert.deepEqual([error.constructor, error.fault, error.index, "place" in error], [SpeedateError, fault, at, false], kind);
+      const error = thrown(() => printColumn(many.with(at, it[0]), kind));
+      assert.deepEqual([error.constructor, error.code, error.index, "start" in error], [SpeedateError, code, at, false], kind);
     }
-    assert.equal(thrown(() => textColumn(many.with(3, it[0]).with(2, it[0]), kind)).index, 2);
+    assert.equal(thrown(() => printColumn(many.with(3, it[0]).with(2, it[0]), kind)).index, 2);
   }
 }
 // Of two numbers without a line the first one is thrown, also before one that 64 bits do not hold.
-for (const numbers of [[-1, Infinity], [Infinity, -1]]) assert.equal(thrown(() => textColumn(Float64Array.of(0, ...numbers), "time")).fault, numbers[0] < 0 ? "time_too_large" : "number_too_large");
-assert.equal(textColumn(Float64Array.of(1000.0006, 1000.0004, -0.5, -0, NaN, -1000.25), "duration"), "PT1.000001S\nPT1S\n-PT0.0005S\nPT0S\n\n-PT1.00025S\n");
-assert.equal(textColumn(runInNewContext("Int32Array.of(1)"), "date"), "1970-01-02\n");
+for (const numbers of [[-1, Infinity], [Infinity, -1]]) assert.equal(thrown(() => printColumn(Float64Array.of(0, ...numbers), "time")).code, numbers[0] < 0 ? "time_too_large" : "number_too_large");
+assert.equal(printColumn(Float64Array.of(1000.0006, 1000.0004, -0.5, -0, NaN, -1000.25), "duration"), "PT1.000001S\nPT1S\n-PT0.0005S\nPT0S\n\n-PT1.00025S\n");
+assert.equal(printColumn(runInNewContext("Int32Array.of(1)"), "date"), "1970-01-02\n");
 {
   const bytes = new Int32Array(6);
   bytes[3] = 1;
-  assert.equal(textColumn(bytes.subarray(2, 5), "date"), "1970-01-01\n1970-01-02\n1970-01-01\n");
+  assert.equal(printColumn(bytes.subarray(2, 5), "date"), "1970-01-01\n1970-01-02\n1970-01-01\n");
   const COUNT = 1000000;
   const start = performance.now();
-  const text = textColumn(Float64Array.from({ length: COUNT }, (_, i) => 1577836800000.5 + i * 60000), "dateTime");
+  const text = printColumn(Float64Array.from({ length: COUNT }, (_, i) => 1577836800000.5 + i * 60000), "dateTime");
   assert.ok(performance.now() - start < 20000);
   assert.deepEqual([text.length, text.slice(-28)], [COUNT * 28, "2021-11-25T10:39:00.000500Z\n"]);
 }
 
 // ---- Pieces ----
 
-/** The column of these pieces, and its refusals. A piece is overwritten once it is read. */
-function byPieces({ newReader }, pieces, options) {
-  const refusals = [];
-  const reader = newReader({ ...options, refusals });
+/** The column of these pieces. A piece is overwritten once it is read. */
+function byPieces({ kind }, pieces, options) {
+  const reader = columnReader(kind, { ...options, refused: "collect" });
   const parts = pieces.map((it) => {
     const piece = typeof it === "string" ? it : Uint8Array.from(it);
     const part = reader.read(piece);
@@ -313,8 +301,8 @@ function byPieces({ newReader }, pieces, options) {
     return part;
   });
   parts.push(reader.end());
-  const numbers = parts[0].constructor.from(parts.flatMap((it) => Array.from(it)));
-  return { numbers, refusals };
+  const numbers = parts[0].numbers.constructor.from(parts.flatMap((it) => Array.from(it.numbers)));
+  return { numbers, refusedCount: parts.reduce((sum, it) => sum + it.refusedCount, 0), refusals: parts.flatMap((it) => it.refusals) };
 }
 
 const TEXT = "2020-02-29T12:13:14.5Z\r\n\n2021-02-29T12:13Z\n2020-02-29T12:13\u221201:00\r\n\r\n1970-01-01T00:00:00.000001Z";
@@ -325,50 +313,49 @@ for (const [kind, text, options] of [
   [KINDS[2], TEXT, {}], [KINDS[3], TEXT, {}], [KINDS[4], TIMES_TEXT, { unit: "us" }], [KINDS[5], TIMES_TEXT, {}], [KINDS[6], "PT1.5S\r\n\nP999999999D\n-00:01\u2212\r\n1 day", {}],
 ]) {
   const bytes = Buffer.from(text);
-  const { first, ...whole } = expected(kind, text, options);
+  const whole = expected(kind, text, options);
   for (let i = 0; i <= bytes.length; i++) {
     assert.deepEqual(byPieces(kind, [bytes.subarray(0, i), bytes.subarray(i)], options), whole, `cut at ${i}`);
     for (let j = i; j <= Math.min(i + 3, bytes.length); j++) assert.deepEqual(byPieces(kind, [bytes.subarray(0, i), bytes.subarray(i, j), bytes.subarray(j)], options), whole, `cut at ${i} and ${j}`);
   }
   assert.deepEqual(byPieces(kind, Array.from(bytes, (it) => [it]), options), whole);
   assert.deepEqual(byPieces(kind, Array.from(text), options), whole);
-  assert.deepEqual(byPieces(kind, [], options), { numbers: kind.Numbers(options).of(), refusals: [] });
+  assert.deepEqual(byPieces(kind, [], options), { numbers: kind.Numbers(options).of(), refusedCount: 0, refusals: [] });
 }
 {
-  const reader = dateColumnReader();
-  assert.deepEqual(reader.read("1970-01-02\n1970-0"), Int32Array.of(1));
-  assert.deepEqual(reader.read("1-03"), Int32Array.of());
-  assert.deepEqual(reader.end("\n1970-01-04"), Int32Array.of(2, 3));
+  const reader = columnReader("date");
+  assert.deepEqual(reader.read("1970-01-02\n1970-0").numbers, Int32Array.of(1));
+  assert.deepEqual(reader.read("1-03").numbers, Int32Array.of());
+  assert.deepEqual(reader.end("\n1970-01-04").numbers, Int32Array.of(2, 3));
   for (const call of [reader.read, reader.end]) assert.throws(() => call("1970-01-02\n"), { name: "TypeError", message: "the column has ended" });
 }
 {
-  const [reader, other] = [dateColumnReader(), dateColumnReader()];
-  assert.deepEqual(reader.read("1970-01-02\n1970-01-03\n19"), Int32Array.of(1, 2));
-  assert.deepEqual(other.read("1970-01-0"), Int32Array.of());
+  const [reader, other] = [columnReader("date"), columnReader("date")];
+  assert.deepEqual(reader.read("1970-01-02\n1970-01-03\n19").numbers, Int32Array.of(1, 2));
+  assert.deepEqual(other.read("1970-01-0").numbers, Int32Array.of());
   assert.throws(() => reader.read(5), TypeError);
   const error = thrown(() => reader.read("70-01-04\n2021-02-29\n"));
-  assert.deepEqual([error.fault, error.index], ["out_of_range_day", 3]);
+  assert.deepEqual([error.code, error.index], ["out_of_range_day", 3]);
   assert.throws(() => reader.end(), { message: "the column has ended" }, "a column that was refused has ended");
-  assert.deepEqual(other.end("9\n1970-01-01"), Int32Array.of(8, 0));
+  assert.deepEqual(other.end("9\n1970-01-01").numbers, Int32Array.of(8, 0));
 }
 {
-  const reader = dateTimeColumnReader({ refusals: [] });
+  const reader = columnReader("dateTime", { refused: "number" });
   const pieces = new Response(TEXT.repeat(10000)).body.getReader();
   const numbers = [];
-  for (let it = await pieces.read(); !it.done; it = await pieces.read()) numbers.push(...reader.read(it.value));
-  numbers.push(...reader.end());
-  assert.deepEqual(Float64Array.from(numbers), dateTimeColumn(TEXT.repeat(10000), { refusals: [] }));
+  for (let it = await pieces.read(); !it.done; it = await pieces.read()) numbers.push(...reader.read(it.value).numbers);
+  numbers.push(...reader.end().numbers);
+  assert.deepEqual(Float64Array.from(numbers), numbersOf(TEXT.repeat(10000), "dateTime", { refused: "number" }));
 }
-assert.throws(() => dateColumn("x\n", { refusals: Object.freeze([]) }), TypeError);
-assert.deepEqual(dateColumn("86400", runInNewContext("({ timestamps: 's', refusals: [] })")), Int32Array.of(1));
+assert.deepEqual(numbersOf("86400", "date", runInNewContext("({ form: 'orTimestamp', timestampUnit: 's', refused: 'collect' })")), Int32Array.of(1));
 class Odd extends Uint8Array {
   get length() { return 5; }
   get buffer() { return new ArrayBuffer(1); }
   get byteOffset() { return 0; }
   slice() { return 5; }
 }
-assert.deepEqual(dateColumn(Odd.from(Buffer.from("1970-01-02\n"))), Int32Array.of(1));
-assert.deepEqual(dateColumn(Buffer.from("x1970-01-02\nx").subarray(1, 12)), Int32Array.of(1));
+assert.deepEqual(numbersOf(Odd.from(Buffer.from("1970-01-02\n")), "date"), Int32Array.of(1));
+assert.deepEqual(numbersOf(Buffer.from("x1970-01-02\nx").subarray(1, 12), "date"), Int32Array.of(1));
 
 // ---- Sizes: of columns, of lines, and of blocks that hold a part of a line ----
 
@@ -378,85 +365,90 @@ const held = () => (collect(), process.memoryUsage().rss / 2 ** 20);
 const atFirst = held();
 const FEW = [0, 1, 4095, 4096, 4097, 8191, 8192, 8193, 70000];
 for (const count of FEW) {
-  assert.deepEqual(dateColumn("1970-01-02\n".repeat(count)), new Int32Array(count).fill(1));
-  const refusals = [];
-  assert.deepEqual(dateTimeColumn("\n".repeat(count), { refusals }), new Float64Array(count).fill(NaN));
+  assert.deepEqual(numbersOf("1970-01-02\n".repeat(count), "date"), new Int32Array(count).fill(1));
+  const { numbers, refusals } = readColumn("\n".repeat(count), "dateTime", { refused: "collect" });
+  assert.deepEqual(numbers, new Float64Array(count).fill(NaN));
   assert.deepEqual(refusals.map((it) => it.index), Array.from({ length: count }, (_, i) => i));
-  if (count > 0) assert.equal(thrown(() => dateColumn("1970-01-02\n".repeat(count) + "x\n1970-01-02")).index, count);
+  if (count === 0) continue;
+  const text = `${"1970-01-02\n".repeat(count)}x\n1970-01-02`;
+  assert.equal(thrown(() => numbersOf(text, "date")).index, count);
+  assert.deepEqual(readColumn(text, "date", { refused: "collect" }).refusals.map((it) => it.index), [count]);
 }
 for (const size of [2 ** 16 - 22, 2 ** 16 - 21, 2 ** 16 - 20, 2 ** 17, 2 ** 24 - 20, 2 ** 24 + 1]) {
   const line = `1970-01-01T00:00:01.${"0".repeat(size)}Z\n`;
   const text = `1970-01-01T00:00:01Z\n${line}1970-01-01T00:00:02Z`;
-  assert.deepEqual(dateTimeColumn(text, { overflow: "truncate" }), Float64Array.of(1000, 1000, 2000));
-  assert.deepEqual(thrown(() => dateTimeColumn(Buffer.from(text))).index, 1);
-  assert.deepEqual(dateTimeColumn("1970-01-01T00:00:03Z"), Float64Array.of(3000));
+  assert.deepEqual(numbersOf(text, "dateTime", { overflow: "truncate" }), Float64Array.of(1000, 1000, 2000));
+  assert.deepEqual(thrown(() => numbersOf(Buffer.from(text), "dateTime")).index, 1);
+  const { numbers, refusals: [{ index, text: refused }] } = readColumn(text, "dateTime", { refused: "collect" });
+  assert.deepEqual([...numbers, index, Buffer.compare(refused, Buffer.from(line.trimEnd()))], [1000, NaN, 2000, 1, 0]);
+  assert.deepEqual(numbersOf("1970-01-01T00:00:03Z", "dateTime"), Float64Array.of(3000));
 }
 {
-  const reader = dateTimeColumnReader({ overflow: "truncate" });
+  const reader = columnReader("dateTime", { overflow: "truncate" });
   reader.read("1970-01-01T00:00:01.");
   const zeros = Buffer.alloc(1000, "0");
   const start = performance.now();
   for (let i = 0; i < 20000; i++) reader.read(zeros);
-  assert.deepEqual(reader.end("Z\n"), Float64Array.of(1000));
+  assert.deepEqual(reader.end("Z\n").numbers, Float64Array.of(1000));
   assert.ok(performance.now() - start < 20000, "a line that does not end is not read again for each piece");
   const COUNT = 1000000;
   const text = Array.from({ length: COUNT }, (_, i) => new Date(1577836800000 + i * 60000).toISOString()).join("\n");
-  const column = dateTimeColumn(Buffer.from(text));
+  const column = numbersOf(Buffer.from(text), "dateTime");
   assert.equal(column.length, COUNT);
   for (let i = 0; i < COUNT; i++) if (column[i] !== 1577836800000 + i * 60000) assert.fail(`line ${i}`);
-  for (let i = 0; i < 3; i++) assert.equal(dateTimeColumn(text, { unit: "us" }).at(-1), BigInt(column.at(-1)) * 1000n);
+  for (let i = 0; i < 3; i++) assert.equal(numbersOf(text, "dateTime", { unit: "us" }).at(-1), BigInt(column.at(-1)) * 1000n);
 }
 {
   // A string may be cut within a pair: the parts are those of the whole text. Bytes end half a pair.
   const text = "1970-01-01\u{1f600}x\n\u{1f600}\n\ud83d\n\ude00\u{1f600}\n2020-0\u{1f600}\ud83d";
   const refusalsOf = (pieces, cut = pieces.pop()) => {
-    const refusals = [];
-    const reader = dateColumnReader({ refusals });
-    return [...pieces.flatMap((it) => [...reader.read(it)]), ...reader.end(cut), refusals];
+    const reader = columnReader("date", { refused: "collect" });
+    const parts = [...pieces.map((it) => reader.read(it)), reader.end(cut)];
+    return [...parts.flatMap((it) => [...it.numbers]), parts.flatMap((it) => it.refusals)];
   };
-  const thrownBy = (pieces, first = dateColumnReader()) => thrown(() => [...pieces.map((it) => first.read(it)), first.end()]);
+  const thrownBy = (pieces, first = columnReader("date")) => thrown(() => [...pieces.map((it) => first.read(it)), first.end()]);
   const whole = refusalsOf([text]);
   for (let at = 0; at <= text.length; at++) assert.deepEqual(refusalsOf([text.slice(0, at), "", text.slice(at)]), whole, String(at));
   assert.deepEqual(refusalsOf([...text].flatMap((it) => it.split(""))), whole);
-  for (const [pieces, place, end] of [[["1970-01-01\ud83d", "\ude00"], 10, 14], [["1970-01-01\ud83d", Buffer.from("\n")], 10, 13], [["1970-01-01\ud83d"], 10, 13]]) {
+  for (const [pieces, start, end] of [[["1970-01-01\ud83d", "\ude00"], 10, 14], [["1970-01-01\ud83d", Buffer.from("\n")], 10, 13], [["1970-01-01\ud83d"], 10, 13]]) {
     const error = thrownBy(pieces);
-    assert.deepEqual([error.place, error.end], [place, end]);
+    assert.deepEqual([error.start, error.end], [start, end]);
   }
 }
 {
   // Many small pieces of a line take no more room than the line.
-  const reader = dateTimeColumnReader({ overflow: "truncate" });
+  const reader = columnReader("dateTime", { overflow: "truncate" });
   const before = held();
   reader.read("1970-01-01T00:00:01.");
   const zero = Buffer.from("0");
   for (let i = 0; i < 2000000; i++) reader.read(zero);
   assert.ok(held() < before + 100, `${before} megabytes before, and ${held()} for a line of two`);
-  assert.deepEqual(reader.end("Z\n"), Float64Array.of(1000));
+  assert.deepEqual(reader.end("Z\n").numbers, Float64Array.of(1000));
 }
 for (const [maxLineBytes, size, index] of [[20, 20], [20, 21, 0], [0, 0], [0, 1, 0], [2 ** 20, 2 ** 20], [2 ** 20, 2 ** 20 + 1, 0]]) {
   for (const piece of [1, 1000, 2 ** 21]) {
-    const reader = dateColumnReader({ maxLineBytes, refusals: [] });
+    const reader = columnReader("date", { maxLineBytes, refused: "number" });
     const fed = () => {
       for (let at = 0; at < size; at += piece) reader.read("x".repeat(Math.min(piece, size - at)));
     };
     if (piece === 1 && size > 1000) continue;
-    if (index === undefined) fed(), assert.equal(reader.end().length, Math.min(size, 1));
+    if (index === undefined) fed(), assert.equal(reader.end().numbers.length, Math.min(size, 1));
     else assert.throws(fed, { constructor: RangeError, name: "LineTooLong", index, message: `line 0 has more than ${maxLineBytes} bytes` });
     if (index !== undefined) assert.throws(() => reader.read(""), TypeError);
   }
 }
 {
-  const reader = dateColumnReader({ maxLineBytes: 10 });
-  for (let i = 0; i < 10; i++) assert.equal(reader.read("1970-01-02\n1970-01").length + reader.read("-02\n").length, 2);
+  const reader = columnReader("date", { maxLineBytes: 10 });
+  for (let i = 0; i < 10; i++) assert.equal(reader.read("1970-01-02\n1970-01").numbers.length + reader.read("-02\n").numbers.length, 2);
   assert.throws(() => reader.read("1970-01-02\n1970-01-020"), { name: "LineTooLong", index: 21 });
 }
 {
   // The room of a long line goes with it, although the reader goes on.
-  const reader = dateTimeColumnReader({ overflow: "truncate" });
+  const reader = columnReader("dateTime", { overflow: "truncate" });
   const before = held();
   reader.read("1970-01-01T00:00:01.");
   for (let i = 0; i < 200; i++) reader.read(Buffer.alloc(2 ** 20, "0"));
-  assert.deepEqual([...reader.read("Z\n1970-01-01T00:0"), ...reader.end("0:02Z")], [1000, 2000]);
+  assert.deepEqual([...reader.read("Z\n1970-01-01T00:0").numbers, ...reader.end("0:02Z").numbers], [1000, 2000]);
   for (let i = 0; i < 100 && held() >= before + 100; i++) await sleep(100);
   assert.ok(held() < before + 100, `${before} megabytes before, and ${held()} after a line of 200`);
   assert.throws(() => reader.read(""), TypeError);
@@ -464,23 +456,28 @@ for (const [maxLineBytes, size, index] of [[20, 20], [20, 21, 0], [0, 0], [0, 1,
 for (const [maxRefusals, listed] of [[0, []], [1, [1]], [2, [1, 2]], [4, [1, 2, 4, 5]], [9, [1, 2, 4, 5]], [undefined, [1, 2, 4, 5]]]) {
   // What is not listed is refused and counted too.
   const lines = ["1970-01-02", "x", "y", "1970-01-04", "z", "x"];
-  const refusals = [];
-  const reader = dateColumnReader({ refusals, maxRefusals });
-  const numbers = [...reader.read(lines.slice(0, 2).join("\n") + "\n"), ...reader.read(lines.slice(2, 5).join("\n")), ...reader.end(`\n${lines[5]}`)];
-  assert.deepEqual([numbers, refusals.map((it) => it.index), reader.refused], [[1, SMALLEST, SMALLEST, 3, SMALLEST, SMALLEST], listed, 4]);
-  const all = [];
-  assert.deepEqual([...dateColumn(lines.join("\n"), { refusals: all, maxRefusals })], numbers);
-  assert.deepEqual(all, refusals);
+  const options = { refused: "collect", maxRefusals };
+  const reader = columnReader("date", options);
+  const parts = [reader.read(lines.slice(0, 2).join("\n") + "\n"), reader.read(lines.slice(2, 5).join("\n")), reader.end(`\n${lines[5]}`)];
+  const numbers = parts.flatMap((it) => [...it.numbers]);
+  const refusals = parts.flatMap((it) => it.refusals);
+  assert.deepEqual([numbers, refusals.map((it) => it.index), parts.map((it) => it.refusedCount)], [[1, SMALLEST, SMALLEST, 3, SMALLEST, SMALLEST], listed, [1, 1, 2]]);
+  assert.deepEqual(readColumn(lines.join("\n"), "date", options), { numbers: Int32Array.from(numbers), refusedCount: 4, refusals });
 }
 {
   const before = held();
   const refusals = [];
-  const reader = dateTimeColumnReader({ refusals, maxRefusals: 100 });
-  for (let i = 0; i < 50; i++) reader.read("\n".repeat(100000));
-  assert.deepEqual([refusals.length, refusals.at(-1).index, reader.refused], [100, 99, 5000000]);
+  const reader = columnReader("dateTime", { refused: "collect", maxRefusals: 100 });
+  let count = 0;
+  for (let i = 0; i < 50; i++) {
+    const part = reader.read("\n".repeat(100000));
+    refusals.push(...part.refusals);
+    count += part.refusedCount;
+  }
+  assert.deepEqual([refusals.length, refusals.at(-1).index, count], [100, 99, 5000000]);
   assert.ok(held() < before + 100, "what is not listed takes no room");
 }
-assert.equal(thrown(() => dateColumn(Buffer.alloc(2 ** 28, "0"))).index, 0);
+assert.equal(thrown(() => readColumn(Buffer.alloc(2 ** 28, "0"), "date")).index, 0);
 // What is collected is given back a little later.
 for (let i = 0; i < 100 && held() >= atFirst + 200; i++) await sleep(100);
 assert.ok(held() < atFirst + 200, `${atFirst} megabytes at first, and ${held()} in the end`);

@@ -1,6 +1,6 @@
 // Drawn texts, columns and values, for Node and for the engines of browsers, which have to answer alike, and beside Temporal where
 // it is.
-import * as speedate from "speedate";
+import * as speedate from "speedate/columns";
 
 /** Forms of texts, by kind and by who reads them: `both` alike, or neither; one of the two alone; `different`: not alike. A `#` is
  * any digit, a `%` one of 0 to 5. */
@@ -26,24 +26,23 @@ const IS_SO = {
 };
 
 const EPOCH = speedate.parseDate("1970-01-01");
-const inMicroseconds = (it) => BigInt(speedate.epochMilliseconds({ ...it, offsetSeconds: it.offsetSeconds ?? 0 })) * 1000n + BigInt(it.microsecond);
-/** By kind what reads columns, what each has of a value, and what of a text that is refused. */
+const inMicroseconds = (it) => BigInt(speedate.toDate({ ...it, offsetSeconds: it.offsetSeconds ?? 0 }).getTime()) * 1000n + BigInt(it.microsecond);
+/** By kind the kinds of columns, with their options, what each has of a value, and what of a text that is refused. */
 const COLUMNS = {
-  date: [[speedate.dateColumn, {}, (it) => speedate.daysBetween(EPOCH, it), -(2 ** 31)]],
-  time: [[speedate.timeColumn, {}, (it) => Number(`${inMicroseconds({ year: 1970, month: 1, day: 1, ...it, offsetSeconds: 0 })}e-3`), NaN]],
+  date: [["date", {}, (it) => speedate.daysBetween(EPOCH, it), -(2 ** 31)]],
+  time: [["time", {}, (it) => Number(`${inMicroseconds({ year: 1970, month: 1, day: 1, ...it, offsetSeconds: 0 })}e-3`), NaN]],
   "date-time": [
-    [speedate.dateTimeColumn, { missingOffset: "utc", unit: "us" }, inMicroseconds, -(2n ** 63n)],
-    [speedate.dateTimeColumn, { missingOffset: "utc" }, (it) => Number(`${inMicroseconds(it)}e-3`), NaN],
-    [speedate.dateTimeClockColumn, { unit: "us" }, (it) => inMicroseconds({ ...it, offsetSeconds: 0 }), -(2n ** 63n)],
+    ["dateTime", { missingOffset: "utc", unit: "us" }, inMicroseconds, -(2n ** 63n)],
+    ["dateTime", { missingOffset: "utc" }, (it) => Number(`${inMicroseconds(it)}e-3`), NaN],
+    ["dateTimeClock", { unit: "us" }, (it) => inMicroseconds({ ...it, offsetSeconds: 0 }), -(2n ** 63n)],
   ],
 };
 
 /** Whether a column has what its lines have one by one. */
-function isAsItsLines([read, options, numberOf, refused], lines, answers) {
-  const refusals = [];
-  const column = read(lines.join("\n"), { ...options, refusals });
+function isAsItsLines([kind, options, numberOf, refused], lines, answers) {
+  const { numbers, refusals } = speedate.readColumn(lines.join("\n"), kind, { ...options, refused: "collect" });
   const codes = refusals.map(({ index, code }) => `${index} ${code}`).join();
-  return column.length === lines.length && answers.every((it, i) => Object.is(column[i], it.ok ? numberOf(it.value) : refused)) &&
+  return numbers.length === lines.length && answers.every((it, i) => Object.is(numbers[i], it.ok ? numberOf(it.value) : refused)) &&
     codes === answers.flatMap((it, i) => (it.ok ? [] : [`${i} ${it.code}`])).join();
 }
 
@@ -72,7 +71,7 @@ function taken(from, it, text) {
 
 /** What the package makes of a value, and of it and another one. */
 function answers(value, other) {
-  const more = "sign" in value ? speedate.totalSeconds(value) : "day" in value ? speedate.between(other, value) : 0;
+  const more = "sign" in value ? speedate.sum([value]) : "day" in value ? speedate.until(other, value) : 0;
   return [speedate.format(value), speedate.compare(value, other), more];
 }
 
@@ -94,7 +93,7 @@ export function readDrawn() {
       texts.push(text);
       all.push(it);
       if (it.ok) last ??= it.value;
-      for (const unit of JSON.stringify([it, it.place, it.ok && answers(it.value, last)])) hash = (hash * 31 + unit.charCodeAt(0)) | 0;
+      for (const unit of JSON.stringify([it, it.ok && answers(it.value, last)])) hash = (hash * 31 + unit.charCodeAt(0)) | 0;
       const other = hasTemporal ? taken(from, text, text) : undefined;
       counts.here += it.ok;
       counts.there += other !== undefined;

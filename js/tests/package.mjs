@@ -1,5 +1,5 @@
 // Wrong arguments, options, values, other realms and prototypes, long texts, places of errors, many calls, CommonJS, how a module is
-// found, and the examples of documents: node package.mjs DOCUMENT..
+// found, and the examples of documents: node package.mjs HEADER DOCUMENT.., where HEADER is speedate.h.
 import assert from "node:assert/strict";
 import { readFileSync, writeFileSync } from "node:fs";
 import { createRequire } from "node:module";
@@ -8,48 +8,47 @@ import { setFlagsFromString } from "node:v8";
 import { inspect } from "node:util";
 import { runInNewContext } from "node:vm";
 import { gzipSync } from "node:zlib";
-import * as speedate from "speedate";
+import * as core from "speedate";
+import * as speedate from "speedate/columns";
 import { scriptOf } from "./examples.mjs";
 
-const { addDays, dateFromTimestamp, format, fromDate, inTimezone, parseDate, parseDateFront, parseDateTime, parseDuration, parseTime, safeParseDate, toDate } = speedate;
+const { add, columnReader, dateTimeFromTimestamp, format, fromDate, parseDate, parseDateFront, parseDateTime, parseDuration, parseTime, readColumn, safeParseDate, toDate, withOffset } = speedate;
 const date = parseDate("2020-02-29");
 const time = parseTime("12:13:14.5Z");
 const dateTime = parseDateTime("2020-02-29T12:13:14.5Z");
 const duration = parseDuration("-P1DT0.001002S");
 const readers = Object.keys(speedate).filter((it) => /arse/.test(it));
-const wasm = new WebAssembly.Module(readFileSync("node_modules/speedate/speedate.wasm"));
+const moduleOf = (name) => new WebAssembly.Module(readFileSync(`node_modules/speedate/${name}.wasm`));
+const wasm = moduleOf("columns");
+const [header, ...documents] = process.argv.slice(2);
 
 // ---- Wrong arguments: of each call those that are right, and what is wrong in the place of each ----
 
 const noObject = [null, true, 5, 5n, NaN, "x", Symbol("x"), () => 1];
 const noText = [undefined, ...noObject.filter((it) => it !== "x"), {}, ["12:13"], new String("12:13"), new Uint16Array(4), new ArrayBuffer(4)];
 const noOptions = [...noObject, [], new Map(), new Date(), { other: 1 }, { [Symbol("x")]: 1 }];
-const noValue = [undefined, ...noObject, {}, [], new Date(), { ...date, week: 1 }, { year: 2020, month: 2 }, { ...date, day: "29" },
+const noValue = [undefined, ...noObject, {}, [], new Date(), { year: 2020, month: 2 }, { ...date, day: "29" }, { ...date, hour: 1 }, { ...time, year: 1 },
   Object.create(date), { ...date, day: Symbol("x") },
   { ...date, day: 29n }, { ...time, second: undefined }, { ...dateTime, offsetSeconds: undefined }, { ...duration, sign: null }];
 const noNumber = [undefined, ...noObject.filter((it) => typeof it !== "number"), {}];
 const noUnit = [undefined, ...noObject, {}, "S", "", "seconds"];
-const ofTimestamp = [[0, noNumber.filter((it) => it !== 5n)], ["s", noUnit], [undefined, noOptions]];
 const ofDate = [date, [...noValue, time, dateTime, duration]];
 const ofDuration = [duration, [...noValue, date, time, dateTime]];
 const ofDateTime = [dateTime, [...noValue, date, time, duration]];
 const ofMove = [[dateTime, [...noValue, time, duration]], ofDuration];
-const ofColumn = [["", noText], [undefined, noOptions]];
-const columns = ["dateColumn", "dateTimeColumn", "dateTimeClockColumn", "dateTimeOffsetColumn", "dateTimeFrontColumn", "timeColumn", "timeOffsetColumn", "durationColumn"];
+const noKind = [undefined, ...noObject, "datetime", "offset", "toString", ["date"]];
 const CALLS = {
-  ...Object.fromEntries(readers.map((it) => [it, [["x", noText], [undefined, noOptions]]])),
-  dateFromTimestamp: ofTimestamp, timeFromTimestamp: ofTimestamp, dateTimeFromTimestamp: ofTimestamp,
-  epochMilliseconds: [ofDateTime], toDate: [ofDateTime], fromDate: [[new Date(0), [undefined, ...noObject, {}, date]]],
-  format: [[time, noValue], [undefined, [...noOptions, ...["3", 1, 2, 9, -3, NaN, null, true, 3n].map((digits) => ({ digits }))]]], compare: [ofDate, ofDate], between: [ofDate, ofDate], daysBetween: [ofDate, ofDate],
-  addDays: [ofDate, [1, noNumber]], dayOfYear: [ofDate], negate: [ofDuration], totalSeconds: [ofDuration],
+  ...Object.fromEntries(readers.map((it) => [it, [["x", it.startsWith("safe") ? [] : noText], [undefined, noOptions]]])),
+  dateTimeFromTimestamp: [[0, noNumber.filter((it) => it !== 5n)], ["s", noUnit]], toDate: [ofDateTime], fromDate: [[new Date(0), [undefined, ...noObject, {}, date]]],
+  format: [[time, noValue], [undefined, [...noOptions, ...["3", 1, 2, 9, -3, NaN, null, true, 3n].map((digits) => ({ digits }))]]], compare: [ofDate, ofDate], until: [ofDate, ofDate], daysBetween: [ofDate, ofDate],
   durationFromMicroseconds: [[0, noNumber.filter((it) => it !== 5n)]], totalMicroseconds: [ofDuration],
   sum: [[[duration], [undefined, ...noObject, {}, new Set(), ...ofDuration[1].filter((it) => typeof it !== "symbol").map((it) => [duration, it])]]],
-  textColumn: [[new Int32Array(1), [undefined, ...noObject, {}, [], [1], ...[Int16Array, Uint32Array, Float64Array, BigInt64Array, Uint8Array].map((it) => new it(1))]],
-    ["date", [undefined, ...noObject, "time", "dateTime", "datetime", "offset", "toString", ["date"]]]],
-  after: ofMove, before: ofMove, inTimezone: [[time, [...noValue, date, duration]], [0, noNumber]],
-  ...Object.fromEntries(columns.flatMap((it) => [[it, ofColumn], [`${it}Reader`, ofColumn.slice(1)]])),
-  schema: [["date", [undefined, ...noObject, "datetime", "toString", ["date"]]], [undefined, noOptions]],
-  init: [[wasm, [undefined, ...noObject, {}, new WebAssembly.Module(new Uint8Array([0, 97, 115, 109, 1, 0, 0, 0]))]]],
+  printColumn: [[new Int32Array(1), [undefined, ...noObject, {}, [], [1], ...[Int16Array, Uint32Array, Float64Array, BigInt64Array, Uint8Array].map((it) => new it(1))]],
+    ["date", ["time", "dateTime", ...noKind]]],
+  add: ofMove, subtract: ofMove, withOffset: [[time, [...noValue, date, duration]], [0, noNumber]],
+  readColumn: [["", noText], ["date", noKind], [undefined, noOptions]], columnReader: [["date", noKind], [undefined, noOptions]],
+  schema: [["date", noKind], [undefined, noOptions]],
+  init: [[wasm, [undefined, ...noObject, {}, moduleOf("speedate"), new WebAssembly.Module(new Uint8Array([0, 97, 115, 109, 1, 0, 0, 0]))]]],
 };
 assert.deepEqual([...Object.keys(CALLS), "SpeedateError"].sort(), Object.keys(speedate).sort());
 for (const [name, places] of Object.entries(CALLS))
@@ -57,33 +56,43 @@ for (const [name, places] of Object.entries(CALLS))
     for (const it of wrong)
       assert.throws(() => speedate[name](...places.map(([right], i) => (i === place ? it : right))), TypeError, `${name}, ${place}: ${String(it)}`);
 
+// Data that is not a text is refused.
+for (const it of noText) {
+  for (const name of readers.filter((it) => it.startsWith("safe"))) assert.deepEqual(speedate[name](it), { ok: false, code: "invalid_type", expected: "a string", start: 0, end: 0 });
+  assert.throws(() => columnReader("date").read(it), TypeError);
+}
+
 const outside = (name) => (error) => error.constructor === RangeError && error.message.includes(name);
-const refused = (fault) => (error) => error instanceof speedate.SpeedateError && error.fault === fault;
+const refused = (code) => (error) => error instanceof speedate.SpeedateError && error.code === code;
 const noIntegers = [NaN, Infinity, 0.5];
-for (const it of [...noIntegers, 2 ** 31, -(2 ** 31) - 1]) assert.throws(() => addDays(date, it), outside("days"));
-for (const it of [...noIntegers, 2 ** 31, -(2 ** 31) - 1]) assert.throws(() => inTimezone(time, it), outside("offsetSeconds"));
-for (const it of [...noIntegers, 2 ** 63, 2n ** 63n, -(2n ** 63n) - 1n]) assert.throws(() => dateFromTimestamp(it, "s"), outside("timestamp"));
-for (const it of [-1, 2 ** 32]) assert.throws(() => speedate.timeFromTimestamp(it, "s"), outside("timestamp"));
-for (const it of [-1, -1n]) for (const unit of ["ms", "us"]) assert.throws(() => speedate.timeFromTimestamp(it, unit), outside("timestamp"));
-assert.throws(() => dateFromTimestamp(1, "s"), refused("date_not_exact"));
+for (const it of [...noIntegers, 2 ** 31, -(2 ** 31) - 1]) assert.throws(() => withOffset(time, it), outside("offsetSeconds"));
+for (const it of [...noIntegers, 2 ** 63, 2n ** 63n, -(2n ** 63n) - 1n]) assert.throws(() => dateTimeFromTimestamp(it, "s"), outside("timestamp"));
+assert.throws(() => add(date, parseDuration("PT1H")), refused("date_not_exact"));
+assert.equal(toDate(dateTimeFromTimestamp(0, "ms")).getTime(), 0, "a timestamp is in UTC");
 for (const it of noIntegers) assert.throws(() => format({ ...date, day: it }), outside("day"));
 for (const it of [-1, 256, 2 ** 40]) assert.throws(() => format({ ...date, month: it }), refused("out_of_range_month"));
 for (const it of [-1, 1000, 2 ** 40]) assert.throws(() => format({ ...time, microsecond: it }), refused("time_too_large"));
 for (const it of [86400, -86400, 2 ** 40, -(2 ** 40)]) assert.throws(() => format({ ...time, offsetSeconds: it }), refused("out_of_range_tz"));
 assert.throws(() => format({ ...date, year: -1 }), refused("date_too_small"));
 assert.throws(() => format({ ...duration, days: 1 }), outside("days"));
-// What is not enumerable, and a symbol, as MobX adds one, is not looked at. What is wrong among the others is named.
-const observed = Object.defineProperty({ ...date, [Symbol("mobx administration")]: {} }, "hidden", { value: 1 });
+// Further fields, what is not enumerable, and a symbol, as MobX adds one, are not looked at. What is missing is named.
+const observed = Object.defineProperty({ label: "rent", ...date, [Symbol("mobx administration")]: {} }, "hidden", { value: 1 });
 assert.equal(format(observed), "2020-02-29");
+for (const it of [date, time, dateTime, duration]) {
+  const labelled = { label: "rent", ...it, week: 9 };
+  assert.equal(format(labelled), format(it));
+  assert.equal(speedate.compare(labelled, it), 0);
+  assert.equal(format(Object.fromEntries(Object.entries(it).reverse())), format(it), "fields in another order");
+}
 const wrongFields = [
-  [{ ...date, type: "x" }, ": it is a date and not type"], [{ ...dateTime, type: "x", week: 9 }, ": it is a datetime and not type, week"],
-  [{ year: 2020, month: 2 }, ": it is a date without day"], [{ ...time, seconds: 1, second: undefined }, ": it is a time and not seconds"],
-  [{ ...date, day: 1, days: 1, sign: 1 }, ": it is a date and not days, sign"], [{ hour: 1, minute: 2 }, ": it is a time without second, millisecond, microsecond, offsetSeconds"],
-  [{ sign: 1, day: 1 }, ": it is a date without year, month and not sign"], [{ x: 1 }, ""], [{}, ""], [5, ""],
+  [{ ...date, hour: 1 }, ": it is a date with hour"], [{ ...time, year: 1 }, ": it is a time with year"],
+  [{ year: 2020, month: 2 }, ": it is a date without day"], [{ ...time, seconds: 1, second: undefined, hour: undefined, year: 1 }, ": it is a time with year"],
+  [{ hour: 1, minute: 2 }, ": it is a time without second, without millisecond, without microsecond, without offsetSeconds"],
+  [{ sign: 1, day: 1 }, ": it is a date without year, without month"], [{ x: 1 }, ""], [{}, ""], [5, ""],
 ];
 for (const [it, said] of wrongFields)
-  assert.throws(() => format(it), new TypeError(`value has to be a date or time or datetime or duration with just its fields${said}`));
-assert.throws(() => addDays({ ...date, hour: 1 }, 1), /^TypeError: date has to be a date with just its fields: it is a date and not hour$/);
+  assert.throws(() => format(it), new TypeError(`value has to be a date or time or datetime or duration${said}`));
+assert.throws(() => speedate.daysBetween(dateTime, date), /^TypeError: earlier has to be a date: it is a date with hour$/);
 assert.throws(() => format({ ...time, offsetSeconds: 90 }), outside("offsetSeconds"));
 assert.throws(() => fromDate(new Date(NaN)), outside("date has to be a Date that has a time"));
 assert.throws(() => toDate({ ...dateTime, offsetSeconds: null }), refused("tz_required"));
@@ -93,65 +102,68 @@ assert.throws(() => speedate.compare({ ...date, month: 13 }, { ...date, year: -1
 assert.throws(() => speedate.compare({ ...date, year: -1 }, { ...date, month: 13 }), refused("date_too_small"));
 assert.throws(() => speedate.compare(date, { ...date, month: 13 }), refused("out_of_range_month"));
 assert.throws(() => speedate.compare({ ...duration, days: -(2 ** 32) }, { ...duration, days: 1 }), outside("days"), "an argument that cannot be comes first");
-assert.throws(() => speedate.after({ ...date, day: 32 }, { ...duration, days: -(2 ** 32) }), refused("duration_days_too_large"));
-assert.throws(() => inTimezone({ ...time, hour: 24 }, 86400), refused("out_of_range_hour"));
-assert.throws(() => addDays({ ...date, day: 32 }, 2 ** 31 - 1), refused("out_of_range_day"));
+assert.throws(() => add({ ...date, day: 32 }, { ...duration, days: -(2 ** 32) }), refused("duration_days_too_large"));
+assert.throws(() => withOffset({ ...time, hour: 24 }, 86400), refused("out_of_range_hour"));
+assert.throws(() => add({ ...date, day: 32 }, { ...parseDuration("P999999999D") }), refused("out_of_range_day"));
 assert.throws(() => parseTime("12:13\u00e2\u0088\u009208:00"), refused("invalid_char_tz_sign"), "three characters are not the bytes of U+2212");
 assert.equal(parseTime("12:13\u221208:00").offsetSeconds, -28800);
 
 // ---- Options: the readers that have each, and values that it has not ----
 
 const OPTIONS = {
-  timestamps: [/Date(Time)?$/, ["", "S", "us ", 0, 1, true, null, ["s"], {}]],
+  timestampUnit: [/Date(Time)?$/, ["", "S", "us ", 0, 1, true, null, ["s"], {}]],
   overflow: [/Time$|Duration$|TimeFront$/, ["", "Error", 0, 1, false, null, ["error"], {}]],
   isoOrder: [/Duration$/, ["", "Lax", 0, 1, null, ["lax"], {}]],
-  strict: [/Time$/, ["", "true", 0, 1, null, {}]],
-  timestampOffset: [/DateTime$/, ["0", "", 0.5, NaN, Infinity, 86400, -86400, 0n, null, true, {}]],
+  form: [/(Date|Time)$/, ["", "Text", "timestamp", "front", true, 0, 1, null, ["text"], {}]],
   missingOffset: [/DateTime$/, ["", "UTC", 0, true, null, ["utc"]]],
 };
 for (const name of readers) {
   for (const [option, [has, wrong]] of Object.entries(OPTIONS)) {
     const isNamed = (error) => error instanceof TypeError && error.message.includes(option);
-    const besides = option === "timestampOffset" && has.test(name) ? { timestamps: "s" } : {};
-    for (const it of has.test(name) ? wrong : [true, "s", "error", 0]) assert.throws(() => speedate[name]("x", { ...besides, [option]: it }), isNamed);
+    const besides = option === "timestampUnit" && has.test(name) ? { form: "orTimestamp" } : {};
+    for (const it of has.test(name) ? wrong : [true, "s", "error", "text", 0]) assert.throws(() => speedate[name]("x", { ...besides, [option]: it }), isNamed);
     if (name.startsWith("safe")) assert.deepEqual(speedate[name]("x", { [option]: undefined }), speedate[name]("x"));
   }
 }
-assert.throws(() => parseDateTime("x", { strict: true, timestamps: "s" }), /strict and timestamps/);
-assert.throws(() => parseDateTime("x", { timestampOffset: 0 }), /timestampOffset/);
+// A form that a kind lacks, and a unit without its form, are wrong options.
+const FORMS = { Date: ["text", "orTimestamp"], Time: ["text", "strict"], DateTime: ["text", "orTimestamp", "strict"] };
+const unitFor = (form) => (form === "orTimestamp" ? { timestampUnit: "s" } : {});
+for (const [kind, forms] of Object.entries(FORMS))
+  for (const form of ["text", "orTimestamp", "strict", "front"]) {
+    const safeParse = speedate[`safeParse${kind}`];
+    if (!forms.includes(form)) assert.throws(() => safeParse("x", { form, ...unitFor(form) }), /^TypeError: form has to be one of text/);
+    else assert.equal(safeParse("x", { form, ...unitFor(form) }).ok, false);
+    for (const options of [{ form: "orTimestamp" }, { form, timestampUnit: "s" }, { timestampUnit: "s" }])
+      if (forms.includes("orTimestamp") && options.form !== "orTimestamp" || options.form === "orTimestamp" && !options.timestampUnit) assert.throws(() => safeParse("x", options), TypeError);
+  }
 const noSizes = ["1", -1, 0.5, NaN, Infinity, 1n, null];
-const OF_COLUMNS = { maxLineBytes: noSizes, maxRefusals: noSizes, missingOffset: OPTIONS.missingOffset[1], unit: ["", "s", "MS", 0, null], refusals: [true, null, 0, "", {}, { length: 0 }, new Set()] };
-const OF_DATE_TIMES = ["timestamps", "overflow", "strict", "timestampOffset"];
+const OF_COLUMNS = { maxLineBytes: noSizes, maxRefusals: noSizes, unit: ["", "s", "MS", 0, null], refused: [true, null, 0, "", "raise", [], {}] };
+const OF_DATE_TIMES = ["form", "timestampUnit", "overflow"];
 const columnOptions = {
-  dateColumn: ["timestamps"], dateTimeColumn: [...OF_DATE_TIMES, "missingOffset", "unit"], dateTimeClockColumn: [...OF_DATE_TIMES, "unit"], dateTimeOffsetColumn: OF_DATE_TIMES,
-  dateTimeFrontColumn: ["overflow", "missingOffset", "unit"],
-  timeColumn: ["overflow", "strict", "unit"], timeOffsetColumn: ["overflow", "strict"], durationColumn: ["overflow", "isoOrder", "unit"],
+  date: ["form", "timestampUnit"], dateTime: [...OF_DATE_TIMES, "missingOffset", "unit"], dateTimeClock: [...OF_DATE_TIMES, "unit"], dateTimeOffset: OF_DATE_TIMES,
+  time: ["form", "overflow", "unit"], timeOffset: ["form", "overflow"], duration: ["overflow", "isoOrder", "unit"],
 };
-assert.deepEqual(Object.keys(columnOptions), columns);
-for (const [name, its] of Object.entries(columnOptions)) {
-  const has = [...its, "refusals", "maxRefusals", "maxLineBytes"];
-  for (const option of Object.keys({ ...OPTIONS, ...OF_COLUMNS, exact: [] })) {
+for (const [kind, its] of Object.entries(columnOptions)) {
+  const has = [...its, "refused", "maxRefusals", "maxLineBytes"];
+  for (const option of Object.keys({ ...OPTIONS, ...OF_COLUMNS, digits: [] })) {
     const isNamed = (error) => error instanceof TypeError && error.message.includes(option);
-    const besides = option === "timestampOffset" && has.includes(option) ? { timestamps: "s" } : {};
-    const wrong = has.includes(option) ? (OF_COLUMNS[option] ?? OPTIONS[option][1]) : [true, "s", "error", 0];
-    for (const it of wrong) for (const call of [speedate[name], (_, options) => speedate[`${name}Reader`](options)])
-      assert.throws(() => call("", { ...besides, [option]: it }), isNamed);
-    const none = speedate[name]("", { [option]: undefined });
-    assert.equal((none.numbers ?? none).length, 0);
+    const besides = option === "timestampUnit" && has.includes(option) ? { form: "orTimestamp" } : option === "maxRefusals" ? { refused: "collect" } : {};
+    const all = OF_COLUMNS[option] ?? OPTIONS[option]?.[1];
+    const wrong = has.includes(option) ? all.filter((it) => it !== "front" || kind !== "dateTime") : [true, "s", "error", 0];
+    for (const it of wrong) for (const call of [(options) => readColumn("", kind, options), (options) => columnReader(kind, options)])
+      assert.throws(() => call({ ...besides, [option]: it }), isNamed, `${kind}, ${option}`);
+    assert.equal(readColumn("", kind, { [option]: undefined }).numbers.length, 0);
   }
 }
-assert.throws(() => speedate.dateTimeColumn("", { strict: true, timestamps: "s" }), /strict and timestamps/);
-assert.throws(() => speedate.dateTimeColumn("", { timestampOffset: 0 }), /timestampOffset/);
-assert.throws(() => speedate.dateTimeOffsetColumn("", { strict: true, timestamps: "s" }), /strict and timestamps/);
-assert.throws(() => speedate.dateColumn("", { maxRefusals: 1 }), /maxRefusals needs refusals/);
-assert.throws(() => speedate.dateTimeClockColumn("", { timestampOffset: 0 }), /timestampOffset/);
+for (const options of [{ maxRefusals: 1 }, { maxRefusals: 1, refused: "number" }]) assert.throws(() => readColumn("", "date", options), /maxRefusals has to be given with refused: collect/);
+assert.throws(() => readColumn("", "dateTime", { form: "front", timestampUnit: "s" }), /timestampUnit/);
 
 // ---- A missing offset ----
 
 const both = (text, options) => [text, Buffer.from(text)].map((it) => speedate.safeParseDateTime(it, options));
 const UTC = [
   ["2020-02-29T12:13", 0], ["2020-02-29T12:13Z", 0], ["2020-02-29T12:13+01:30", 5400], ["2020-02-29T12:13\u221208:00", -28800],
-  ["1", 0, { timestamps: "s" }], ["1", 3600, { timestamps: "s", timestampOffset: 3600 }], ["2020-02-29T12:13:14Z", 0, { strict: true }],
+  ["1", 0, { form: "orTimestamp", timestampUnit: "s" }], ["2020-02-29T12:13:14Z", 0, { form: "strict" }],
   [`2020-02-29T12:13:14.5${"0".repeat(70)}`, 0, { overflow: "truncate" }], [`2020-02-29T12:13:14.5${"0".repeat(2 ** 24)}`, 0, { overflow: "truncate" }],
 ];
 for (const [text, offsetSeconds, options] of UTC) {
@@ -159,29 +171,29 @@ for (const [text, offsetSeconds, options] of UTC) {
   for (const it of both(text, { ...options, missingOffset: "utc" })) assert.deepEqual(it.value, { ...without, offsetSeconds }, text);
   for (const it of both(text, { ...options, missingOffset: "error" })) {
     if (without.offsetSeconds !== null) assert.deepEqual(it.value, without, text);
-    else assert.deepEqual([it.fault, it.code, it.place], ["tz_required", 19, text.length], text);
+    else assert.deepEqual([it.code, it.start], ["tz_required", text.length], text);
   }
   assert.deepEqual(parseDateTime(text, options), without, "nothing is kept of an option");
 }
 for (const missingOffset of ["utc", "error"]) {
-  for (const it of both("2020-02-29T12:60", { missingOffset })) assert.deepEqual([it.fault, it.place], ["out_of_range_minute", 14]);
-  for (const it of both("2020-02-29T12:13:14", { missingOffset, strict: true })) assert.deepEqual([it.fault, it.place], ["tz_required", 19]);
+  for (const it of both("2020-02-29T12:60", { missingOffset })) assert.deepEqual([it.code, it.start], ["out_of_range_minute", 14]);
+  for (const it of both("2020-02-29T12:13:14", { missingOffset, form: "strict" })) assert.deepEqual([it.code, it.start], ["tz_required", 19]);
 }
 
 // ---- Schemas ----
 
 const validate = (it, ...args) => speedate.schema(...args)["~standard"].validate(it);
-const SCHEMAS = { date: ["2020-02-29", { timestamps: "s" }], time: ["12:13", { strict: true }], dateTime: ["2020-02-29T12:13", { missingOffset: "utc" }], duration: ["P1D1Y", { isoOrder: "strict" }] };
+const SCHEMAS = { date: ["2020-02-29", { form: "orTimestamp", timestampUnit: "s" }], time: ["12:13", { form: "strict" }], dateTime: ["2020-02-29T12:13", { missingOffset: "utc" }], duration: ["P1D1Y", { isoOrder: "strict" }] };
 for (const [kind, [text, options]] of Object.entries(SCHEMAS)) {
   const parse = speedate[`safeParse${kind[0].toUpperCase()}${kind.slice(1)}`];
   const { "~standard": standard, ...others } = speedate.schema(kind);
   assert.deepEqual([others, Object.keys(standard), standard.version, standard.vendor], [{}, ["version", "vendor", "validate"], 1, "speedate"]);
   for (const [it, chosen] of [[text], [text, options], ["86400", options], ["x"], [""]]) {
-    const { ok, value, fault, code, message, place, end, expected } = parse(it, chosen);
+    const { ok, value, code, start, end, expected } = parse(it, chosen);
     const { validate } = speedate.schema(kind, chosen)["~standard"];
-    assert.deepEqual(validate(it), ok ? { value } : { issues: [{ message, fault, code, place, end, expected }] }, `${kind} ${it}`);
+    assert.deepEqual(validate(it), ok ? { value } : { issues: [{ message: `expected ${expected}`, code, start, end, expected }] }, `${kind} ${it}`);
   }
-  for (const it of [undefined, null, 5, new Date(), Buffer.from(text), new String(text)]) assert.deepEqual(standard.validate(it), { issues: [{ message: "expected a string" }] });
+  for (const it of [undefined, null, 5, new Date(), Buffer.from(text), new String(text)]) assert.deepEqual(standard.validate(it), { issues: [{ message: "expected a string", code: "invalid_type", expected: "a string", start: 0, end: 0 }] });
   const given = { ...options };
   const schema = speedate.schema(kind, given);
   for (const name of Object.keys(given)) given[name] = "changed";
@@ -198,25 +210,25 @@ const thrown = (call) => {
   }
 };
 const error = thrown(() => parseDate("x"));
-assert.deepEqual({ ...error }, { name: "SpeedateError", fault: "too_short", code: 1, expected: "a date: YYYY-MM-DD", text: "x", place: 1, end: 1 });
+assert.deepEqual({ ...error }, { name: "SpeedateError", code: "too_short", expected: "a date: YYYY-MM-DD", text: "x", start: 1, end: 1 });
 // What is expected goes by the call, and by what the options have it read.
 for (const [call, text, options, expected] of [
   ["Date", "2020-13-01", undefined, "month, 01 to 12"],
-  ["Date", "2020-2-9", { timestamps: "s" }, "a date, YYYY-MM-DD, or a whole number"],
+  ["Date", "2020-2-9", { form: "orTimestamp", timestampUnit: "s" }, "a date, YYYY-MM-DD, or a whole number"],
   ["DateFront", "2020-2-9", undefined, "a date: YYYY-MM-DD"],
   ["Time", "1:30", undefined, "a time: HH:MM or HH:MM:SS"],
   ["Time", "12:00 PM", undefined, "after the clock at most an offset: Z or +01:00"],
-  ["Time", "12:13", { strict: true }, "a colon, as in HH:MM:SS"],
+  ["Time", "12:13", { form: "strict" }, "a colon, as in HH:MM:SS"],
   ["TimeFront", "1:30", undefined, "a time: HH:MM or HH:MM:SS"],
   ["DateTime", "2020-02-29", undefined, "T, t, _ or a space, then a time"],
-  ["DateTime", "2020-02-29 12:13:14Z", { strict: true }, "T or t, then a time"],
-  ["DateTime", "1x", { timestamps: "s" }, "a date-time, as YYYY-MM-DDTHH:MM:SS, or a number"],
+  ["DateTime", "2020-02-29 12:13:14Z", { form: "strict" }, "T or t, then a time"],
+  ["DateTime", "1x", { form: "orTimestamp", timestampUnit: "s" }, "a date-time, as YYYY-MM-DDTHH:MM:SS, or a number"],
   ["DateTime", "2020-02-29T12:13", { missingOffset: "error" }, "an offset: Z or +01:00"],
   ["DateTime", "2020-02-29T12:13 Z", { missingOffset: "error" }, "an offset: Z or +01:00"],
   ["DateTime", "2020-02-29T12:13 Z", { missingOffset: "utc" }, "after the clock at most an offset: Z or +01:00"],
   ["DateTime", "2020-2-9", { missingOffset: "error" }, "a date-time with an offset, as YYYY-MM-DDTHH:MM:SSZ"],
-  ["DateTime", "1x", { timestamps: "s", missingOffset: "error" }, "a date-time with an offset, as YYYY-MM-DDTHH:MM:SSZ"],
-  ["DateTime", "2020-02-29 12:13:14Z", { strict: true, missingOffset: "error" }, "T or t, then a time"],
+  ["DateTime", "1x", { form: "orTimestamp", timestampUnit: "s", missingOffset: "error" }, "a date-time with an offset, as YYYY-MM-DDTHH:MM:SSZ"],
+  ["DateTime", "2020-02-29 12:13:14Z", { form: "strict", missingOffset: "error" }, "T or t, then a time"],
   ["DateTimeFront", "2020-02-29", undefined, "T, t, _ or a space, then a time"],
   ["Duration", "1 day, 24:00", undefined, "hours: up to 23 after days, or 10 digits up to 2,400,000,000"],
 ]) {
@@ -224,27 +236,25 @@ for (const [call, text, options, expected] of [
   assert.equal(thrown(() => speedate[`parse${call}`](text, options)).expected, expected, text);
 }
 assert.equal(thrown(() => toDate({ ...dateTime, offsetSeconds: null })).expected, "a value that has an offset");
-assert.equal(thrown(() => addDays({ year: 9999, month: 12, day: 31 }, 1)).expected, "a date in the years 0000 to 9999");
-const { dateTimeColumn, dateTimeClockColumn, dateTimeOffsetColumn, timeColumn, timeOffsetColumn } = speedate;
+assert.equal(thrown(() => add({ year: 9999, month: 12, day: 31 }, parseDuration("P1D"))).expected, "a date in the years 0000 to 9999");
 const inAnyForm = ["a date-time: YYYY-MM-DDTHH:MM or YYYY-MM-DDTHH:MM:SS", "a time: HH:MM or HH:MM:SS"];
-const withOffset = ["a date-time with an offset, as YYYY-MM-DDTHH:MM:SSZ", "a time with an offset: HH:MM:SSZ or HH:MM:SS+01:00"];
-for (const [read, text, phrase] of [
-  [dateTimeColumn, "2020-02-29T12:13", withOffset[0]], [dateTimeOffsetColumn, "2020-02-29T12:13", withOffset[0]], [timeOffsetColumn, "12:13", withOffset[1]],
-  [(text) => dateTimeColumn(text, { missingOffset: "utc" }), undefined, inAnyForm[0]], [dateTimeClockColumn, undefined, inAnyForm[0]], [timeColumn, undefined, inAnyForm[1]],
+const requiringOffset = ["a date-time with an offset, as YYYY-MM-DDTHH:MM:SSZ", "a time with an offset: HH:MM:SSZ or HH:MM:SS+01:00"];
+for (const [kind, text, phrase, options] of [
+  ["dateTime", "2020-02-29T12:13", requiringOffset[0]], ["dateTimeOffset", "2020-02-29T12:13", requiringOffset[0]], ["timeOffset", "12:13", requiringOffset[1]],
+  ["dateTime", undefined, inAnyForm[0], { missingOffset: "utc" }], ["dateTimeClock", undefined, inAnyForm[0]], ["time", undefined, inAnyForm[1]],
 ]) {
-  assert.equal(thrown(() => read("x")).expected, phrase);
-  if (text) for (const it of [text, `${text} Z`]) assert.equal(thrown(() => read(it)).expected, "an offset: Z or +01:00");
+  assert.equal(thrown(() => readColumn("x", kind, options)).expected, phrase);
+  if (text) for (const it of [text, `${text} Z`]) assert.equal(thrown(() => readColumn(it, kind)).expected, "an offset: Z or +01:00");
 }
-assert.deepEqual(thrown(() => speedate.durationColumn("PT1S\nP106751992D")).toJSON(), {
-  name: "SpeedateError", message: "the number of a line does not fit 64 bits", fault: "number_too_large", code: 97, expected: "a duration of less than 2^63 microseconds", place: 0, end: 11, index: 1,
+assert.deepEqual(thrown(() => readColumn("PT1S\nP106751992D", "duration")).toJSON(), {
+  name: "SpeedateError", message: "expected a duration of less than 2^63 microseconds", code: "number_too_large", expected: "a duration of less than 2^63 microseconds", start: 0, end: 11, index: 1,
 });
 {
-  const refusals = [];
-  speedate.dateTimeColumn("2020-02-29 12:13Z\nx", { strict: true, refusals });
+  const { refusals } = readColumn("2020-02-29 12:13Z\nx", "dateTime", { form: "strict", refused: "collect" });
   assert.deepEqual(refusals.map((it) => it.expected), ["T or t, then a time", "a date-time with an offset, as YYYY-MM-DDTHH:MM:SSZ"]);
 }
-for (const it of [inspect(error), inspect(thrown(() => parseTime("12:13\u221201:60")))]) assert.match(it, /^SpeedateError: [^]*text: '[^']+',\n *place: \d+,\n *end: \d+\n}$/, "what a log shows");
-assert.equal(String(error), "SpeedateError: input is too short");
+for (const it of [inspect(error), inspect(thrown(() => parseTime("12:13\u221201:60")))]) assert.match(it, /^SpeedateError: [^]*text: '[^']+',\n *start: \d+,\n *end: \d+\n}$/, "what a log shows");
+assert.equal(String(error), "SpeedateError: expected a date: YYYY-MM-DD");
 assert.match(error.stack, /\bparseDate\b/);
 for (const [name, it] of Object.entries(speedate)) assert.equal(it.name, name);
 for (const make of [() => parseDate("2020-02-29"), () => parseTime("12:13"), () => parseDateTime("2020-02-29T12:13"), () => parseDuration("PT1S"),
@@ -258,17 +268,18 @@ for (const make of [() => parseDate("2020-02-29"), () => parseTime("12:13"), () 
 // ---- Other realms, prototypes that others have changed, and arrays that are not what they say ----
 
 const elsewhere = (code) => runInNewContext(code);
-assert.deepEqual(parseDate("86400", elsewhere("({ timestamps: 's' })")), parseDate("1970-01-02"));
+assert.deepEqual(parseDate("86400", elsewhere("({ form: 'orTimestamp', timestampUnit: 's' })")), parseDate("1970-01-02"));
 assert.equal(format(fromDate(elsewhere("new Date(0)"))), "1970-01-01T00:00:00Z");
 assert.deepEqual(parseTime(elsewhere("new Uint8Array([49, 50, 58, 49, 51])")), parseTime("12:13"));
 assert.equal(format(elsewhere("({ year: 2020, month: 2, day: 29 })")), "2020-02-29");
 
-const polluted = { timestamps: "s", timestampOffset: 0, overflow: "truncate", isoOrder: "strict", strict: true, exact: false, missingOffset: "utc", unit: "us", refusals: [], index: 5, place: 5, offsetSeconds: 90, year: -1, hour: 1, kind: 1 };
+const polluted = { form: "strict", timestampUnit: "s", overflow: "truncate", isoOrder: "strict", missingOffset: "utc", unit: "us", refused: "collect", maxRefusals: 1, index: 5, start: 5, end: 5, text: "x", offsetSeconds: 90, year: -1, hour: 1, kind: 1,
+  forms: ["text"], names: ["digits"], other: "day", value: 1, ok: true, digits: 3 };
 const unchanged = () => [safeParseDate("86400"), safeParseDate("86400", {}), speedate.safeParseTime("12:13:14.1234567", {}), speedate.safeParseDateTime("2020-02-29 12:13"),
-  speedate.safeParseDateTime("1.5", { overflow: "truncate" }), speedate.safeParseDuration("P1D1Y"), Object.entries(thrown(() => dateFromTimestamp(1, "s"))),
-  thrown(() => inTimezone(parseTime("12:13"), 0)).fault, thrown(() => speedate.dateTimeColumn("2020-02-29T12:13", {})).fault,
-  speedate.dateTimeColumn("2020-02-29T12:13Z", {}), speedate.dateTimeColumn("2020-02-29T12:13Z"), speedate.dateColumn("2020-02-29", {}), thrown(() => speedate.dateColumn("86400")).fault,
-  speedate.dateTimeFromTimestamp(1, "s"), speedate.dateTimeFromTimestamp(1, "s", {}), format(date), format(duration), speedate.dayOfYear(date)];
+  speedate.safeParseDateTime("2020-02-29T12:13:14.1234567", { overflow: "truncate" }), speedate.safeParseDuration("P1D1Y"), Object.entries(thrown(() => add(date, parseDuration("PT1H")))),
+  thrown(() => withOffset(parseTime("12:13"), 0)).code, thrown(() => readColumn("2020-02-29T12:13", "dateTime", {})).code, speedate.schema("date")["~standard"].validate("2020-02-30"),
+  readColumn("2020-02-29T12:13Z", "dateTime", {}), readColumn("2020-02-29T12:13Z", "dateTime"), readColumn("2020-02-29", "date", {}), thrown(() => readColumn("86400", "date")).code,
+  dateTimeFromTimestamp(1, "s"), format(date), format(dateTime), format(duration), format({ ...date, label: 1 })];
 const before = unchanged();
 for (const [name, value] of Object.entries(polluted)) Object.prototype[name] = value;
 try {
@@ -289,12 +300,13 @@ for (const length of [20, -1, 2 ** 24 + 1, NaN]) {
 const gone = new Uint8Array(2 ** 25);
 structuredClone(gone.buffer, { transfer: [gone.buffer] });
 assert.throws(() => parseDate(gone));
+assert.equal(safeParseDate(gone).code, "too_short", "an array whose bytes were transferred has none");
 assert.deepEqual(parseDate("2020-02-29"), date);
 
 // ---- Values, long texts, and many ----
 
 assert.deepEqual(duration, { sign: -1, days: -1, seconds: 0, milliseconds: -1, microseconds: -2 });
-assert.deepEqual(safeParseDate("x"), { ok: false, fault: "too_short", code: 1, message: "input is too short", expected: "a date: YYYY-MM-DD", place: 1, end: 1 });
+assert.deepEqual(safeParseDate("x"), { ok: false, code: "too_short", expected: "a date: YYYY-MM-DD", start: 1, end: 1 });
 assert.deepEqual(fromDate(toDate(dateTime)), dateTime);
 assert.equal(format(speedate.durationFromMicroseconds(-1500000)), "-PT1.5S");
 assert.deepEqual([0, 3, 6, undefined].map((digits) => format(dateTime, { digits })), ["14", "14.500", "14.500000", "14.500000"].map((it) => `2020-02-29T12:13:${it}Z`));
@@ -309,21 +321,21 @@ for (const edge of [2n ** 31n, 2n ** 32n, 2n ** 53n, 2n ** 63n, 2n ** 64n, 10n *
     const fits = BigInt.asIntN(64, it) === it;
     if (fits && it !== -(2n ** 63n)) assert.equal(speedate.totalMicroseconds(speedate.durationFromMicroseconds(it)), it);
     else if (!fits) assert.throws(() => speedate.durationFromMicroseconds(it), RangeError);
-    const moment = () => speedate.dateTimeFromTimestamp(it, "us", { timestampOffset: 0 });
+    const moment = () => dateTimeFromTimestamp(it, "us");
     if (it >= -62167219200000000n && it <= 253402300799999999n) {
-      assert.equal(speedate.epochMilliseconds(moment()), Number((it - (((it % 1000n) + 1000n) % 1000n)) / 1000n));
+      assert.equal(toDate(moment()).getTime(), Number((it - (((it % 1000n) + 1000n) % 1000n)) / 1000n));
     } else {
-      assert.throws(moment, (error) => (fits ? error.fault === (it > 0n ? "date_too_large" : "date_too_small") : error instanceof RangeError));
+      assert.throws(moment, (error) => (fits ? error.code === (it > 0n ? "date_too_large" : "date_too_small") : error instanceof RangeError));
     }
     if (Number.isSafeInteger(Number(it))) assert.equal(speedate.totalMicroseconds(speedate.durationFromMicroseconds(Number(it))), it);
     if (fits) {
-      const printed = () => speedate.textColumn(BigInt64Array.of(it), "duration");
+      const printed = () => speedate.printColumn(BigInt64Array.of(it), "duration");
       assert.equal(printed(), it === -(2n ** 63n) ? "\n" : `${format(speedate.durationFromMicroseconds(it))}\n`);
     }
   }
 }
 for (const it of [2 ** 63, -(2 ** 64), 1e30]) {
-  assert.throws(() => speedate.textColumn(Float64Array.of(0, it), "duration"), (error) => error.fault === "number_too_large" && error.index === 1);
+  assert.throws(() => speedate.printColumn(Float64Array.of(0, it), "duration"), (error) => error.code === "number_too_large" && error.index === 1);
 }
 assert.throws(() => speedate.totalMicroseconds(parseDuration("P106751992D")), refused("number_too_large"));
 assert.throws(() => speedate.totalMicroseconds({ ...duration, days: -(2 ** 32) }), refused("duration_days_too_large"));
@@ -348,50 +360,50 @@ for (const size of [63, 64, 65, 65000, 66000, 2 ** 24, 2 ** 24 + 1]) {
   assert.deepEqual(parseDateFront(`2020-02-29${"\u2212".repeat(size)}`), { value: date, size: 10, length: 10 });
 }
 
-// ---- Places of errors: in units of a string, otherwise in bytes ----
+// ---- Where errors start and end: in units of a string, otherwise in bytes ----
 
-/** A reader, a text that it refuses, and the place in a string and in bytes. */
-const PLACES = [
-  ["Date", "2020-13-01", 5, 5], ["Date", "20200229", 8, 8], ["Date", "86400", 0, 0, { timestamps: "us" }], ["Date", "", 0, 0],
+/** A reader, a text that it refuses, and where the error starts in a string and in bytes. */
+const STARTS = [
+  ["Date", "2020-13-01", 5, 5], ["Date", "20200229", 8, 8], ["Date", "86400", 0, 0, { form: "orTimestamp", timestampUnit: "us" }], ["Date", "", 0, 0],
   ["Date", "\u00e9", 1, 2], ["Date", "\u2212", 1, 3], ["Date", "\u{1f600}", 2, 4], ["Date", "\ud83d", 1, 3], ["Date", "\ud83d\u{1f600}\ude00", 0, 0],
   ["Date", "2020-02-29\u{1f600}", 10, 10], ["Date", `2020-01-01${"\u00e9".repeat(70)}`, 10, 10], ["Date", `2020-01-01${"x".repeat(2 ** 24)}`, 10, 10],
   ["Time", "12:13:60", 6, 6], ["Time", "12:13\u221201:60", 9, 11], ["Time", "12:13\u221208:00\u{1f600}", 11, 13], ["Time", "12:13:14\u{1f552}", 8, 8],
   ["Time", "12:13:14.1234567x", 15, 15], ["Time", "12:13:14.1234567x", 16, 16, { overflow: "truncate" }], ["Time", "\u00e9\u00e9", 2, 4],
-  ["Time", "12:13:14,5Z", 8, 8, { strict: true }], ["Time", "12:13:14.5", 10, 10, { strict: true }], ["Time", "12:13:14\u221208:00", 8, 8, { strict: true }],
-  ["DateTime", "2020-02-29T12:60", 14, 14], ["DateTime", "1.0000000", 8, 8, { timestamps: "s" }], ["DateTime", "1.0", 2, 2, { timestamps: "us" }], ["DateTime", "1.0", 3, 3],
-  ["DateTime", "2020-02-29 12:13:14Z", 10, 10, { strict: true }], ["DateTime", "2020-02-29T12:13:14.1234567\u22121", 28, 30, { overflow: "truncate" }],
+  ["Time", "12:13:14,5Z", 8, 8, { form: "strict" }], ["Time", "12:13:14.5", 10, 10, { form: "strict" }], ["Time", "12:13:14\u221208:00", 8, 8, { form: "strict" }],
+  ["DateTime", "2020-02-29T12:60", 14, 14], ["DateTime", "1.0000000", 8, 8, { form: "orTimestamp", timestampUnit: "s" }], ["DateTime", "1.0", 2, 2, { form: "orTimestamp", timestampUnit: "us" }], ["DateTime", "1.0", 3, 3],
+  ["DateTime", "2020-02-29 12:13:14Z", 10, 10, { form: "strict" }], ["DateTime", "2020-02-29T12:13:14.1234567\u22121", 28, 30, { overflow: "truncate" }],
   ["Duration", "P1D1Q", 4, 4], ["Duration", "PT", 2, 2], ["Duration", "12345", 5, 5], ["Duration", "1 dax", 3, 3], ["Duration", "\u{1f552}", 0, 0],
   ["Duration", `00:0${"\u00e9".repeat(7)}`, 9, 15], ["Duration", `00:0${"\u2212".repeat(4)}`, 7, 15], ["Duration", `00:0${"\u{1f600}".repeat(3)}`, 8, 15],
   ["Duration", "P1D1Y", 4, 4, { isoOrder: "strict" }], ["Duration", "00:00:00.1234567x", 15, 15], ["Duration", "00:00:00.1234567x", 16, 16, { overflow: "truncate" }],
   ["DateFront", "2020-02-3 opening", 8, 8], ["TimeFront", "12:13\u22121 opening", 6, 8], ["DateTimeFront", "2020-02-29 opening", 11, 11],
 ];
-for (const [name, text, units, bytes, options] of PLACES) {
-  for (const [it, place] of [[text, units], [Buffer.from(text), bytes]]) {
+for (const [name, text, units, bytes, options] of STARTS) {
+  for (const [it, start] of [[text, units], [Buffer.from(text), bytes]]) {
     const answer = speedate[`safeParse${name}`](it, options);
-    assert.equal(answer.place, place, text);
-    assert.ok(Object.hasOwn(answer, "place") && Object.getPrototypeOf(answer) === Object.prototype && new Proxy(answer, {}).place === place, "an answer is a plain object");
+    assert.equal(answer.start, start, text);
+    assert.ok(Object.hasOwn(answer, "start") && Object.getPrototypeOf(answer) === Object.prototype && new Proxy(answer, {}).start === start, "an answer is a plain object");
     const raised = thrown(() => speedate[`parse${name}`](it, options));
-    assert.deepEqual([raised.place, raised.end], [place, answer.end], text);
-    assert.ok(answer.end >= place && answer.end <= it.length, text);
+    assert.deepEqual([raised.start, raised.end], [start, answer.end], text);
+    assert.ok(answer.end >= start && answer.end <= it.length, text);
     const seen = typeof it === "string" || !name.endsWith("Front") ? it : it.subarray(0, raised.text.length);
-    assert.ok(raised.text.length >= raised.place, text);
+    assert.ok(raised.text.length >= raised.start, text);
     assert.ok(typeof it === "string" ? raised.text === it : Buffer.compare(raised.text, seen) === 0 && raised.text.buffer !== it.buffer, text);
-    assert.ok(Object.hasOwn(raised, "place") && new Proxy(raised, {}).place === place && new Proxy(raised, {}).text === raised.text, "what an error has is its own");
+    assert.ok(Object.hasOwn(raised, "start") && new Proxy(raised, {}).start === start && new Proxy(raised, {}).text === raised.text, "what an error has is its own");
   }
 }
 const options = { overflow: "truncate" };
 const [answer, raised] = [speedate.safeParseTime("12:13:14.1234567x", options), thrown(() => parseTime("12:13:14.1234567x", options))];
-const fields = { fault: "invalid_char_tz_sign", code: 14, expected: "after the clock at most an offset: Z or +01:00" };
-for (const copy of [JSON.parse(JSON.stringify(answer)), structuredClone(answer), { ...answer }]) assert.deepEqual(copy, { ok: false, ...fields, message: raised.message, place: 16, end: 17 });
-assert.deepEqual({ ...raised }, { name: "SpeedateError", ...fields, text: "12:13:14.1234567x", place: 16, end: 17 });
+const fields = { code: "invalid_char_tz_sign", expected: "after the clock at most an offset: Z or +01:00" };
+for (const copy of [JSON.parse(JSON.stringify(answer)), structuredClone(answer), { ...answer }]) assert.deepEqual(copy, { ok: false, ...fields, start: 16, end: 17 });
+assert.deepEqual({ ...raised }, { name: "SpeedateError", ...fields, text: "12:13:14.1234567x", start: 16, end: 17 });
 /** A reader, a text that it refuses, and the end of the part in a string and in bytes. */
 const ENDS = [
-  ["Date", "2020-13-01", 7, 7], ["Date", "2020-01-01T12:13", 16, 16], ["Date", "", 0, 0], ["Date", "86401", 5, 5, { timestamps: "s" }],
+  ["Date", "2020-13-01", 7, 7], ["Date", "2020-01-01T12:13", 16, 16], ["Date", "", 0, 0], ["Date", "86401", 5, 5, { form: "orTimestamp", timestampUnit: "s" }],
   ["Date", "202\u00e9-01-01", 4, 5], ["Date", "2020\u{1f4c5}01-01", 6, 8], ["Date", "2020\ud83d01-01", 5, 7], ["Date", `2020-01-01${"\u00e9".repeat(70)}`, 80, 150],
   ["Date", `2020-01-01${"\u00e9".repeat(2 ** 24)}`, 2 ** 24 + 10, 2 ** 25 + 10],
-  ["Time", "9:30 AM", 1, 1], ["Time", "12:13:14\u{1f552}", 10, 12], ["Time", "12:13\u221201:60", 11, 13], ["Time", "12:13:14\u221208:00", 9, 11, { strict: true }],
-  ["Time", "12:13:14.12345678", 17, 17], ["Time", "12:13:14.5", 10, 10, { strict: true }],
-  ["DateTime", "2020-02-29T1:13:14", 12, 12], ["DateTime", "1.00000000Z", 4, 4], ["DateTime", "1.00000000", 10, 10, { timestamps: "s" }], ["DateTime", "2020-02-29T12:13", 16, 16, { missingOffset: "error" }],
+  ["Time", "9:30 AM", 1, 1], ["Time", "12:13:14\u{1f552}", 10, 12], ["Time", "12:13\u221201:60", 11, 13], ["Time", "12:13:14\u221208:00", 9, 11, { form: "strict" }],
+  ["Time", "12:13:14.12345678", 17, 17], ["Time", "12:13:14.5", 10, 10, { form: "strict" }],
+  ["DateTime", "2020-02-29T1:13:14", 12, 12], ["DateTime", "1.00000000Z", 4, 4], ["DateTime", "1.00000000", 10, 10, { form: "orTimestamp", timestampUnit: "s" }], ["DateTime", "2020-02-29T12:13", 16, 16, { missingOffset: "error" }],
   ["Duration", "1h30m", 2, 2], ["Duration", "1 day, 24:00", 9, 9], ["Duration", `00:0${"\u00e9".repeat(7)}`, 10, 16], ["Duration", "P1DT4294967296S", 14, 14],
   ["DateFront", "2021-02-29 opening", 10, 10], ["TimeFront", `12:13:14.${"5".repeat(100)} opening \u00e9`, 109, 109], ["DateTimeFront", "2020-02-29T12:13\u22121 opening", 19, 21],
 ];
@@ -402,29 +414,29 @@ for (const [name, text, units, bytes, options] of ENDS) {
   }
 }
 options.overflow = "error";
-safeParseDate("2020-02-29", { get timestamps() { assert.equal(raised.place, 16); } });
-assert.equal(parseTime("12:13:14.1234567", { get overflow() { assert.equal(answer.place, 16); return "truncate"; } }).microsecond, 456);
-assert.deepEqual([answer.place, raised.place, answer.place], [16, 16, 16], "a place is that by the options that were given");
-for (const [call, text, place] of [["Time", "12:13:60", 6], ["TimeFront", `12:13:60${" ".repeat(2 ** 20)}`, 6]]) {
+safeParseDate("2020-02-29", { get form() { assert.equal(raised.start, 16); } });
+assert.equal(parseTime("12:13:14.1234567", { get overflow() { assert.equal(answer.start, 16); return "truncate"; } }).microsecond, 456);
+assert.deepEqual([answer.start, raised.start, answer.start], [16, 16, 16], "an error is that by the options that were given");
+for (const [call, text, start] of [["Time", "12:13:60", 6], ["TimeFront", `12:13:60${" ".repeat(2 ** 20)}`, 6]]) {
   const changed = Buffer.from(text);
   const both = [speedate[`safeParse${call}`](changed), thrown(() => speedate[`parse${call}`](changed))];
   changed.fill(0);
-  assert.deepEqual(both.map((it) => it.place), [place, place], "a place is that of the bytes that were refused");
+  assert.deepEqual(both.map((it) => it.start), [start, start], "an error is that of the bytes that were refused");
 }
-for (const call of [() => addDays({ ...date, day: 32 }, 1), () => format({ ...date, day: 32 }), () => dateFromTimestamp(1, "s"), () => parseDate("x", { other: 1 })])
-  for (const name of ["text", "place", "end"]) assert.ok(!(name in thrown(call)), "a place is that of a text");
+for (const call of [() => add({ ...date, day: 32 }, duration), () => format({ ...date, day: 32 }), () => dateTimeFromTimestamp(2 ** 40, "s"), () => parseDate("x", { other: 1 })])
+  for (const name of ["text", "start", "end"]) assert.ok(!(name in thrown(call)), "only a text has a wrong part");
 // What crosses to a worker: an error keeps nothing but its message, its plain form all but the text.
 for (const [call, wanted] of [
-  [() => parseDate("2020-13-01"), { fault: "out_of_range_month", code: 21, expected: "month, 01 to 12", place: 5, end: 7 }],
-  [() => speedate.dateColumn("2020-13-01"), { fault: "out_of_range_month", code: 21, expected: "month, 01 to 12", place: 5, end: 7, index: 0 }],
-  [() => format({ ...date, day: 32 }), { fault: "out_of_range_day", code: 22, expected: "a day that the month has" }],
+  [() => parseDate("2020-13-01"), { code: "out_of_range_month", expected: "month, 01 to 12", start: 5, end: 7 }],
+  [() => readColumn("2020-13-01", "date"), { code: "out_of_range_month", expected: "month, 01 to 12", start: 5, end: 7, index: 0 }],
+  [() => format({ ...date, day: 32 }), { code: "out_of_range_day", expected: "a day that the month has" }],
 ]) {
   const error = thrown(call);
   const all = { name: "SpeedateError", message: error.message, ...wanted };
   for (const it of [error.toJSON(), structuredClone(error.toJSON()), JSON.parse(JSON.stringify(error))]) assert.deepEqual(it, all);
 }
-const ofLine = thrown(() => speedate.dateColumn("1970-01-01\n2021-02-2\u2212\r\n"));
-assert.deepEqual([ofLine.index, ofLine.fault, ofLine.place, ofLine.end], [1, "invalid_char_day", 8, 12], "a place in a line is counted in bytes");
+const ofLine = thrown(() => readColumn("1970-01-01\n2021-02-2\u2212\r\n", "date"));
+assert.deepEqual([ofLine.index, ofLine.code, ofLine.start, ofLine.end, String(ofLine.text)], [1, "invalid_char_day", 8, 12, String(Buffer.from("2021-02-2\u2212").toJSON().data)], "a part of a line is counted in bytes");
 
 // Readers answer as the functions of C do. Of a long line one of fronts gets no more than it can look at, and C all of it.
 const { memory, __heap_base: base, ...inC } = new WebAssembly.Instance(wasm).exports;
@@ -432,10 +444,10 @@ memory.grow(1);
 const [OUT, TAKEN, CONFIG, PART, TEXT] = [0, 16, 24, 32, 56].map((it) => Number(base.value) + it);
 const UNITS = ["infer", "s", "ms", "us"];
 /** The code that C gives of a text, and in bytes the size of a front, or the place of the error. */
-function answerInC(kind, how, bytes, { timestamps = "infer", overflow = "error", isoOrder = "lax" }) {
+function answerInC(kind, how, bytes, { timestampUnit = "infer", overflow = "error", isoOrder = "lax" }) {
   const view = new DataView(memory.buffer);
   new Uint8Array(memory.buffer).set(bytes, TEXT);
-  view.setUint8(CONFIG + 5, UNITS.indexOf(timestamps));
+  view.setUint8(CONFIG + 5, UNITS.indexOf(timestampUnit));
   view.setUint8(CONFIG + 6, overflow === "truncate" ? 1 : 0);
   view.setUint8(CONFIG + 7, isoOrder === "strict" ? 1 : 0);
   const config = kind === "date" && how !== "" ? [] : [BigInt(CONFIG)];
@@ -469,24 +481,29 @@ function drawText() {
   return value.slice(0, at) + one(MARKS) + (value + zone).slice(at + 1);
 }
 const READ = [
-  ["Date", "date", "_text"], ["Date", "date", "", "timestamps"], ["DateFront", "date", "_front"],
-  ["Time", "time", "", "overflow"], ["Time", "time", "_strict", "overflow", "strict"], ["TimeFront", "time", "_front", "overflow"],
-  ["DateTime", "datetime", "_text", "overflow"], ["DateTime", "datetime", "", "timestamps", "overflow"],
-  ["DateTime", "datetime", "_strict", "overflow", "strict"], ["DateTimeFront", "datetime", "_front", "overflow"],
+  ["Date", "date", "_text"], ["Date", "date", "", "form", "timestampUnit"], ["DateFront", "date", "_front"],
+  ["Time", "time", "", "overflow"], ["Time", "time", "_strict", "overflow", "form"], ["TimeFront", "time", "_front", "overflow"],
+  ["DateTime", "datetime", "_text", "overflow"], ["DateTime", "datetime", "", "form", "timestampUnit", "overflow"],
+  ["DateTime", "datetime", "_strict", "overflow", "form"], ["DateTimeFront", "datetime", "_front", "overflow"],
   ["Duration", "duration", "", "overflow", "isoOrder"],
 ];
-const drawOption = { timestamps: () => one(UNITS), overflow: () => one(["error", "truncate"]), isoOrder: () => one(["lax", "strict"]), strict: () => true };
+const drawOption = {
+  timestampUnit: () => one(UNITS), overflow: () => one(["error", "truncate"]), isoOrder: () => one(["lax", "strict"]),
+  form: (how) => (how === "_strict" ? "strict" : "orTimestamp"),
+};
+/** The names of errors, by their numbers in C. */
+const NAMES = new Map(readFileSync(header, "utf8").match(/SPEEDATE_[A-Z_0-9]+ = \d+/g).map((it) => it.slice(9).split(" = ")).map(([name, number]) => [Number(number), name.toLowerCase()]));
 for (let i = 0; i < 5000; i++) {
   const text = drawText();
-  for (const [name, kind, how, ...names] of READ) {
-    const options = one([true, false]) || names.some((it) => it !== "overflow") ? Object.fromEntries(names.map((it) => [it, drawOption[it]()])) : undefined;
+  for (const [name, kind, how, ...its] of READ) {
+    const options = one([true, false]) || its.some((it) => it !== "overflow") ? Object.fromEntries(its.map((it) => [it, drawOption[it](how)])) : undefined;
     const bytes = Buffer.from(text);
     const [wanted, size] = answerInC(kind, how, bytes, options ?? {});
     for (const it of [text, bytes]) {
-      const { ok, code = 0, value, place } = speedate[`safeParse${name}`](it, options);
+      const { ok, code = "ok", value, start } = speedate[`safeParse${name}`](it, options);
       const counted = wanted === 0 || it === bytes ? size : unitsAt(text, size);
-      assert.deepEqual([code, ok ? value.size : place], [wanted, counted], text);
-      if (!ok) assert.equal(thrown(() => speedate[`parse${name}`](it, options)).place, counted, text);
+      assert.deepEqual([code, ok ? value.size : start], [NAMES.get(wanted), counted], text);
+      if (!ok) assert.equal(thrown(() => speedate[`parse${name}`](it, options)).start, counted, text);
       if (ok && value.length !== undefined) assert.equal(Buffer.byteLength(text.slice(0, value.length)), value.size, text);
     }
   }
@@ -496,24 +513,57 @@ const collect = runInNewContext("gc");
 const held = () => (collect(), process.memoryUsage().rss / 2 ** 20);
 const atFirst = held();
 let long = Buffer.alloc(2 ** 28, "2020-02-29");
-assert.equal(safeParseDate(long).fault, "extra_characters");
+assert.equal(safeParseDate(long).code, "extra_characters");
 long = Buffer.alloc(2 ** 25, "2020-02-29");
-for (let i = 0; i < 100; i++) assert.equal(safeParseDate(long).fault, "extra_characters");
+for (let i = 0; i < 100; i++) assert.equal(safeParseDate(long).code, "extra_characters");
 for (let i = 0; i < 1000000; i++) safeParseDate(i % 2 ? "2020-02-29" : "2021-02-29");
 assert.ok(held() < atFirst + 200, `${atFirst} megabytes at first, and ${held()} in the end`);
 
-// ---- CommonJS, a module that is handed over, and engines without WebAssembly ----
+// ---- The entries: CommonJS, a module that is handed over, and engines without WebAssembly ----
 
 const require = createRequire(import.meta.url);
-const inCommonJs = require("speedate");
-assert.ok(require.resolve("speedate").endsWith("speedate.cjs"));
-assert.deepEqual(Object.keys(inCommonJs), Object.keys(speedate).sort((one, other) => Object.keys(inCommonJs).indexOf(one) - Object.keys(inCommonJs).indexOf(other)));
-assert.deepEqual(inCommonJs.parseDate("2020-02-29"), date);
+const inPackage = (name) => readFileSync(`node_modules/speedate/${name}`);
+const namesOf = (it) => Object.keys(it).sort();
+const ONLY_OF_COLUMNS = ["columnReader", "printColumn", "readColumn"];
+assert.deepEqual(namesOf(core), namesOf(speedate).filter((it) => !ONLY_OF_COLUMNS.includes(it)));
+assert.deepEqual([core.parseDate("2020-02-29"), core.format(core.parseDuration("PT90M"))], [date, "PT1H30M"]);
+for (const [name, it] of Object.entries(core)) assert.equal(it.name, name);
 assert.equal(require("speedate/package.json").name, "speedate");
+const copy = (name, file = "speedate.js") => import(`./node_modules/speedate/${file}?${name}`);
+const { Module } = WebAssembly;
+for (const [path, entry, all] of [["speedate", "speedate", core], ["speedate/columns", "columns", speedate]]) {
+  assert.ok(import.meta.resolve(path).endsWith(`/${entry}.node.js`));
+  const inCommonJs = require(path);
+  assert.ok(require.resolve(path).endsWith(`${entry}.cjs`));
+  assert.deepEqual([namesOf(inCommonJs), inCommonJs.parseDate("2020-02-29")], [namesOf(all), date]);
+  // The module has the functions that the script calls, and no others.
+  const script = readFileSync(require.resolve(path), "utf8");
+  const inModule = WebAssembly.Module.exports(moduleOf(entry)).map((it) => it.name).filter((it) => it.startsWith("speedate_"));
+  for (const name of inModule) assert.match(script, new RegExp(`["_]${name.replace(/^speedate_/, "")}\\b`), "no function that is not called");
+  assert.equal(inModule.some((it) => it.includes("column")), entry === "columns");
+  // An entry without the module, so that a bundle that hands it over has it once.
+  const bare = await import(`${path}/bare`);
+  assert.deepEqual(Object.keys(bare), namesOf(all));
+  assert.throws(() => bare.parseDate("2020-02-29"), { constructor: Error, message: "this entry has no module of its own: init comes before all other calls" });
+  assert.throws(() => bare.init({}), TypeError);
+  bare.init(new Module(readFileSync(require.resolve(`${path === "speedate" ? "speedate/speedate" : path}.wasm`))));
+  assert.deepEqual([bare.parseDate("2020-02-29"), bare.format(bare.parseDuration("PT90M"))], [date, "PT1H30M"]);
+  // The module that is inside is the file.
+  const inside = await copy("inside", `${entry}.js`);
+  assert.deepEqual(namesOf(inside), namesOf(all));
+  const compiled = [];
+  WebAssembly.Module = class { constructor(bytes) { compiled.push(Buffer.from(bytes)); throw new Error("not compiled"); } };
+  assert.throws(() => inside.parseDate("2020-02-29"), { message: /^speedate needs WebAssembly/ });
+  WebAssembly.Module = Module;
+  assert.ok(compiled[0].equals(inPackage(`${entry}.wasm`)));
+  assert.deepEqual(inside.parseDate("2020-02-29"), date);
+  for (const [kind, isInside] of [["js", true], ["node.js", false], ["cjs", false], ["bare.js", false]])
+    assert.equal(/"[^"]{100000}/.test(inPackage(`${entry}.${kind}`)), isInside, `${entry}.${kind} has the module, or has it not`);
+}
+// The module with columns has the functions of the other one too.
+(await copy("more", "speedate.bare.js")).init(wasm);
 // A runner of tests, such as Jest, loads a script in a realm of its own.
 const file = require.resolve("speedate");
-for (const { name } of WebAssembly.Module.exports(wasm).filter((it) => it.name.startsWith("speedate_")))
-  assert.match(readFileSync(file, "utf8"), new RegExp(`["_]${name.replace(/^speedate_/, "")}\\b`), "no function that is not called");
 const inRealm = { exports: {} };
 for (const globals of [{ TextEncoder }, {}]) {
   // Jest's jsdom has no TextEncoder.
@@ -522,7 +572,6 @@ for (const globals of [{ TextEncoder }, {}]) {
   for (const it of [...VALUES.map((it, i) => it + ZONES[i] + "\u00e9\u2212\u{1f600}"), ...MARKS, "12:13\u221208:00", "\udc00\ud800\ud800\udc00x".repeat(50)])
     assert.equal(JSON.stringify(inRealm.exports.safeParseTime(it)), JSON.stringify(speedate.safeParseTime(it)));
 }
-const copy = (name) => import(`./node_modules/speedate/speedate.js?${name}`);
 // A first call that finds no room on the stack leaves nothing half done.
 const deep = await copy("deep");
 let attempts = 0;
@@ -532,33 +581,17 @@ const dig = () => {
 };
 dig();
 for (const it of [date, time, dateTime, duration]) assert.equal(deep.format(it), format(it));
-const { Module } = WebAssembly;
 const handedOver = await copy("init");
 WebAssembly.Module = class { static exports = Module.exports; constructor() { throw new Error("no bytes are compiled here"); } };
 assert.throws(() => handedOver.parseDate("2020-02-29"), { message: /^speedate needs WebAssembly/ });
-handedOver.init(new Module(readFileSync(require.resolve("speedate/speedate.wasm"))));
+handedOver.init(new Module(inPackage("speedate.wasm")));
 assert.deepEqual(handedOver.parseDate("2020-02-29"), date);
-// An entry without the module, so that a bundle that hands it over has it once.
-const bare = await import("speedate/bare");
-assert.deepEqual(Object.keys(bare), Object.keys(speedate));
-assert.throws(() => bare.parseDate("2020-02-29"), { constructor: Error, message: /^speedate\/bare .* init comes before/ });
-assert.throws(() => bare.init({}), TypeError);
-bare.init(new Module(readFileSync(require.resolve("speedate/speedate.wasm"))));
-assert.deepEqual([bare.parseDate("2020-02-29"), bare.format(bare.parseDuration("PT90M"))], [date, "PT1H30M"]);
-for (const [name, isInside] of [["bare.js", false], ["speedate.cjs", false], ["speedate.js", true]])
-  assert.equal(/compiledOf\(decoded\("[^"]{100000}/.test(readFileSync(`node_modules/speedate/${name}`, "utf8")), isInside, `${name} has the module, or has it not`);
 WebAssembly.Module = Module;
 const { WebAssembly: there } = globalThis;
 delete globalThis.WebAssembly;
 const without = await copy("without");
 assert.throws(() => without.parseDate("2020-02-29"), { constructor: Error, message: /^speedate needs WebAssembly with BigInt and bulk memory \(Node 20/ });
 globalThis.WebAssembly = there;
-// The module that is inside is the file.
-const compiled = [];
-WebAssembly.Module = class { constructor(bytes) { compiled.push(Buffer.from(bytes)); throw new Error("not compiled"); } };
-assert.throws(() => without.parseDate("2020-02-29"), { message: /^speedate needs WebAssembly/ });
-WebAssembly.Module = Module;
-assert.ok(compiled[0].equals(readFileSync(require.resolve("speedate/speedate.wasm"))));
 
 // ---- The documents of the package: each link leads to a place in one of them ----
 
@@ -568,24 +601,25 @@ for (const name of ["README.md", "GRAMMAR.md"])
   for (const [, file, place] of documentOf(name).matchAll(/\]\((?!https:)([^)#]*)#?([^)]*)\)/g))
     assert.ok(place === "" ? documentOf(file) : places(documentOf(file || name)).includes(place), `${name}: ${file}#${place}`);
 
-// ---- The sizes that the documents tell: in kB of the script and of what is handed over, and gzipped ----
+// ---- The sizes that the documents say: in kB of what is loaded for an entry, and gzipped ----
 
-const [script, apart, handed] = ["speedate.js", "bare.js", "speedate.wasm"].map((it) => readFileSync(`node_modules/speedate/${it}`));
-const gzipped = (it) => gzipSync(it, { level: 9 }).length;
-const told = process.argv.slice(2).map((it) => readFileSync(it, "utf8")).join("\n");
+const said = documents.map((it) => readFileSync(it, "utf8")).join("\n");
+const sizeOf = (...names) => names.map((it) => inPackage(it)).reduce(([all, gzipped], it) => [all + it.length, gzipped + gzipSync(it, { level: 9 }).length], [0, 0]);
 const SIZES = [
-  [/about (\d+) kB, or (\d+) kB gzipped/, script.length, gzipped(script)],
-  [/With `speedate.wasm` it is (\d+) kB gzipped/, gzipped(apart) + gzipped(handed)],
+  [/^\| `speedate` \|.*\| (\d+) kB, (\d+) gzipped \|$/m, sizeOf("speedate.js")], [/^\| `speedate\/columns` \|.*\| (\d+) kB, (\d+) gzipped \|$/m, sizeOf("columns.js")],
+  [/^\| `speedate\/bare` \|.*\| (\d+) kB, (\d+) gzipped \|$/m, sizeOf("speedate.bare.js", "speedate.wasm")],
 ];
-for (const [form, ...sizes] of SIZES)
-  for (const [i, size] of sizes.entries()) assert.ok(Math.abs(Number(form.exec(told)[i + 1]) - size / 1000) < 1, `${form}: ${size}`);
+// Without esbuild the scripts keep their lines, and are larger.
+const isMinified = String(inPackage("speedate.bare.js")).split("\n").length < 20;
+for (const [form, sizes] of isMinified ? SIZES : [])
+  for (const [i, size] of sizes.entries()) assert.ok(Math.abs(Number(form.exec(said)?.[i + 1]) - size / 1000) < 1, `${form}: ${size}`);
 
 // ---- The examples of the documents, whose results stand after them ----
 
-const fails = (call, name) => assert.throws(call, (error) => (error.fault ?? error.name) === name);
+const fails = (call, name) => assert.throws(call, (error) => (error.code ?? error.name) === name);
 Object.assign(globalThis, { equals: assert.deepEqual, fails });
 let count = 0;
-for (const [i, document] of process.argv.slice(2).entries()) {
+for (const [i, document] of documents.entries()) {
   const script = scriptOf(readFileSync(document, "utf8"), "js", "");
   const examples = script.match(/^(equals|fails)\(/gm) ?? [];
   assert.ok(examples.length > 1, document);

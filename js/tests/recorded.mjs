@@ -4,9 +4,9 @@ import assert from "node:assert/strict";
 import { readFileSync } from "node:fs";
 import { format, safeParseDate, safeParseDateTime, safeParseDuration, safeParseTime } from "speedate";
 
-const timestamps = "infer";
+const options = { form: "orTimestamp", timestampUnit: "infer" };
 const KINDS = {
-  date: (text) => safeParseDate(text, { timestamps }), datetime: (text) => safeParseDateTime(text, { timestamps }),
+  date: (text) => safeParseDate(text, options), datetime: (text) => safeParseDateTime(text, options),
   time: (text) => safeParseTime(text), duration: (text) => safeParseDuration(text),
 };
 
@@ -16,8 +16,10 @@ for (const file of process.argv.slice(2)) {
   for (const row of rows) {
     const [line, ...answers] = row.split("\t");
     const [, kind, text] = /^([a-z]+) (.*)$/.exec(line);
-    const { ok, value, fault } = KINDS[kind](text);
-    assert.equal(ok ? `ok ${format(value)}` : `err ${fault}`, answers.at(-1), row);
+    const { ok, value, code } = KINDS[kind](text);
+    // A timestamp is in UTC here; C, which these lines are of, gives it no offset.
+    const shown = ok && kind === "datetime" && !text.includes(":") ? { ...value, offsetSeconds: null } : value;
+    assert.equal(ok ? `ok ${format(shown)}` : `err ${code}`, answers.at(-1), row);
   }
   console.log(`${rows.length} recorded lines`);
 }

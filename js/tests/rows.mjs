@@ -1,14 +1,14 @@
 // Runs rows of the C functions through the package: node rows.mjs ROWS. A row is a call of C, its arguments, the name of
 // its code and what it writes, with `|` between them. A text is read as a string and as bytes, by the call that throws and by
-// the safe one, with the options that it has of a configuration. The fault is that of C's `_check` where C has
+// the safe one, with the options that it has of a configuration. The code is that of C's `_check` where C has
 // VALUE_OUT_OF_RANGE; an offset with another flag than 0 and 1 is 24 hours, and a sign with another is 2; a timestamp and
-// microseconds are one number; Unix time needs an offset. Rows of calls that are not here are counted, as are those of a
-// configuration or an exact flag without meaning, and of a time over 64 bits of microseconds.
+// microseconds are one number, and its value is in UTC; Unix time needs an offset. Rows of calls that are not here are counted, as are
+// those of a configuration without meaning, and of a time over 64 bits of microseconds.
 import assert from "node:assert/strict";
 import { readFileSync } from "node:fs";
 import * as speedate from "speedate";
 
-const { after, before, between, compare, epochMilliseconds, format, inTimezone, SpeedateError } = speedate;
+const { add, compare, format, SpeedateError, subtract, toDate, until, withOffset } = speedate;
 
 const numbers = (field) => field.split(" ").map(Number);
 const date = (field) => { const [year, month, day] = numbers(field); return { year, month, day }; };
@@ -29,16 +29,15 @@ const answered = (field) => ({ 3: date, 4: duration, 6: time, 9: datetime })[fie
 
 /** The options of these names that a configuration is. */
 function options(config, ...names) {
-  const [offset, flag, unit, overflow, order] = config === "default" ? [0, 0, 0, 0, 0] : numbers(config);
-  const units = { timestamps: ["infer", "s", "ms", "us"][unit], timestampOffset: flag ? offset : undefined };
-  const all = { ...units, overflow: ["error", "truncate"][overflow], isoOrder: ["lax", "strict"][order] };
+  const [, , unit, overflow, order] = config === "default" ? [0, 0, 0, 0, 0] : numbers(config);
+  const all = { form: "orTimestamp", timestampUnit: ["infer", "s", "ms", "us"][unit], overflow: ["error", "truncate"][overflow], isoOrder: ["lax", "strict"][order] };
   return Object.fromEntries(names.map((name) => [name, all[name]]));
 }
 
 /** Kinds by their names in C: what makes a value of a field, the name here, and the options of a call `parse` of C. */
 const KINDS = {
-  date: [date, "Date", ["timestamps"]], time: [time, "Time", ["overflow"]],
-  datetime: [datetime, "DateTime", ["timestamps", "timestampOffset", "overflow"]],
+  date: [date, "Date", ["form", "timestampUnit"]], time: [time, "Time", ["overflow"]],
+  datetime: [datetime, "DateTime", ["form", "timestampUnit", "overflow"]],
   duration: [duration, "Duration", ["overflow", "isoOrder"]],
 };
 /** The calls of values by the end of their name in C, where `of` makes a value of the kind that begins the name. */
@@ -46,27 +45,22 @@ const CALLS = {
   check: (of, it) => void compare(of(it), of(it)),
   to_text: (of, it) => format(of(it)), to_text_with_digits: (of, it, digits) => format(of(it), { digits: Number(digits) }),
   compare: (of, one, other) => compare(of(one), of(other)),
-  add_days: (of, it, days) => speedate.addDays(of(it), Number(days)),
-  ordinal_day: (of, it) => speedate.dayOfYear(of(it)),
   from_signed_microseconds: (of, it) => speedate.durationFromMicroseconds(BigInt(it)),
-  negate: (of, it) => speedate.negate(of(it)), signed_total_seconds: (of, it) => speedate.totalSeconds(of(it)),
   signed_total_microseconds: (of, it) => speedate.totalMicroseconds(of(it)), sum: (of, ...all) => speedate.sum(all.map(of)),
   days_between: (of, one, other) => speedate.daysBetween(of(one), of(other)),
-  in_timezone: (of, it, offset) => inTimezone(of(it), Number(offset)),
-  unix_seconds: (of, it) => Math.floor(epochMilliseconds(of(it)) / 1000), unix_milliseconds: (of, it) => epochMilliseconds(of(it)),
-  between: (of, one, other) => between(datetime(one), datetime(other)), between_dates: (of, one, other) => between(date(one), date(other)),
-  after: (of, it, start) => after(datetime(start), of(it)), after_date: (of, it, start) => after(date(start), of(it)),
-  before: (of, it, start) => before(datetime(start), of(it)), before_date: (of, it, start) => before(date(start), of(it)),
+  in_timezone: (of, it, offset) => withOffset(of(it), Number(offset)),
+  unix_seconds: (of, it) => Math.floor(toDate(of(it)) / 1000), unix_milliseconds: (of, it) => toDate(of(it)).getTime(),
+  between: (of, one, other) => until(datetime(one), datetime(other)), between_dates: (of, one, other) => until(date(one), date(other)),
+  after: (of, it, start) => add(datetime(start), of(it)), after_date: (of, it, start) => add(date(start), of(it)),
+  before: (of, it, start) => subtract(datetime(start), of(it)), before_date: (of, it, start) => subtract(date(start), of(it)),
   from_timestamp(of, it, more, config) {
-    const { timestamps: unit, ...offset } = options(config, "timestamps", "timestampOffset");
-    if (of === date) return speedate.dateFromTimestamp(BigInt(it), unit, { exact: more === "1" });
-    if (of === time) return speedate.timeFromTimestamp(BigInt(it) * 1000000n + BigInt(more), "us", offset);
-    if (more === "0") return speedate.dateTimeFromTimestamp(BigInt(it), unit, offset);
-    return speedate.dateTimeFromTimestamp(BigInt(it) * ({ ms: 1000n, us: 1n }[unit] ?? 1000000n) + BigInt(more), "us", offset);
+    const { timestampUnit: unit } = options(config, "timestampUnit");
+    if (more === "0") return speedate.dateTimeFromTimestamp(BigInt(it), unit);
+    return speedate.dateTimeFromTimestamp(BigInt(it) * ({ ms: 1000n, us: 1n }[unit] ?? 1000000n) + BigInt(more), "us");
   },
 };
 /** What no call here can be given, by the call of C and its code. */
-const LEFT_OUT = / config_out_of_range|_with_digits value_out_of_range|^date_from_timestamp value_out_of_range|^datetime_from_timestamp time_too_large/;
+const LEFT_OUT = / config_out_of_range|_with_digits value_out_of_range|^(date|time)_from_timestamp|^datetime_from_timestamp time_too_large/;
 
 /** How many units of a string end at a byte of its UTF-8 or before. */
 function unitsAt(text, byte) {
@@ -78,15 +72,16 @@ function unitsAt(text, byte) {
   return units;
 }
 
-/** What a call answers, a number as a text, or its fault. */
+/** What a call answers, a number as a text, or its error. */
 function outcome(call, ...args) {
   try {
     const it = call(...args);
     return { ok: true, value: /^(number|bigint)$/.test(typeof it) ? String(it) : it };
   } catch (error) {
     if (!(error instanceof SpeedateError)) throw error;
-    const { fault, code, message, expected, place, end } = error;
-    return { ok: false, fault, code, message, expected, place, end };
+    const { code, expected, start, end } = error;
+    assert.equal(error.message, `expected ${expected}`);
+    return { ok: false, code, expected, start, end };
   }
 }
 
@@ -94,7 +89,7 @@ function outcome(call, ...args) {
 function read([, kind, names], how, fields) {
   const name = kind + (how === "_front" ? "Front" : "");
   const chosen = fields.length > 1 ? options(fields[0], ...(how ? ["overflow"] : names)) : {};
-  if (how === "_strict") chosen.strict = true;
+  if (how === "_strict") chosen.form = "strict";
   return [fields.at(-1), Buffer.from(fields.at(-1))].map((text) => {
     const result = outcome(speedate[`parse${name}`], text, chosen);
     const safe = speedate[`safeParse${name}`](text, chosen);
@@ -104,9 +99,9 @@ function read([, kind, names], how, fields) {
 }
 
 const rows = readFileSync(process.argv[2], "utf8").split("\n").filter((it) => it && !it.startsWith("#"));
-/** The faults by which `_check` calls refuse values. */
-const checked = new Map(rows.map((row) => row.split("|")).filter(([call, , fault]) => call.endsWith("_check") && fault !== "ok")
-  .map(([, value, fault]) => [value, fault]));
+/** The errors by which `_check` calls refuse values. */
+const checked = new Map(rows.map((row) => row.split("|")).filter(([call, , code]) => call.endsWith("_check") && code !== "ok")
+  .map(([, value, code]) => [value, code]));
 /** The calls whose parts were compared. */
 const parts = new Set();
 let ran = 0;
@@ -126,17 +121,19 @@ for (const row of rows) {
   const outcomes = how === undefined ? [outcome(CALLS[name], KINDS[kind][0], ...args)] : read(KINDS[kind], how, args);
   if (isPart && code !== "ok") {
     parts.add(call);
-    const [place, end] = written.split(" ").map(Number);
-    assert.deepEqual(outcomes.map((it) => [it.place, it.end]), [[unitsAt(args.at(-1), place), unitsAt(args.at(-1), end)], [place, end]], row);
+    const [start, end] = written.split(" ").map(Number);
+    assert.deepEqual(outcomes.map((it) => [it.start, it.end]), [[unitsAt(args.at(-1), start), unitsAt(args.at(-1), end)], [start, end]], row);
     continue;
   }
-  for (const { fault = "ok", value } of outcomes) {
-    if (code === "value_out_of_range") assert.equal(fault, args.map((it) => checked.get(it)).find(Boolean), row);
-    else assert.equal(fault, hasNoOffset ? "tz_required" : code, row);
+  // A text of a date-time has a colon.
+  const isTimestamp = call === "datetime_from_timestamp" || (/^datetime_parse(_or_part)?$/.test(call) && !args.at(-1).includes(":"));
+  for (const { code: told = "ok", value } of outcomes) {
+    if (code === "value_out_of_range") assert.equal(told, args.map((it) => checked.get(it)).find(Boolean), row);
+    else assert.equal(told, hasNoOffset ? "tz_required" : code, row);
     if (size) assert.equal(value.size, Number(size), row);
-    if (fault === "ok" && written !== undefined) assert.deepEqual(size ? value.value : value, answered(written), row);
+    if (told === "ok" && written !== undefined) assert.deepEqual(size ? value.value : value, isTimestamp ? { ...answered(written), offsetSeconds: 0 } : answered(written), row);
   }
 }
-assert.ok(ran > 260);
+assert.ok(ran > 240);
 assert.equal(parts.size, 11);
 console.log(`${ran} rows; not those of ${Object.entries(left).map(([call, count]) => `${call} (${count})`).join(", ")}`);

@@ -12,7 +12,7 @@ export function fails(call, name) {
   try {
     call();
   } catch (error) {
-    return ok((error.fault ?? error.name) === name, error.message, name);
+    return ok((error.code ?? error.name) === name, error.message, name);
   }
   ok(false, "no", name);
 }

@@ -1,8 +1,10 @@
 // What the types allow, and what they refuse.
 import assert from "node:assert/strict";
-import * as speedate from "speedate";
+import * as core from "speedate";
+import * as speedate from "speedate/columns";
 import * as bare from "speedate/bare";
-import type { Answer, Fault, Front, LineRefusal, Refusal, Schema, SpeedateDate, SpeedateDateTime, SpeedateDuration, SpeedateTime, SpeedateValue } from "speedate";
+import * as bareColumns from "speedate/columns/bare";
+import type { Answer, ErrorCode, Front, LineRefusal, Refusal, Schema, SpeedateDate, SpeedateDateTime, SpeedateDuration, SpeedateTime, SpeedateValue } from "speedate/columns";
 
 // Whether two types are the same one, not only whether one fits the other.
 type Same<One, Other> = (<It>() => It extends One ? 1 : 2) extends <It>() => It extends Other ? 1 : 2 ? true : false;
@@ -38,115 +40,90 @@ export const shapes = [
   same<number | null, SpeedateTime["offsetSeconds"]>(true, null), same<number, SpeedateTime["hour" | "minute" | "second" | "millisecond" | "microsecond"]>(true, 0),
   same<number | null, SpeedateDateTime["offsetSeconds"]>(true, null), same<number, Exclude<SpeedateDateTime[keyof SpeedateDateTime], null>>(true, 0),
   same<InputOf<Schema<SpeedateDate>>, string>(true, "2020-02-29"),
-  same<Refusal["place"], number>(true, 0), same<speedate.SpeedateError["place"], number | undefined>(true, 0),
+  same<Refusal["start"], number>(true, 0), same<speedate.SpeedateError["start"], number | undefined>(true, 0),
   same<SpeedateDuration["sign"], 1 | -1>(true, second.sign), same<SpeedateDuration[keyof SpeedateDuration], number>(true, second.days),
 ];
 const bytes = new Uint8Array([49, 50, 58, 49, 51]);
-const refusals: LineRefusal[] = [];
+const labelled = { ...date, label: "rent" };
+const timestamps = { form: "orTimestamp", timestampUnit: "s" } as const;
 const uses: Record<keyof typeof speedate, unknown> = {
-  parseDate: same<SpeedateDate, ReturnType<typeof speedate.parseDate>>(true, speedate.parseDate("86400", { timestamps: "s" })),
-  parseTime: same<SpeedateTime, ReturnType<typeof speedate.parseTime>>(true, speedate.parseTime(bytes, { strict: false, overflow: "error" })),
-  parseDateTime: same<SpeedateDateTime, ReturnType<typeof speedate.parseDateTime>>(true, speedate.parseDateTime("1", { timestamps: "us", timestampOffset: 0, missingOffset: "error" })),
+  parseDate: same<SpeedateDate, ReturnType<typeof speedate.parseDate>>(true, speedate.parseDate("86400", { form: "orTimestamp", timestampUnit: "s" })),
+  parseTime: same<SpeedateTime, ReturnType<typeof speedate.parseTime>>(true, speedate.parseTime(bytes, { form: "text", overflow: "error" })),
+  parseDateTime: same<SpeedateDateTime, ReturnType<typeof speedate.parseDateTime>>(true, speedate.parseDateTime("1", { form: "orTimestamp", timestampUnit: "us", missingOffset: "error" })),
   parseDuration: same<SpeedateDuration, ReturnType<typeof speedate.parseDuration>>(true, speedate.parseDuration("PT1S", { isoOrder: "strict", overflow: "truncate" })),
   parseDateFront: same<number, Front<SpeedateDate, string>["length"]>(true, speedate.parseDateFront("2020-02-29 x").length),
   parseTimeFront: same<SpeedateTime, Front<SpeedateTime, Uint8Array>["value"]>(true, speedate.parseTimeFront(bytes).value),
   parseDateTimeFront: same<number, Front<SpeedateDateTime, string>["size"]>(true, speedate.parseDateTimeFront("2020-02-29T12:13", { overflow: "truncate" }).size),
-  safeParseDate: same<Answer<SpeedateDate>, ReturnType<typeof speedate.safeParseDate>>(true, speedate.safeParseDate("x", { timestamps: "infer" })),
-  safeParseTime: same<TimeOrRefusal, ReturnType<typeof speedate.safeParseTime>>(true, speedate.safeParseTime("12:13Z", { strict: true })),
-  safeParseDateTime: same<Answer<SpeedateDateTime>, ReturnType<typeof speedate.safeParseDateTime>>(true, speedate.safeParseDateTime("x", { strict: true })),
-  safeParseDuration: same<Answer<SpeedateDuration>, ReturnType<typeof speedate.safeParseDuration>>(true, speedate.safeParseDuration("x", { isoOrder: "lax" })),
-  safeParseDateFront: ((it: Answer<Front<SpeedateDate, "x">>): Fault | number => (it.ok ? it.value.length : it.fault))(speedate.safeParseDateFront("x")),
-  safeParseTimeFront: ((it: Answer<Front<SpeedateTime, "x">>): string | number => (it.ok ? it.value.value.hour : it.message))(speedate.safeParseTimeFront("x", { overflow: "truncate" })),
-  safeParseDateTimeFront: ((it: Answer<Front<SpeedateDateTime, "x">>): number => (it.ok ? it.value.value.hour : it.code))(speedate.safeParseDateTimeFront("x", { overflow: "error" })),
-  dateColumn: same<Int32Array, ReturnType<typeof speedate.dateColumn>>(true, speedate.dateColumn("86400", { timestamps: "s", refusals: [] })),
-  dateTimeColumn: [
-    ((it: Float64Array): number => it[0])(speedate.dateTimeColumn("1", { timestamps: "s", missingOffset: "utc", unit: "ms" })),
-    ((it: Float64Array): number => it.length)(speedate.dateTimeColumn(new Uint8Array(0))),
-    ((it: BigInt64Array): bigint => it[0])(speedate.dateTimeColumn("1970-01-01T00:00Z", { strict: true, unit: "us", refusals })),
+  safeParseDate: [same<Answer<SpeedateDate>, ReturnType<typeof speedate.safeParseDate>>(true, speedate.safeParseDate("x", timestamps)), speedate.safeParseDate(null)],
+  safeParseTime: same<TimeOrRefusal, ReturnType<typeof speedate.safeParseTime>>(true, speedate.safeParseTime("12:13Z", { form: "strict" })),
+  safeParseDateTime: same<Answer<SpeedateDateTime>, ReturnType<typeof speedate.safeParseDateTime>>(true, speedate.safeParseDateTime(5, { form: "strict" })),
+  safeParseDuration: same<Answer<SpeedateDuration>, ReturnType<typeof speedate.safeParseDuration>>(true, speedate.safeParseDuration({}, { isoOrder: "lax" })),
+  safeParseDateFront: ((it: Answer<Front<SpeedateDate, "x">>): ErrorCode | number => (it.ok ? it.value.length : it.code))(speedate.safeParseDateFront("x")),
+  safeParseTimeFront: ((it: Answer<Front<SpeedateTime, "x">>): string | number => (it.ok ? it.value.value.hour : it.expected))(speedate.safeParseTimeFront("x", { overflow: "truncate" })),
+  safeParseDateTimeFront: ((it: Answer<Front<SpeedateDateTime, undefined>>): number => (it.ok ? it.value.value.hour : it.start))(speedate.safeParseDateTimeFront(undefined, { overflow: "error" })),
+  readColumn: [
+    same<Int32Array, speedate.Column<Int32Array>["numbers"]>(true, speedate.readColumn("86400", "date", { ...timestamps, refused: "collect", maxRefusals: 1 }).numbers),
+    ((it: Float64Array): number => it[0])(speedate.readColumn("1", "dateTime", { ...timestamps, missingOffset: "utc", unit: "ms" }).numbers),
+    ((it: Float64Array): number => it.length)(speedate.readColumn(new Uint8Array(0), "dateTime").numbers),
+    ((it: BigInt64Array): bigint => it[0])(speedate.readColumn("1970-01-01T00:00:00Z", "dateTime", { form: "strict", unit: "us", refused: "number" }).numbers),
+    ((it: Float64Array): number => it[0])(speedate.readColumn("1", "dateTimeClock", { ...timestamps, unit: "ms" }).numbers),
+    ((it: BigInt64Array): bigint => it[0])(speedate.readColumn("1970-01-01T00:00:00Z", "dateTimeClock", { form: "strict", unit: "us" }).numbers),
+    ((it: Int32Array): number => it[0])(speedate.readColumn("1", "dateTimeOffset", timestamps).numbers),
+    ((it: Float64Array): number => it[0])(speedate.readColumn("12:13", "time", { overflow: "truncate", unit: "ms" }).numbers),
+    ((it: BigInt64Array): bigint => it[0])(speedate.readColumn("12:13:14Z", "time", { form: "strict", unit: "us" }).numbers),
+    ((it: Int32Array): number => it[0])(speedate.readColumn("12:13Z", "timeOffset", { overflow: "error" }).numbers),
+    ((it: Float64Array): number => it[0])(speedate.readColumn("PT1S", "duration", { isoOrder: "strict", overflow: "truncate", unit: "ms" }).numbers),
+    ((it: BigInt64Array): bigint => it[0])(speedate.readColumn("PT1S", "duration", { unit: "us", refused: "collect" }).numbers),
+    ((it: Float64Array): number => it[0])(speedate.readColumn("1970-01-01T00:00 x", "dateTime", { form: "front", missingOffset: "utc", overflow: "truncate" }).numbers),
+    ((it: speedate.FrontColumn<BigInt64Array>): number => it.sizes[0])(speedate.readColumn("1970-01-01T00:00Z x", "dateTime", { form: "front", unit: "us" })),
   ],
-  dateColumnReader: ((it: Int32Array): number => it[0])(speedate.dateColumnReader({ refusals }).end("1970-01-02")),
-  dateTimeColumnReader: [
-    ((it: Float64Array): number => it.length)(speedate.dateTimeColumnReader().read(new Uint8Array(0))),
-    ((it: BigInt64Array): bigint => it[0])(speedate.dateTimeColumnReader({ unit: "us", overflow: "truncate" }).end("1970-01-01T00:00Z")),
+  columnReader: [
+    ((it: Int32Array): number => it[0])(speedate.columnReader("date", { refused: "collect" }).end("1970-01-02").numbers),
+    ((it: Float64Array): number => it.length)(speedate.columnReader("dateTime").read(new Uint8Array(0)).numbers),
+    ((it: BigInt64Array): bigint => it[0])(speedate.columnReader("dateTime", { unit: "us", overflow: "truncate" }).end("1970-01-01T00:00Z").numbers),
+    ((it: speedate.FrontColumn<Float64Array>): number => it.sizes.length)(speedate.columnReader("dateTime", { form: "front" }).read(new Uint8Array(0))),
+    ((it: Float64Array): number => it.length)(speedate.columnReader("dateTimeClock").read(new Uint8Array(0)).numbers),
+    ((it: Int32Array): number => it[0])(speedate.columnReader("dateTimeOffset").end("1970-01-01T00:00Z").numbers),
+    ((it: BigInt64Array): bigint => it[0])(speedate.columnReader("time", { unit: "us" }).end("12:13").numbers),
+    ((it: Int32Array): number => it[0])(speedate.columnReader("timeOffset", { form: "strict" }).end("12:13:14Z").numbers),
+    same<number, speedate.Column<Float64Array>["refusedCount"]>(true, speedate.columnReader("duration").end("PT1S").refusedCount),
   ],
-  dateTimeClockColumn: [
-    ((it: Float64Array): number => it[0])(speedate.dateTimeClockColumn("1", { timestamps: "s", timestampOffset: 3600, unit: "ms" })),
-    ((it: BigInt64Array): bigint => it[0])(speedate.dateTimeClockColumn("1970-01-01T00:00:00Z", { strict: true, unit: "us", refusals })),
-  ],
-  dateTimeOffsetColumn: same<Int32Array, ReturnType<typeof speedate.dateTimeOffsetColumn>>(true, speedate.dateTimeOffsetColumn("1", { timestamps: "s", timestampOffset: 0, refusals })),
-  timeColumn: [
-    ((it: Float64Array): number => it[0])(speedate.timeColumn("12:13", { overflow: "truncate", unit: "ms" })),
-    ((it: BigInt64Array): bigint => it[0])(speedate.timeColumn("12:13:14Z", { strict: true, unit: "us", refusals })),
-  ],
-  timeOffsetColumn: same<Int32Array, ReturnType<typeof speedate.timeOffsetColumn>>(true, speedate.timeOffsetColumn("12:13Z", { overflow: "error", refusals })),
-  dateTimeFrontColumn: [
-    ((it: Float64Array): number => it[0])(speedate.dateTimeFrontColumn("1970-01-01T00:00 x", { missingOffset: "utc", overflow: "truncate", unit: "ms" }).numbers),
-    ((it: BigInt64Array): bigint => it[0])(speedate.dateTimeFrontColumn(bytes, { unit: "us", refusals, maxRefusals: 1 }).numbers),
-    ((it: Int32Array): number => it[0])(speedate.dateTimeFrontColumn("1970-01-01T00:00Z x").sizes),
-  ],
-  dateTimeFrontColumnReader: [
-    ((it: speedate.FrontColumn<Float64Array>): number => it.numbers.length)(speedate.dateTimeFrontColumnReader().read(new Uint8Array(0))),
-    ((it: speedate.FrontColumn<BigInt64Array>): bigint => it.numbers[0])(speedate.dateTimeFrontColumnReader({ unit: "us" }).end("1970-01-01T00:00Z x")),
-  ],
-  dateTimeClockColumnReader: [
-    ((it: Float64Array): number => it.length)(speedate.dateTimeClockColumnReader().read(new Uint8Array(0))),
-    ((it: BigInt64Array): bigint => it[0])(speedate.dateTimeClockColumnReader({ unit: "us" }).end("1970-01-01T00:00")),
-  ],
-  dateTimeOffsetColumnReader: ((it: Int32Array): number => it[0])(speedate.dateTimeOffsetColumnReader({ refusals }).end("1970-01-01T00:00Z")),
-  timeColumnReader: [
-    ((it: Float64Array): number => it.length)(speedate.timeColumnReader().read(new Uint8Array(0))),
-    ((it: BigInt64Array): bigint => it[0])(speedate.timeColumnReader({ unit: "us" }).end("12:13")),
-  ],
-  timeOffsetColumnReader: ((it: Int32Array): number => it[0])(speedate.timeOffsetColumnReader({ strict: true }).end("12:13:14Z")),
-  durationColumn: [
-    ((it: Float64Array): number => it[0])(speedate.durationColumn("PT1S", { isoOrder: "strict", overflow: "truncate", unit: "ms" })),
-    ((it: BigInt64Array): bigint => it[0])(speedate.durationColumn(bytes, { unit: "us", refusals, maxRefusals: 1 })),
-  ],
-  durationColumnReader: [
-    ((it: Float64Array): number => it.length)(speedate.durationColumnReader().read(new Uint8Array(0))),
-    ((it: BigInt64Array): bigint => it[0])(speedate.durationColumnReader({ unit: "us" }).end("PT1S")),
-    same<number, speedate.ColumnReader<Int32Array>["refused"]>(true, speedate.durationColumnReader().refused),
-  ],
-  textColumn: [
-    same<string, ReturnType<typeof speedate.textColumn>>(true, speedate.textColumn(speedate.dateColumn("1970-01-02"), "date")),
-    speedate.textColumn(new Float64Array(1), "time"), speedate.textColumn(new BigInt64Array(1), "dateTimeClock"),
-    speedate.textColumn(speedate.dateTimeColumn("1970-01-02T00:00Z"), "dateTime"), speedate.textColumn(speedate.durationColumn("PT1S", { unit: "us" }), "duration"),
+  printColumn: [
+    same<string, ReturnType<typeof speedate.printColumn>>(true, speedate.printColumn(speedate.readColumn("1970-01-02", "date").numbers, "date")),
+    speedate.printColumn(new Float64Array(1), "time"), speedate.printColumn(new BigInt64Array(1), "dateTimeClock"),
+    speedate.printColumn(speedate.readColumn("1970-01-02T00:00Z", "dateTime").numbers, "dateTime"), speedate.printColumn(speedate.readColumn("PT1S", "duration", { unit: "us" }).numbers, "duration"),
   ],
   sum: same<SpeedateDuration, ReturnType<typeof speedate.sum>>(true, speedate.sum([second, second])),
   totalMicroseconds: same<bigint, ReturnType<typeof speedate.totalMicroseconds>>(true, speedate.totalMicroseconds(second)),
-  dateFromTimestamp: same<SpeedateDate, ReturnType<typeof speedate.dateFromTimestamp>>(true, speedate.dateFromTimestamp(1n, "s", { exact: false })),
-  timeFromTimestamp: same<SpeedateTime, ReturnType<typeof speedate.timeFromTimestamp>>(true, speedate.timeFromTimestamp(1, "us", { timestampOffset: 0 })),
-  dateTimeFromTimestamp: same<SpeedateDateTime, ReturnType<typeof speedate.dateTimeFromTimestamp>>(true, speedate.dateTimeFromTimestamp(1n, "infer", { timestampOffset: 0 })),
-  epochMilliseconds: same<number, ReturnType<typeof speedate.epochMilliseconds>>(true, speedate.epochMilliseconds(moment)),
+  dateTimeFromTimestamp: same<SpeedateDateTime, ReturnType<typeof speedate.dateTimeFromTimestamp>>(true, speedate.dateTimeFromTimestamp(1n, "infer")),
   toDate: same<Date, ReturnType<typeof speedate.toDate>>(true, speedate.toDate(moment)),
   fromDate: same<SpeedateDateTime, ReturnType<typeof speedate.fromDate>>(true, speedate.fromDate(new Date(0))),
-  format: [speedate.format(date as SpeedateValue), same<string, ReturnType<typeof speedate.format>>(true, speedate.format(moment, { digits: 3 })), speedate.format(time, { digits: 0 })],
+  format: [speedate.format(date as SpeedateValue), same<string, ReturnType<typeof speedate.format>>(true, speedate.format(moment, { digits: 3 })), speedate.format(time, { digits: 0 }), speedate.format(labelled)],
   compare: [
     same<-1 | 0 | 1, ReturnType<typeof speedate.compare>>(true, speedate.compare(date, date)), speedate.compare(time, time),
     speedate.compare(moment, moment), speedate.compare(second, second), [date, date].sort(speedate.compare), [moment, moment].sort(speedate.compare),
+    [labelled, labelled].sort(speedate.compare),
   ],
-  addDays: same<SpeedateDate, ReturnType<typeof speedate.addDays>>(true, speedate.addDays(date, 1)),
   daysBetween: same<number, ReturnType<typeof speedate.daysBetween>>(true, speedate.daysBetween(date, date)),
-  dayOfYear: same<number, ReturnType<typeof speedate.dayOfYear>>(true, speedate.dayOfYear(date)),
-  after: [((it: SpeedateDate) => it.day)(speedate.after(date, speedate.parseDuration("P1D"))), same<SpeedateDateTime, ReturnType<typeof speedate.after>>(true, speedate.after(moment, second))],
-  before: [((it: SpeedateDate) => it.day)(speedate.before(date, speedate.parseDuration("P1D"))), same<SpeedateDateTime, ReturnType<typeof speedate.before>>(true, speedate.before(moment, second))],
-  between: [same<SpeedateDuration, ReturnType<typeof speedate.between>>(true, speedate.between(date, date)), speedate.between(moment, moment).sign],
-  negate: same<SpeedateDuration, ReturnType<typeof speedate.negate>>(true, speedate.negate(second)),
+  add: [((it: SpeedateDate) => it.day)(speedate.add(date, speedate.parseDuration("P1D"))), same<SpeedateDateTime, ReturnType<typeof speedate.add>>(true, speedate.add(moment, second))],
+  subtract: [((it: SpeedateDate) => it.day)(speedate.subtract(date, speedate.parseDuration("P1D"))), same<SpeedateDateTime, ReturnType<typeof speedate.subtract>>(true, speedate.subtract(moment, second))],
+  until: [same<SpeedateDuration, ReturnType<typeof speedate.until>>(true, speedate.until(date, date)), speedate.until(moment, moment).sign],
   durationFromMicroseconds: same<SpeedateDuration, ReturnType<typeof speedate.durationFromMicroseconds>>(true, speedate.durationFromMicroseconds(1n)),
-  totalSeconds: same<number, ReturnType<typeof speedate.totalSeconds>>(true, speedate.totalSeconds(second)),
-  inTimezone: [((it: SpeedateTime) => it.hour)(speedate.inTimezone(time, 0)), same<SpeedateDateTime, ReturnType<typeof speedate.inTimezone>>(true, speedate.inTimezone(moment, 3600))],
+  withOffset: [((it: SpeedateTime) => it.hour)(speedate.withOffset(time, 0)), same<SpeedateDateTime, ReturnType<typeof speedate.withOffset>>(true, speedate.withOffset(moment, 3600))],
   schema: [
-    same<SpeedateDate, OutputOf<Schema<SpeedateDate>>>(true, validated(speedate.schema("date", { timestamps: "s" }), "86400")),
-    same<SpeedateTime, OutputOf<Schema<SpeedateTime>>>(true, validated(speedate.schema("time", { strict: true }), "12:13:14Z")),
+    same<SpeedateDate, OutputOf<Schema<SpeedateDate>>>(true, validated(speedate.schema("date", timestamps), "86400")),
+    same<SpeedateTime, OutputOf<Schema<SpeedateTime>>>(true, validated(speedate.schema("time", { form: "strict" }), "12:13:14Z")),
     same<SpeedateDateTime, OutputOf<Schema<SpeedateDateTime>>>(true, validated(speedate.schema("dateTime", { missingOffset: "utc" }), "2020-02-29T12:13")),
     same<SpeedateDuration, OutputOf<Schema<SpeedateDuration>>>(true, validated(speedate.schema("duration", { overflow: "truncate" }), "PT1S")),
   ],
   init: ((call: (module: object) => void): string => call.name)(speedate.init),
-  SpeedateError: ((it: speedate.SpeedateError): [Fault, number, string, string, speedate.Text | undefined, number | undefined, number | undefined, number | undefined] =>
-    [it.fault, it.code, it.message, it.expected, it.text, it.place, it.end, it.index]).length,
+  SpeedateError: ((it: speedate.SpeedateError): [ErrorCode, string, string, speedate.StringOrBytes | undefined, number | undefined, number | undefined, number | undefined] =>
+    [it.code, it.message, it.expected, it.text, it.start, it.end, it.index]).length,
 };
 // An import of CommonJS has a default too.
 assert.deepEqual(Object.keys(uses).sort(), Object.keys(speedate).filter((it) => it !== "default").sort());
+// The error of both entries is one type.
+export const error = (it: core.SpeedateError): speedate.SpeedateError => it;
 
 // What the types refuse, the calls refuse too.
 const refused = [
@@ -155,23 +132,51 @@ const refused = [
   // @ts-expect-error
   () => speedate.parseDateFront("", { overflow: "truncate" }),
   // @ts-expect-error
-  () => speedate.parseDateTime("", { strict: true, timestamps: "s" }),
+  () => speedate.parseDateTime("", { form: "strict", timestampUnit: "s" }),
   // @ts-expect-error
-  () => speedate.dateColumn("", { missingOffset: "utc" }),
+  () => speedate.parseDateTime("", { form: "orTimestamp" }),
+  // @ts-expect-error
+  () => speedate.parseDate("", { timestampUnit: "s" }),
+  // @ts-expect-error
+  () => speedate.parseDate("", { form: "strict" }),
+  // @ts-expect-error
+  () => speedate.parseTime("", { form: "orTimestamp", timestampUnit: "s" }),
+  // @ts-expect-error
+  () => speedate.parseDateTime("", { form: "front" }),
+  // @ts-expect-error
+  () => speedate.parseDate(null),
   // @ts-expect-error
   () => speedate.parseTime("", { missingOffset: "utc" }),
   // @ts-expect-error
   () => speedate.schema("datetime"),
   // @ts-expect-error
-  () => speedate.schema("date", { strict: true }),
+  () => speedate.schema("date", { form: "strict" }),
   // @ts-expect-error
-  () => speedate.dateTimeColumn("", { strict: true, timestamps: "s" }),
+  () => speedate.readColumn("", "date", { missingOffset: "utc" }),
   // @ts-expect-error
-  () => speedate.dateTimeClockColumn("", { missingOffset: "utc" }),
+  () => speedate.readColumn("", "dateTime", { form: "strict", timestampUnit: "s" }),
   // @ts-expect-error
-  () => speedate.dateTimeOffsetColumn("", { unit: "us" }),
+  () => speedate.readColumn("", "dateTimeClock", { missingOffset: "utc" }),
   // @ts-expect-error
-  () => speedate.dateTimeFrontColumn("", { strict: true }),
+  () => speedate.readColumn("", "dateTimeOffset", { unit: "us" }),
+  // @ts-expect-error
+  () => speedate.readColumn("", "dateTime", { form: "front", timestampUnit: "s" }),
+  // @ts-expect-error
+  () => speedate.readColumn("", "time", { form: "front" }),
+  // @ts-expect-error
+  () => speedate.readColumn("", "time", { unit: "s" }),
+  // @ts-expect-error
+  () => speedate.readColumn("", "duration", { form: "text" }),
+  // @ts-expect-error
+  () => speedate.readColumn("", "dateTime", { refused: "raise" }),
+  // @ts-expect-error
+  () => speedate.readColumn(["2020-02-29T12:13Z"], "dateTime"),
+  // @ts-expect-error
+  () => speedate.readColumn("", "datetime"),
+  // @ts-expect-error
+  () => speedate.readColumn(""),
+  // @ts-expect-error
+  () => speedate.columnReader("date", { refused: true }),
   // @ts-expect-error
   () => [time].map(speedate.format),
   // @ts-expect-error
@@ -179,57 +184,49 @@ const refused = [
   // @ts-expect-error
   () => speedate.format(time, { digits: 2 }),
   // @ts-expect-error
-  () => speedate.timeColumn("", { timestamps: "s" }),
+  () => speedate.format({ ...date, hour: 1 }),
   // @ts-expect-error
-  () => speedate.durationColumn("", { strict: true }),
+  () => speedate.printColumn(new Int32Array(1), "dateTime"),
   // @ts-expect-error
-  () => speedate.dateTimeColumn(["2020-02-29T12:13Z"]),
+  () => speedate.printColumn(new BigInt64Array(1), "date"),
   // @ts-expect-error
-  () => speedate.textColumn(new Int32Array(1), "dateTime"),
-  // @ts-expect-error
-  () => speedate.textColumn(new BigInt64Array(1), "date"),
-  // @ts-expect-error
-  () => speedate.textColumn([1, 2], "duration"),
+  () => speedate.printColumn([1, 2], "duration"),
   // @ts-expect-error
   () => speedate.sum(second),
   // @ts-expect-error
   () => speedate.sum([date]),
   // @ts-expect-error
-  () => speedate.dateTimeColumnReader({ refusals: true }),
-  // @ts-expect-error
-  () => speedate.dateFromTimestamp(0),
-  // @ts-expect-error
-  () => speedate.addDays(moment, 1),
+  () => speedate.dateTimeFromTimestamp(0),
   // @ts-expect-error
   () => speedate.daysBetween(date, moment),
-  // @ts-expect-error
-  () => speedate.dayOfYear(moment),
   // @ts-expect-error
   () => speedate.compare(date, moment),
   // @ts-expect-error
   () => speedate.compare(moment, time),
   // @ts-expect-error
-  () => speedate.between(date, moment),
+  () => speedate.until(date, moment),
   // @ts-expect-error
-  () => speedate.between(time, time),
+  () => speedate.until(time, time),
   // @ts-expect-error
-  () => speedate.inTimezone(date, 0),
+  () => speedate.withOffset(date, 0),
   // @ts-expect-error
-  () => speedate.epochMilliseconds(date),
+  () => speedate.toDate(date),
   // @ts-expect-error
-  () => speedate.after(time, second),
+  () => speedate.add(time, second),
+  // @ts-expect-error
+  () => speedate.subtract(date, 1),
 ];
 for (const call of refused) assert.throws(call, TypeError, String(call));
 
 declare const unit: "ms" | "us" | undefined;
 export const unions = () => [
   same<Float64Array | BigInt64Array, ReturnType<typeof ofUnion>>(true, ofUnion()),
-  speedate.dateTimeClockColumn("", { unit }), speedate.timeColumn("", { unit }), speedate.dateTimeClockColumnReader({ unit }).end(),
-  speedate.timeColumnReader({ unit }).end(), speedate.durationColumn("", { unit }), speedate.durationColumnReader({ unit }).end(), speedate.dateTimeColumnReader({ unit, maxLineBytes: 100 }).end(),
+  speedate.readColumn("", "dateTimeClock", { unit }), speedate.columnReader("time", { unit, maxLineBytes: 100 }).end(), speedate.readColumn("", "duration", { unit }),
+  speedate.readColumn("", "dateTime", { form: "front", unit }).sizes,
 ];
-const ofUnion = () => speedate.dateTimeColumn("", { unit });
+const ofUnion = () => speedate.readColumn("", "dateTime", { unit }).numbers;
 
-export const sameTypes = same<typeof bare, typeof speedate>(true, bare);
+export const sameTypes = [same<typeof bare, typeof core>(true, bare), same<typeof bareColumns, typeof speedate>(true, bareColumns)];
 
 export const unsaid = [
   // @ts-expect-error
@@ -237,11 +234,11 @@ export const unsaid = [
   // @ts-expect-error
   () => (speedate.parseDate("2020-02-29").day = 1),
   // @ts-expect-error
-  (it: Refusal) => (it.place = 1),
+  (it: Refusal) => (it.start = 1),
   // @ts-expect-error
-  (it: Answer<SpeedateDate>) => it.place,
+  (it: Answer<SpeedateDate>) => it.start,
   // @ts-expect-error
-  (it: LineRefusal) => it.place,
+  (it: LineRefusal) => (it.index = 1),
   // @ts-expect-error
-  (it: speedate.ColumnReader<Int32Array>) => (it.refused = 1),
+  (it: speedate.Column<Int32Array>) => (it.refusedCount = 1),
 ];
