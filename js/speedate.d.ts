@@ -136,7 +136,8 @@ export function schema(kind: "duration", options?: DurationOptions): Schema<Spee
 /** The date-time of a timestamp, in UTC: 1970-01-01T00:00:01.5Z of `dateTimeFromTimestamp(1500, "ms")`. `date_too_small` or `date_too_large`
  * outside the years 0 to 9999. For another offset, see `withOffset`. */
 export function dateTimeFromTimestamp(timestamp: number | bigint, unit: TimestampUnit): SpeedateDateTime;
-/** The Date of a date-time, rounded down to the millisecond. `tz_required` without an offset. */
+/** The Date of a date-time, rounded down to the millisecond: `toDate(parseDateTime("1970-01-01T00:00Z")).getTime()` is 0. `tz_required` without an
+ * offset. */
 export function toDate(value: SpeedateDateTime): Date;
 /** The date-time of a Date, in UTC: `fromDate(new Date(0))`. `date_too_small` or `date_too_large` outside the years 0 to 9999. */
 export function fromDate(date: Date): SpeedateDateTime;
@@ -146,7 +147,7 @@ export function fromDate(date: Date): SpeedateDateTime;
  * parsed as another. */
 export function format(value: SpeedateValue, options?: NoOptions): string;
 export function format(value: SpeedateTime | SpeedateDateTime, options: { digits?: 0 | 3 | 6 }): string;
-/** The order of two values, for `sort`: -1 if the first is the smaller one, 0 if they are equal, otherwise 1. Times and
+/** The order of two values, for `dates.sort(compare)`: -1 if the first is the smaller one, 0 if they are equal, otherwise 1. Times and
  * date-times compare by instant if both have an offset, otherwise as clocks show them, unlike in `until`: sort values that
  * all have one, or that all have none. */
 export function compare(first: SpeedateDate, second: SpeedateDate): -1 | 0 | 1;
@@ -159,7 +160,7 @@ export function daysBetween(earlier: SpeedateDate, later: SpeedateDate): number;
  * part of a day; `date_too_small` or `date_too_large` outside the years 0 to 9999. */
 export function add(start: SpeedateDate, duration: SpeedateDuration): SpeedateDate;
 export function add(start: SpeedateDateTime, duration: SpeedateDuration): SpeedateDateTime;
-/** The value moved back by a duration, with the errors of `add`. */
+/** The value moved back by a duration, with the errors of `add`: 2020-02-28 of 2020-02-29 and `P1D`. */
 export function subtract(start: SpeedateDate, duration: SpeedateDuration): SpeedateDate;
 export function subtract(start: SpeedateDateTime, duration: SpeedateDuration): SpeedateDateTime;
 /** The duration from one value to the other: `P1D` from 2020-02-29 until 2020-03-01. A date-time without offset is taken to be in UTC, unlike in
@@ -180,6 +181,6 @@ export function withOffset(value: SpeedateTime, offsetSeconds: number): Speedate
 export function withOffset(value: SpeedateDateTime, offsetSeconds: number): SpeedateDateTime;
 
 /** Hands over the entry's module, `speedate/speedate.wasm` or `speedate/columns.wasm`, as a compiled `WebAssembly.Module`, in an
- * engine that compiles no bytes at run time, and to an entry `bare`. It has to come before all other calls, and changes nothing after
- * one. A TypeError if it is another module. */
+ * engine that compiles no bytes at run time, and to an entry `bare`: `init(await WebAssembly.compileStreaming(fetch(address)))`. It has to come
+ * before all other calls, and changes nothing after one. A TypeError if it is another module. */
 export function init(module: object): void;
