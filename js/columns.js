@@ -173,8 +173,11 @@ function readLines(column, isEnd, parts, refusals) {
     if (error !== 0) {
       const feed = bytes.indexOf(LINE_FEED, at);
       const lineEnd = feed < 0 || feed >= end ? end : feed;
-      const refusal = refusalOf(column, error, lines, view, bytes.slice(at, lineEnd > at && bytes[lineEnd - 1] === RETURN ? lineEnd - 1 : lineEnd));
-      if (column.refused === STOP) throw Object.assign(new SpeedateError(refusal, refusal.text, refusal), { index: refusal.index });
+      const { code, expected } = reasonOf(error, column.kind);
+      const text = bytes.slice(at, lineEnd > at && bytes[lineEnd - 1] === RETURN ? lineEnd - 1 : lineEnd);
+      const part = COLUMN.progress + 24;
+      const refusal = { index: column.lines + lines, code, expected, text, start: view.getUint32(part, true), end: view.getUint32(part + 8, true) };
+      if (column.refused === STOP) throw Object.assign(new SpeedateError(refusal, text, refusal), { index: refusal.index });
       refusals.push(refusal);
       column.putRefused(view, COLUMN.numbers + lines * column.width);
       column.refusedCount++;
@@ -187,11 +190,6 @@ function readLines(column, isEnd, parts, refusals) {
   if (column.unfinished.length > MOST_KEPT) column.unfinished = new Uint8Array(end - at);
   column.unfinished.set(bytes.subarray(at, end));
   column.size = end - at;
-}
-
-function refusalOf({ lines, kind }, error, before, view, text) {
-  const { code, expected } = reasonOf(error, kind);
-  return { index: lines + before, code, expected, text, start: view.getUint32(COLUMN.progress + 24, true), end: view.getUint32(COLUMN.progress + 32, true) };
 }
 
 function numbersIn(view, lines, { Numbers, numberAt }, from = COLUMN.numbers, step = Numbers.BYTES_PER_ELEMENT) {

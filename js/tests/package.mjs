@@ -125,16 +125,15 @@ for (const name of readers) {
     if (name.startsWith("safe")) assert.deepEqual(speedate[name]("x", { [option]: undefined }), speedate[name]("x"));
   }
 }
-// A form that a kind lacks, and a unit without its form, are wrong options.
+// A form that a kind lacks, a unit without its form, and that form without a unit are wrong options.
 const FORMS = { Date: ["text", "orTimestamp"], Time: ["text", "strict"], DateTime: ["text", "orTimestamp", "strict"] };
-const unitFor = (form) => (form === "orTimestamp" ? { timestampUnit: "s" } : {});
 for (const [kind, forms] of Object.entries(FORMS))
   for (const form of ["text", "orTimestamp", "strict", "front"]) {
-    const safeParse = speedate[`safeParse${kind}`];
-    if (!forms.includes(form)) assert.throws(() => safeParse("x", { form, ...unitFor(form) }), /^TypeError: form has to be one of text/);
-    else assert.equal(safeParse("x", { form, ...unitFor(form) }).ok, false);
-    for (const options of [{ form: "orTimestamp" }, { form, timestampUnit: "s" }, { timestampUnit: "s" }])
-      if (forms.includes("orTimestamp") && options.form !== "orTimestamp" || options.form === "orTimestamp" && !options.timestampUnit) assert.throws(() => safeParse("x", options), TypeError);
+    const parse = (options) => speedate[`safeParse${kind}`]("x", options);
+    const [right, wrong] = form === "orTimestamp" ? [{ form, timestampUnit: "s" }, { form }] : [{ form }, { form, timestampUnit: "s" }];
+    if (forms.includes(form)) assert.equal(parse(right).ok, false);
+    else assert.throws(() => parse(right), /^TypeError: form has to be one of text/);
+    for (const options of [wrong, { timestampUnit: "s" }]) assert.throws(() => parse(options), TypeError);
   }
 const noSizes = ["1", -1, 0.5, NaN, Infinity, 1n, null];
 const OF_COLUMNS = { maxLineBytes: noSizes, maxRefusals: noSizes, unit: ["", "s", "MS", 0, null], refused: [true, null, 0, "", "raise", [], {}] };
