@@ -7,7 +7,8 @@ use Rattle.speedate.specs.Lines.{IsLineEnd, complete_lines, lines}
 use Rattle.speedate_stream.specs.Machine.{head, state_after}
 use Rattle.speedate_stream.specs.declared.run.RunError.{RunError}
 use Rattle.speedate_scan.specs.Reading.{part, read}
-use Rattle.speedate_scan.specs.Scan.{first_found, has_as, has_offsets, is_stopped, line_of, passed, stop_at_bad}
+use Rattle.speedate_scan.specs.Scan.{first_found, has_as, has_offsets, is_stopped, line_of, passed}
+use Rattle.speedate_scan.specs.Scan.{stop_at_bad}
 use Rattle.speedate_scan.specs.Entries.{Entry, entries, marked}
 use Rattle.speedate_commands.specs.Base.{Offsets, Reader, Reading, Report, Scan}
 use Rattle.speedate_commands.specs.Between.{Between, between_machine, file_text}

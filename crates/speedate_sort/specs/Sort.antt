@@ -143,7 +143,7 @@ FailsBy (Ok ended) output = output ≡ false
 FailsBy (Err Unsorted.Memory) output = output ≡ false
 FailsBy (Err Unsorted.Write) output = output ≡ true
 
--- whether the input has failed: if this is the answer, it has, and if all was read, it has as before
+-- whether the input has failed: if this is the answer, it has, and if all was read, as before
 abbrev pub FailsRead : Result (Unit {0}) Unread → Bool → Bool → Type 0
 FailsRead (Ok ended) before after = after ≡ before
 FailsRead (Err Unread.Read) before after = after ≡ true

@@ -9,7 +9,8 @@ returns g c =
     let ended = c.run_input-ended.result.0 in
     let left = subst (λ (unread : Option (List ℕ)). Leaves g.C.LineMachine.machine
     g.C.Command.scan g.C.Command.begun g.C.Command.Says g.C.Command.about (Some ended)
-    c.begin.new.self c.run_input-ended.new.command unread (g.W.Write.contents c.args.output.now.inner)
+    c.begin.new.self c.run_input-ended.new.command unread
+    (g.W.Write.contents c.args.output.now.inner)
     (g.W.Write.contents c.run_input-ended.new.output.inner)) c.in-Some.ensures.contents
     c.run_input-ended.ensures.left in
     record {
@@ -22,7 +23,8 @@ returns g c =
             ∙ ap is_without_value c.scan-2.ensures.scan);
         left = subst (λ before. Leaves g.C.LineMachine.machine g.C.Command.scan g.C.Command.begun
             g.C.Command.Says g.C.Command.about (Some ended) before c.run_input-ended.new.command
-            (g.F.Files.contents c.args.files.now c.args.name.now) (g.W.Write.contents c.args.output.now.inner)
+            (g.F.Files.contents c.args.files.now c.args.name.now)
+            (g.W.Write.contents c.args.output.now.inner)
             (g.W.Write.contents c.run_input-ended.new.output.inner)) c.begin.ensures.begun left;
       };
     }

@@ -8,4 +8,6 @@ use Rattle.speedate_commands.proofs.sum.SumCommand.print.Goals as goal
 pub returns-clause-ended : goal.returns-clause-ended
 returns-clause-ended g c =
     ok-after c.run.result (ends_saying sum_machine sum_says c.args.self.now _ _ _ _ _
-    (λ (all : List (List ℕ)). (sum_adds c.args.self.now all, sum_prints_none c.args.self.now all))) c.run.ensures.ended
+    (λ (all : List (List ℕ)).
+    (sum_adds c.args.self.now all, sum_prints_none c.args.self.now all)))
+    c.run.ensures.ended

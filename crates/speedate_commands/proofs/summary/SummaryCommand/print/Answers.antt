@@ -8,4 +8,6 @@ use Rattle.speedate_commands.proofs.summary.SummaryCommand.print.Goals as goal
 pub returns-clause-ended : goal.returns-clause-ended
 returns-clause-ended g c =
     ok-after c.run.result (ends_saying summary_machine summary_says c.args.self.now _ _ _ _ _
-    (λ (all : List (List ℕ)). (summary_adds c.args.self.now all, summary_prints_none c.args.self.now all))) c.run.ensures.ended
+    (λ (all : List (List ℕ)).
+    (summary_adds c.args.self.now all, summary_prints_none c.args.self.now all)))
+    c.run.ensures.ended

@@ -33,7 +33,8 @@ returns-else-is_err-2-clause-read_failed g c =
     c.place_complete.ensures.placed) in
     λ failed. record {
       text = drop from new;
-      consumed = rw long (unread_part c.in-Err-Read.field-0 (search rules) c.in-Err-Read.ensures.read);
+      consumed = rw long
+          (unread_part c.in-Err-Read.field-0 (search rules) c.in-Err-Read.ensures.read);
       keys = rw (c.deref.ensures.value) at (ok_part c.place_complete.result no_err
           c.place_complete.ensures.keys);
       lines = placed
