@@ -39,6 +39,19 @@ config_out_of_range = pos 102
 abbrev pub buffer_too_small : ℤ
 buffer_too_small = pos 103
 
+-- the numbers of the forms in which a text is read
+abbrev pub text_form : ℤ
+text_form = pos 0
+
+abbrev pub or_timestamp_form : ℤ
+or_timestamp_form = pos 1
+
+abbrev pub strict_form : ℤ
+strict_form = pos 2
+
+abbrev pub front_form : ℤ
+front_form = pos 3
+
 -- the code of a fault: its number
 abbrev pub fault_code : ParseError → ℤ
 fault_code fault = pos (fault_number fault)

@@ -37,6 +37,10 @@ use Rattle.speedate_c.specs.declared.column.SpeedateProgress.{SpeedateProgress}
 abbrev pub parsers : List LineParser
 parsers = LineParser.Text ∷ LineParser.OrTimestamp ∷ LineParser.Strict ∷ []
 
+-- the flag for what the clocks of date-times show
+abbrev pub clock_flag : ℕ
+clock_flag = 16
+
 -- what a configuration of columns from outside chooses, where each of its numbers has a value
 abbrev pub column_choices_of : SpeedateColumnConfig → Option ColumnChoices
 column_choices_of config =

@@ -1,8 +1,14 @@
 -- What a date from outside says, and how a date is written.
-use Rattle.std.specs.Prelude.{Result}
-use Rattle.speedate.specs.Base.{ParseError}
+use Rattle.std.specs.Prelude.{ℤ, List, ℕ, length, Option, Some, None, Result, if◌then◌else◌}
+use Rattle.std.specs.Ordering.{int_eq}
+use Rattle.speedate.specs.Base.{CallKind, ParseError}
 use Rattle.speedate.specs.Calendar.{Ymd}
-use Rattle.speedate.specs.Date.{new_date_answer}
+use Rattle.speedate.specs.Config.{Choices}
+use Rattle.speedate.specs.Date.{date_answer, date_answer_or, date_front, date_front_or}
+use Rattle.speedate.specs.Date.{date_or_timestamp, date_or_timestamp_or, new_date_answer}
+use Rattle.speedate.specs.Refused.{placed, refused_place}
+use Rattle.speedate_c.specs.Code.{front_form, or_timestamp_form, text_form}
+use Rattle.speedate_c.specs.Written.{Reading, front_size, without_size}
 use Rattle.speedate_c.specs.declared.date.SpeedateDate.{SpeedateDate}
 
 -- the date of its numbers, or the fault of the first that is out of range
@@ -12,3 +18,41 @@ date_of date = new_date_answer date.year date.month date.day
 -- a date as it is written
 abbrev pub shown_date : Ymd → SpeedateDate
 shown_date date = record { year = date.year; month = date.month; day = date.day }
+
+-- the day from which columns count
+abbrev pub first_day : Ymd
+first_day = record { year = 1970; month = 1; day = 1 }
+
+-- the answer of a form to a text, where dates have that form
+abbrev pub date_by_form : ℤ → Choices → List ℕ → Option (Result Ymd ParseError)
+date_by_form form chosen text =
+    if int_eq form text_form
+    then Some (date_answer text)
+    else (if int_eq form or_timestamp_form
+    then Some (date_or_timestamp chosen.unit text)
+    else (if int_eq form front_form
+    then Some (without_size (date_front text))
+    else None))
+
+-- how a form reads a text as a date
+abbrev pub date_reading : ℤ → Choices → List ℕ → Option Reading
+date_reading form chosen text =
+    if int_eq form text_form
+    then Some (record {
+      kind = CallKind.Date;
+      place = refused_place (date_answer_or placed text);
+      size = length text;
+    })
+    else (if int_eq form or_timestamp_form
+    then Some (record {
+      kind = CallKind.DateOrTimestamp;
+      place = refused_place (date_or_timestamp_or placed chosen.unit text);
+      size = length text;
+    })
+    else (if int_eq form front_form
+    then Some (record {
+      kind = CallKind.Date;
+      place = refused_place (date_front_or placed text);
+      size = front_size (date_front text);
+    })
+    else None))

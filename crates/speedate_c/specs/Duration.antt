@@ -1,11 +1,15 @@
 -- What a duration from outside says, and how a duration is written.
-use Rattle.std.specs.Prelude.{ℕ, ◌==◌, nat_le, nat_lt, Bool, true, false, List, [], ◌∷◌, Option, Some, None, Result, Ok, ℤ, ◌+ℤ◌}
-use Rattle.speedate.specs.Base.{ParseError}
-use Rattle.speedate.specs.Duration.{signed_amount}
+use Rattle.std.specs.Prelude.{ℕ, ◌==◌, nat_le, nat_lt, Bool, true, false, List, [], ◌∷◌, length, Option, Some, None, Result, Ok, ℤ, ◌+ℤ◌, if◌then◌else◌}
+use Rattle.std.specs.Ordering.{int_eq}
+use Rattle.speedate.specs.Base.{CallKind, ParseError}
+use Rattle.speedate.specs.Config.{Choices}
+use Rattle.speedate.specs.Duration.{duration_answer, duration_answer_or, signed_amount}
+use Rattle.speedate.specs.Refused.{placed, refused_place}
+use Rattle.speedate_c.specs.Code.{text_form}
 use Rattle.speedate.specs.DurationNumbers.{DurationNumbers}
 use Rattle.speedate.specs.Timestamp.{seconds_per_day}
 use Rattle.speedate.specs.Requirement.{NumberRow, ◌else_fault◌, first_fault_or}
-use Rattle.speedate_c.specs.Written.{with_value}
+use Rattle.speedate_c.specs.Written.{Reading, with_value}
 use Rattle.speedate_c.specs.declared.duration.SpeedateDuration.{SpeedateDuration}
 
 -- the numbers of a duration from outside, whatever they are
@@ -51,3 +55,21 @@ sum_after sum [] = Some sum
 sum_after sum (duration ∷ durations) =
     with_value (duration_of duration) None
     (λ numbers. sum_after (sum +ℤ signed_amount numbers) durations)
+
+-- the answer of a form to a text, where durations have that form
+abbrev pub duration_by_form : ℤ → Choices → List ℕ → Option (Result DurationNumbers ParseError)
+duration_by_form form chosen text =
+    if int_eq form text_form
+    then Some (duration_answer chosen.order chosen.behavior text)
+    else None
+
+-- how a form reads a text as a duration
+abbrev pub duration_reading : ℤ → Choices → List ℕ → Option Reading
+duration_reading form chosen text =
+    if int_eq form text_form
+    then Some (record {
+      kind = CallKind.Duration;
+      place = refused_place (duration_answer_or placed chosen.order chosen.behavior text);
+      size = length text;
+    })
+    else None

@@ -1,11 +1,17 @@
 -- What a time from outside says, and how a time is written.
-use Rattle.std.specs.Prelude.{ℕ, ℤ, pos, Option, Some, None, Result, if◌then◌else◌}
+use Rattle.std.specs.Prelude.{ℕ, ℤ, pos, negsuc, List, length, Option, Some, None, Result, if◌then◌else◌}
 use Rattle.std.specs.Ordering.{int_eq}
-use Rattle.speedate.specs.Base.{ParseError}
-use Rattle.speedate.specs.Time.{new_time_answer, TimeOfDay}
+use Rattle.speedate.specs.Base.{CallKind, ParseError}
+use Rattle.speedate.specs.Config.{Choices}
+use Rattle.speedate.specs.Refused.{placed, refused_place}
+use Rattle.speedate.specs.Strict.{strict_time_answer, strict_time_answer_or}
+use Rattle.speedate.specs.Time.{new_time_answer, time_answer, time_answer_or, time_front}
+use Rattle.speedate.specs.Time.{time_front_or, TimeOfDay}
 use Rattle.speedate.specs.declared.FractionDigits.{FractionDigits}
 use Rattle.speedate.specs.Requirement.{result_and_then, result_map}
+use Rattle.speedate_c.specs.Code.{front_form, strict_form, text_form}
 use Rattle.speedate_c.specs.Config.{offset_answer}
+use Rattle.speedate_c.specs.Written.{Reading, front_size, without_size}
 use Rattle.speedate_c.specs.declared.time.SpeedateTime.{SpeedateTime}
 
 -- the time of its numbers, or the fault of the first that is out of range; the offset is looked at
@@ -32,6 +38,10 @@ shown_time time = record {
   offset = (shown_offset time.offset).1;
 }
 
+-- the number of digits for six after the second, or none where the microsecond is 0
+abbrev pub digits_auto : ℤ
+digits_auto = negsuc 0
+
 -- the digits of a fraction that a number asks for
 abbrev pub fraction_digits_of : ℤ → Option FractionDigits
 fraction_digits_of number =
@@ -40,3 +50,37 @@ fraction_digits_of number =
     else (if int_eq number (pos 3)
     then Some FractionDigits.Three
     else (if int_eq number (pos 6) then Some FractionDigits.Six else None))
+
+-- the answer of a form to a text, where times have that form
+abbrev pub time_by_form : ℤ → Choices → List ℕ → Option (Result TimeOfDay ParseError)
+time_by_form form chosen text =
+    if int_eq form text_form
+    then Some (time_answer chosen.behavior text)
+    else (if int_eq form strict_form
+    then Some (strict_time_answer chosen.behavior text)
+    else (if int_eq form front_form
+    then Some (without_size (time_front chosen.behavior text))
+    else None))
+
+-- how a form reads a text as a time
+abbrev pub time_reading : ℤ → Choices → List ℕ → Option Reading
+time_reading form chosen text =
+    if int_eq form text_form
+    then Some (record {
+      kind = CallKind.Time;
+      place = refused_place (time_answer_or placed chosen.behavior text);
+      size = length text;
+    })
+    else (if int_eq form strict_form
+    then Some (record {
+      kind = CallKind.TimeStrict;
+      place = refused_place (strict_time_answer_or placed chosen.behavior text);
+      size = length text;
+    })
+    else (if int_eq form front_form
+    then Some (record {
+      kind = CallKind.Time;
+      place = refused_place (time_front_or placed chosen.behavior text);
+      size = front_size (time_front chosen.behavior text);
+    })
+    else None))

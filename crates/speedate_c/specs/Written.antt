@@ -32,11 +32,6 @@ abbrev pub written_number : ℤ → Result ℤ LineError → ℤ × ℤ
 written_number before (Ok number) = (success, number)
 written_number before (Err error) = (line_error_code error, before)
 
--- written of an answer at the front of a text: its value as C sees it, and how many bytes it takes
-abbrev pub written_front : {A B : Type 0} → (A → B) → B → ℕ → Result (A × ℕ) ParseError → ℤ × B × ℕ
-written_front shown before size (Ok front) = (success, shown front.0, front.1)
-written_front shown before size (Err fault) = (fault_code fault, before, size)
-
 -- the part where no text is refused
 abbrev pub no_part : SpeedatePart
 no_part = record { place = 0; end = 0; kind = pos 0 }
@@ -46,12 +41,29 @@ abbrev pub part_at : ParseError → CallKind → List ℕ → ℕ → SpeedatePa
 part_at fault kind text place =
     record { place = place; end = part_end fault text place; kind = kind_number kind }
 
--- written of a code that a call of a kind gave for a text: if it is that of a fault, the part that
--- the fault is about, which begins at its place
-abbrev pub written_part : ℤ → CallKind → Option ℕ → List ℕ → SpeedatePart
-written_part code kind place text =
-    with_option (fault_of code) no_part
-    (λ fault. with_option place no_part (part_at fault kind text))
+-- the value at the front of a text, without its size
+abbrev pub without_size : {A : Type 0} → Result (A × ℕ) ParseError → Result A ParseError
+without_size (Ok front) = Ok front.0
+without_size (Err fault) = Err fault
+
+-- how many bytes the value at the front of a text takes
+abbrev pub front_size : {A : Type 0} → Result (A × ℕ) ParseError → ℕ
+front_size (Ok front) = front.1
+front_size (Err fault) = 0
+
+-- how a form reads a text: the kind of calls that read as it does, the place for which it refuses the
+-- text, and how many bytes its value takes
+pub record Reading : Type 0 where
+  pub kind : CallKind
+  pub place : Option ℕ
+  pub size : ℕ
+
+-- written of a code that a form gave for a text: if it is that of a fault, the part that the fault is
+-- about, which begins at its place, and otherwise where the value ends
+abbrev pub written_part : ℤ → Reading → List ℕ → SpeedatePart
+written_part code reading text =
+    with_option (fault_of code) (record { place = 0; end = reading.size; kind = pos 0 })
+    (λ fault. with_option reading.place no_part (part_at fault reading.kind text))
 
 -- written of a date, where there is one
 abbrev pub written_optional_date : {A B : Type 0} → (A → B) → B → Option A → ℤ × B

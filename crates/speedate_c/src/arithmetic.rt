@@ -37,24 +37,24 @@ pub extern "C" fn speedate_duration_between(
     write_duration(Ok(Duration::between(&earlier, &later)), out)
 }
 
-/// The date-time a duration after another, or before it if the duration is negative, as
-/// [`Duration::after`] gives it: 2020-03-01T00:30:00+01:00 for an hour and
-/// 2020-02-29T23:30:00+01:00. `VALUE_OUT_OF_RANGE` comes before the errors of that call.
+/// The date-time a duration later, or earlier if the duration is negative, as [`Duration::after`] gives it:
+/// 2020-03-01T00:30:00+01:00 for 2020-02-29T23:30:00+01:00 and an hour. `VALUE_OUT_OF_RANGE` comes before
+/// the errors of that call.
 #[unsafe(no_mangle)]
-pub extern "C" fn speedate_duration_after(
+pub extern "C" fn speedate_datetime_add(
+    value: SpeedateDateTime,
     duration: SpeedateDuration,
-    start: SpeedateDateTime,
     out: &mut SpeedateDateTime,
 ) -> i32
     ensures answer { (result, out.new)
-        ≡ with_value (duration_of duration) (value_out_of_range, out.old)
-        (λ duration. with_value (date_time_of start) (value_out_of_range, out.old)
-        (λ start. written_answer shown_date_time out.old
-        (date_time_later (signed_amount duration) start))) }
+        ≡ with_value (date_time_of value) (value_out_of_range, out.old)
+        (λ value. with_value (duration_of duration) (value_out_of_range, out.old)
+        (λ duration. written_answer shown_date_time out.old
+        (date_time_later (signed_amount duration) value))) }
 {
+    let value = value_or_return!(value);
     let duration = value_or_return!(duration);
-    let start = value_or_return!(start);
-    write_date_time(duration.after(&start), out)
+    write_date_time(duration.after(&value), out)
 }
 
 /// The date-time this long before another, or after it if the duration is negative, as
@@ -148,7 +148,7 @@ pub extern "C" fn speedate_duration_negate(
 /// The duration of a number of microseconds with a sign, as [`Duration::from_signed_microseconds`]
 /// gives it: -PT1.5S for -1,500,000.
 #[unsafe(no_mangle)]
-pub extern "C" fn speedate_duration_from_signed_microseconds(
+pub extern "C" fn speedate_duration_from_microseconds(
     microseconds: i64,
     out: &mut SpeedateDuration,
 ) -> i32
@@ -165,10 +165,7 @@ pub extern "C" fn speedate_duration_from_signed_microseconds(
 /// `VALUE_OUT_OF_RANGE` if a number of the duration is out of range; `NUMBER_TOO_LARGE` if they are
 /// 2^63 or more without the sign.
 #[unsafe(no_mangle)]
-pub extern "C" fn speedate_duration_signed_total_microseconds(
-    duration: SpeedateDuration,
-    out: &mut i64,
-) -> i32
+pub extern "C" fn speedate_duration_microseconds(duration: SpeedateDuration, out: &mut i64) -> i32
     ensures answer { (result, out.new)
         ≡ with_value (duration_of duration) (value_out_of_range, out.old)
         (λ duration. written_number out.old (number_of_amount (signed_amount duration))) }

@@ -30,6 +30,18 @@ pub(crate) const CONFIG_OUT_OF_RANGE: i32 = 102;
 /// A text does not fit into the caller's buffer.
 pub(crate) const BUFFER_TOO_SMALL: i32 = 103;
 
+/// The forms in which a text is read: no timestamps,
+pub(crate) const TEXT: i32 = 0;
+
+/// timestamps too,
+pub(crate) const OR_TIMESTAMP: i32 = 1;
+
+/// RFC 3339 and nothing else,
+pub(crate) const STRICT: i32 = 2;
+
+/// and the value with which a text begins.
+pub(crate) const FRONT: i32 = 3;
+
 /// A list of errors by their names.
 macro_rules! faults {
     ($($name:ident)*) => {

@@ -2,25 +2,33 @@
 
 ghost use Rattle.std.specs.Option.{option_map};
 ghost use Rattle.std.specs.Prelude.{◌≡◌, ◌≢◌, ◌≤◌, length};
-ghost use Rattle.speedate.specs.Date.{ymd, date_answer, date_front, date_text, date_or_timestamp};
-ghost use Rattle.speedate.specs.Date.{◌gives◌};
-ghost use Rattle.speedate.specs.Calendar.{date_order, date_added, date_numbered, day_number};
+ghost use Rattle.speedate.specs.Date.{ymd, date_text, ◌gives◌};
+ghost use Rattle.speedate.specs.Calendar.{date_order, date_added};
 ghost use Rattle.speedate.specs.Calendar.{days_between, ordinal_day};
 ghost use Rattle.speedate.specs.Requirement.{result_map};
-ghost use Rattle.speedate_c.specs.Written.{written_answer, written_front, written_optional_date};
+ghost use Rattle.speedate_c.specs.Written.{written_answer, written_optional_date};
 ghost use Rattle.speedate_c.specs.Written.{written_text, written_value, with_option, with_value};
 ghost use Rattle.speedate_c.specs.Code.{answer_code, buffer_too_small, config_out_of_range};
 ghost use Rattle.speedate_c.specs.Code.{order_number, success, value_out_of_range};
 ghost use Rattle.speedate_c.specs.Config.{choices_of};
-ghost use Rattle.speedate_c.specs.Date.{date_of, shown_date};
+ghost use Rattle.speedate_c.specs.Date.{date_by_form, date_of, first_day, shown_date};
 
 mod part;
 mod timestamp;
 
-use crate::code::{NO_SUCH_DATE, SUCCESS, order_number};
+use crate::code::{
+    CONFIG_OUT_OF_RANGE, FRONT, NO_SUCH_DATE, OR_TIMESTAMP, SUCCESS, TEXT, order_number,
+};
 use crate::config::SpeedateConfig;
 use crate::text::write_text;
 use speedate::{Date, ParseError};
+
+/// The day from which columns count.
+const FIRST_DAY: Date = Date {
+    year: 1970,
+    month: 1,
+    day: 1,
+};
 
 /// A date.
 #[repr(C)]
@@ -87,48 +95,28 @@ fn print_date(date: &Date, buffer: &mut [u8], text_length: &mut usize) -> i32
     write_text(date.to_text().as_str(), buffer, text_length)
 }
 
-/// Parses a date from a text, or from a timestamp in its place, in the unit of the configuration,
-/// as [`Date::parse_bytes_with_config`] does: 2020-02-29 from `2020-02-29`.
+/// Parses a date in a form, under a configuration: 2020-02-29 from `2020-02-29`.
 ///
-/// The errors are that call's; `CONFIG_OUT_OF_RANGE` comes first.
+/// `CONFIG_OUT_OF_RANGE`, also for a form that dates lack, comes before the errors of the text.
 #[unsafe(no_mangle)]
-pub extern "C" fn speedate_date_parse(
+pub extern "C" fn speedate_date_parse_value(
     text: &[u8],
+    form: i32,
     config: SpeedateConfig,
     out: &mut SpeedateDate,
 ) -> i32
     ensures answer { (result, out.new)
         ≡ with_option (choices_of config) (config_out_of_range, out.old)
-        (λ config. written_answer shown_date out.old (date_or_timestamp config.unit text.now)) }
+        (λ config. with_option (date_by_form form config text.now) (config_out_of_range, out.old)
+        (λ answer. written_answer shown_date out.old answer)) }
 {
     let config = config_or_return!(config.to_date_config());
-    write_date(Date::parse_bytes_with_config(text, &config), out)
-}
-
-/// Parses a date from a text, and no timestamp, as [`Date::parse_bytes_rfc3339`] does: 2020-02-29
-/// from `2020-02-29`.
-#[unsafe(no_mangle)]
-pub extern "C" fn speedate_date_parse_text(text: &[u8], out: &mut SpeedateDate) -> i32
-    ensures answer { (result, out.new) ≡ written_answer shown_date out.old (date_answer text.now) }
-{
-    write_date(Date::parse_bytes_rfc3339(text), out)
-}
-
-/// Parses the date at the front of a text, and writes how many bytes it has, as
-/// [`Date::parse_front`] does: 2020-02-29, and 10, from `2020-02-29 opening balance`.
-#[unsafe(no_mangle)]
-pub extern "C" fn speedate_date_parse_front(
-    text: &[u8],
-    out: &mut SpeedateDate,
-    size: &mut usize,
-) -> i32
-    ensures answer { (result, out.new, size.new)
-        ≡ written_front shown_date out.old size.old (date_front text.now) }
-{
-    let (date, count) = answer_or_return!(Date::parse_front(text));
-    *out = SpeedateDate::from_value(&date);
-    *size = count;
-    SUCCESS
+    match form {
+        TEXT => write_date(Date::parse_bytes_rfc3339(text), out),
+        OR_TIMESTAMP => write_date(Date::parse_bytes_with_config(text, &config), out),
+        FRONT => write_front!(Date::parse_front(text) => SpeedateDate, out),
+        _ => CONFIG_OUT_OF_RANGE,
+    }
 }
 
 /// Whether the numbers are a date, as [`Date::new`] says: `SUCCESS`, or the error of the first
@@ -172,24 +160,24 @@ pub extern "C" fn speedate_date_compare(
     write_of!(first, second => *out = order_number(first.cmp(&second)))
 }
 
-/// The number of days from 0000-01-01 to a date, as [`Date::day_number`] gives it: 737,790 for
-/// 2020-01-01.
+/// The number of days from 1970-01-01 to a date, as [`Date::days_since`] gives it: 1 for 1970-01-02.
 #[unsafe(no_mangle)]
-pub extern "C" fn speedate_date_day_number(date: SpeedateDate, out: &mut u32) -> i32
+pub extern "C" fn speedate_date_days(date: SpeedateDate, out: &mut i32) -> i32
     ensures answer { (result, out.new) ≡ with_value (date_of date) (value_out_of_range, out.old)
-        (λ date. written_value (day_number date)) }
+        (λ date. written_value (days_between first_day date)) }
 {
-    write_of!(date => *out = date.day_number())
+    write_of!(date => *out = date.days_since(&FIRST_DAY))
 }
 
-/// The date of a day number, as [`Date::from_day_number`] gives it: 0000-02-29 for 59.
-/// `NO_SUCH_DATE` if the number is over 3,652,424.
+/// The date that many days after 1970-01-01, or before it for a negative number, as
+/// [`Date::checked_add_days`] gives it: 1969-12-31 for -1. `NO_SUCH_DATE` if that is before 0000-01-01
+/// or after 9999-12-31.
 #[unsafe(no_mangle)]
-pub extern "C" fn speedate_date_from_day_number(number: u32, out: &mut SpeedateDate) -> i32
+pub extern "C" fn speedate_date_from_days(days: i32, out: &mut SpeedateDate) -> i32
     ensures answer { (result, out.new)
-        ≡ written_optional_date shown_date out.old (date_numbered number) }
+        ≡ written_optional_date shown_date out.old (date_added days first_day) }
 {
-    write_some(Date::from_day_number(number), out)
+    write_some(FIRST_DAY.checked_add_days(days), out)
 }
 
 /// The day of the year, as [`Date::ordinal_day`] gives it: 366 for 2020-12-31.

@@ -1,28 +1,30 @@
 //! Date-times as C sees them.
 
-ghost use Rattle.std.specs.Prelude.{◌≡◌, ◌≢◌, ◌≤◌, length};
-ghost use Rattle.speedate.specs.DateTime.{date_and_time, date_time_answer, date_time_front};
-ghost use Rattle.speedate.specs.DateTime.{date_time_text, date_time_or_timestamp};
+ghost use Rattle.std.specs.Prelude.{◌≡◌, ◌≢◌, ◌≤◌, if◌then◌else◌, length};
+ghost use Rattle.std.specs.Ordering.{int_eq};
+ghost use Rattle.speedate.specs.DateTime.{date_and_time, date_time_text};
 ghost use Rattle.speedate.specs.DateTime.{date_time_instant_order, date_time_in_timezone, ◌gives◌};
 ghost use Rattle.speedate.specs.Requirement.{result_map};
-ghost use Rattle.speedate.specs.Strict.{strict_date_time_answer};
-ghost use Rattle.speedate_c.specs.Written.{written_answer, written_front, written_text};
+ghost use Rattle.speedate_c.specs.Written.{written_answer, written_text};
 ghost use Rattle.speedate_c.specs.Written.{written_value, with_option, with_value};
 ghost use Rattle.speedate_c.specs.Code.{answer_code, buffer_too_small, config_out_of_range};
 ghost use Rattle.speedate_c.specs.Code.{order_number, success, value_out_of_range};
 ghost use Rattle.speedate_c.specs.Config.{choices_of};
 ghost use Rattle.speedate.specs.DateTime.{date_time_text_with};
-ghost use Rattle.speedate_c.specs.DateTime.{date_time_of, shown_date_time};
-ghost use Rattle.speedate_c.specs.Time.{fraction_digits_of};
+ghost use Rattle.speedate_c.specs.DateTime.{date_time_by_form, date_time_of, shown_date_time};
+ghost use Rattle.speedate_c.specs.Time.{digits_auto, fraction_digits_of};
 
 mod part;
 mod timestamp;
 
-use crate::code::{SUCCESS, VALUE_OUT_OF_RANGE, order_number};
+use crate::code::{
+    CONFIG_OUT_OF_RANGE, FRONT, OR_TIMESTAMP, STRICT, SUCCESS, TEXT, VALUE_OUT_OF_RANGE,
+    order_number,
+};
 use crate::config::SpeedateConfig;
 use crate::date::SpeedateDate;
 use crate::text::write_text;
-use crate::time::{SpeedateTime, fraction_digits};
+use crate::time::{DIGITS_AUTO, SpeedateTime, fraction_digits};
 use arrayvec::ArrayString;
 use speedate::{DateTime, ParseError};
 
@@ -75,84 +77,33 @@ pub(crate) fn write_date_time(
     SUCCESS
 }
 
-/// Parses a date-time from a text, or from a timestamp in its place, as
-/// [`DateTime::parse_bytes_with_config`] does: 12:13:14 on 29 February 2020 from
+/// Parses a date-time in a form, under a configuration: 12:13:14 on 29 February 2020 from
 /// `2020-02-29T12:13:14`.
 ///
-/// The errors are that call's; `CONFIG_OUT_OF_RANGE` comes first.
+/// `CONFIG_OUT_OF_RANGE`, also for a number that is no form, comes before the errors of the text.
 #[unsafe(no_mangle)]
-pub extern "C" fn speedate_datetime_parse(
+pub extern "C" fn speedate_datetime_parse_value(
     text: &[u8],
+    form: i32,
     config: SpeedateConfig,
     out: &mut SpeedateDateTime,
 ) -> i32
     ensures answer { (result, out.new)
         ≡ with_option (choices_of config) (config_out_of_range, out.old)
-        (λ config. written_answer shown_date_time out.old
-        (date_time_or_timestamp config.unit config.behavior config.offset text.now)) }
+        (λ config. with_option (date_time_by_form form config text.now)
+        (config_out_of_range, out.old)
+        (λ answer. written_answer shown_date_time out.old answer)) }
 {
     let config = config_or_return!(config.to_config());
-    write_date_time(DateTime::parse_bytes_with_config(text, &config), out)
-}
-
-/// Parses a date-time from a text, and no timestamp, as
-/// [`DateTime::parse_bytes_rfc3339_with_config`] does: 12:13 on 1 January 2020 from
-/// `2020-01-01_12:13`. `CONFIG_OUT_OF_RANGE` comes first.
-#[unsafe(no_mangle)]
-pub extern "C" fn speedate_datetime_parse_text(
-    text: &[u8],
-    config: SpeedateConfig,
-    out: &mut SpeedateDateTime,
-) -> i32
-    ensures answer { (result, out.new)
-        ≡ with_option (choices_of config) (config_out_of_range, out.old)
-        (λ config. written_answer shown_date_time out.old
-        (date_time_answer config.behavior text.now)) }
-{
-    let config = config_or_return!(config.to_config());
-    let answer = DateTime::parse_bytes_rfc3339_with_config(text, &config.time_config);
-    write_date_time(answer, out)
-}
-
-/// Parses a date-time from a text of RFC 3339, and no timestamp, as [`DateTime::parse_bytes_strict`]
-/// does by the behavior of a configuration: 12:13:14 on 29 February 2020 in UTC from
-/// `2020-02-29T12:13:14Z`. `CONFIG_OUT_OF_RANGE` comes first.
-#[unsafe(no_mangle)]
-pub extern "C" fn speedate_datetime_parse_strict(
-    text: &[u8],
-    config: SpeedateConfig,
-    out: &mut SpeedateDateTime,
-) -> i32
-    ensures answer { (result, out.new)
-        ≡ with_option (choices_of config) (config_out_of_range, out.old)
-        (λ config. written_answer shown_date_time out.old
-        (strict_date_time_answer config.behavior text.now)) }
-{
-    let config = config_or_return!(config.to_config());
-    let behavior = config.time_config.microseconds_precision_overflow_behavior;
-    write_date_time(DateTime::parse_bytes_strict(text, behavior), out)
-}
-
-/// Parses the date-time at the front of a text, and writes how many bytes it has, as
-/// [`DateTime::parse_front`] does: 12:13:14Z on 22 November 2026, and 20, from
-/// `2026-11-22T12:13:14Z GET /`. `CONFIG_OUT_OF_RANGE` comes first.
-#[unsafe(no_mangle)]
-pub extern "C" fn speedate_datetime_parse_front(
-    text: &[u8],
-    config: SpeedateConfig,
-    out: &mut SpeedateDateTime,
-    size: &mut usize,
-) -> i32
-    ensures answer { (result, out.new, size.new)
-        ≡ with_option (choices_of config) (config_out_of_range, out.old, size.old)
-        (λ config. written_front shown_date_time out.old size.old
-        (date_time_front config.behavior text.now)) }
-{
-    let config = config_or_return!(config.to_config());
-    let (value, count) = answer_or_return!(DateTime::parse_front(text, &config.time_config));
-    *out = SpeedateDateTime::from_value(&value);
-    *size = count;
-    SUCCESS
+    let times = &config.time_config;
+    let behavior = times.microseconds_precision_overflow_behavior;
+    match form {
+        TEXT => write_date_time(DateTime::parse_bytes_rfc3339_with_config(text, times), out),
+        OR_TIMESTAMP => write_date_time(DateTime::parse_bytes_with_config(text, &config), out),
+        STRICT => write_date_time(DateTime::parse_bytes_strict(text, behavior), out),
+        FRONT => write_front!(DateTime::parse_front(text, times) => SpeedateDateTime, out),
+        _ => CONFIG_OUT_OF_RANGE,
+    }
 }
 
 /// Whether the numbers are a date-time: `SUCCESS`, or the error of a number that is out of range.
@@ -164,22 +115,57 @@ pub extern "C" fn speedate_datetime_check(value: SpeedateDateTime) -> i32
     code_of!(value.to_value())
 }
 
-/// Prints a date-time into a buffer, with a zero byte after it, as [`DateTime::to_text`] gives it:
-/// `2020-02-29T12:13:14.500000+01:30`. `VALUE_OUT_OF_RANGE` comes before `BUFFER_TOO_SMALL`.
+/// Prints a date-time into a buffer, with a zero byte after it, with digits as
+/// [`speedate_time_to_text`](crate::time::speedate_time_to_text) prints a time:
+/// `2020-02-29T12:13:14.500000+01:30`, and `2020-02-29T12:13:14.500+01:30` with 3.
+///
+/// `VALUE_OUT_OF_RANGE`, also for another number of digits, comes before `BUFFER_TOO_SMALL`.
 #[unsafe(no_mangle)]
 pub extern "C" fn speedate_datetime_to_text(
     value: SpeedateDateTime,
+    digits: i32,
     buffer: &mut [u8],
     text_length: &mut usize,
 ) -> i32
     ensures answer { (result, buffer.new, text_length.new)
-        ≡ with_value (date_time_of value) (value_out_of_range, buffer.old, text_length.old)
-        (λ value. written_text (date_time_text value) buffer.old text_length.old) }
+        ≡ if int_eq digits digits_auto
+        then with_value (date_time_of value) (value_out_of_range, buffer.old, text_length.old)
+        (λ value. written_text (date_time_text value) buffer.old text_length.old)
+        else with_option (fraction_digits_of digits)
+        (value_out_of_range, buffer.old, text_length.old)
+        (λ digits. with_value (date_time_of value)
+        (value_out_of_range, buffer.old, text_length.old)
+        (λ value. written_text (date_time_text_with digits value) buffer.old text_length.old)) }
     ensures room { 33 ≤ length buffer.old → result ≢ buffer_too_small }
 {
+    if digits != DIGITS_AUTO {
+        return print_with_digits(&value, digits, buffer, text_length);
+    }
     let value = value_or_return!(value);
     let DateTime { date, time } = value;
     print_by_parts!(time, time => print_date_time(&DateTime { date, time }, buffer, text_length))
+}
+
+/// Prints a date-time with that many digits after the second, and gives the code.
+fn print_with_digits(
+    value: &SpeedateDateTime,
+    digits: i32,
+    buffer: &mut [u8],
+    text_length: &mut usize,
+) -> i32
+    ensures after { (result, buffer.new, text_length.new)
+        ≡ with_option (fraction_digits_of digits) (value_out_of_range, buffer.old, text_length.old)
+        (λ digits. with_value (date_time_of value.now)
+        (value_out_of_range, buffer.old, text_length.old)
+        (λ value. written_text (date_time_text_with digits value) buffer.old text_length.old)) }
+    ensures room { 33 ≤ length buffer.old → result ≢ buffer_too_small }
+{
+    let Some(digits) = fraction_digits(digits) else {
+        return VALUE_OUT_OF_RANGE;
+    };
+    let value = value_or_return!(value);
+    let text = value.to_text_with_digits(digits);
+    write_text(text.as_str(), buffer, text_length)
 }
 
 /// Prints a date-time into a buffer, and gives the code.
@@ -192,35 +178,6 @@ fn print_date_time(value: &DateTime, buffer: &mut [u8], text_length: &mut usize)
     let mut text = ArrayString::<TEXT_MAX>::new();
     value.push_onto(&mut text);
     write_text(text.as_str(), buffer, text_length)
-}
-
-/// Prints a date-time with 0, 3 or 6 digits after the second, rounded down, as
-/// [`DateTime::to_text_with_digits`] does: `2020-02-29T12:13:14.500+01:30` with 3.
-///
-/// `VALUE_OUT_OF_RANGE` also for another number of digits. It comes before `BUFFER_TOO_SMALL`.
-#[unsafe(no_mangle)]
-pub extern "C" fn speedate_datetime_to_text_with_digits(
-    value: SpeedateDateTime,
-    digits: i32,
-    buffer: &mut [u8],
-    text_length: &mut usize,
-) -> i32
-    ensures answer { (result, buffer.new, text_length.new)
-        ≡ with_option (fraction_digits_of digits) (value_out_of_range, buffer.old, text_length.old)
-        (λ digits. with_value (date_time_of value)
-        (value_out_of_range, buffer.old, text_length.old)
-        (λ value. written_text (date_time_text_with digits value) buffer.old text_length.old)) }
-    ensures room { 33 ≤ length buffer.old → result ≢ buffer_too_small }
-{
-    let Some(digits) = fraction_digits(digits) else {
-        return VALUE_OUT_OF_RANGE;
-    };
-    let value = value_or_return!(value);
-    write_text(
-        value.to_text_with_digits(digits).as_str(),
-        buffer,
-        text_length,
-    )
 }
 
 /// Compares two date-times by their instants, as [`DateTime::cmp_instant`] does: -1 if the first

@@ -45,6 +45,37 @@ macro_rules! value_or_part {
     };
 }
 
+/// Writes the value of an answer, or the part for which a call of a kind refuses the text, and gives the
+/// code. The part of an accepted text ends where its value does.
+macro_rules! write_or_part {
+    (@ ($value:expr, $size:expr) => $shown:ident, $out:expr, $part:expr) => {{
+        *$out = $shown::from_value(&$value);
+        *$part = $crate::part::SpeedatePart {
+            place: 0,
+            end: $size,
+            kind: 0,
+        };
+        $crate::code::SUCCESS
+    }};
+    (front $answer:expr, $kind:expr, $text:expr => $shown:ident, $out:expr, $part:expr) => {{
+        let (value, size) = value_or_part!($answer, $kind, $text => $part);
+        write_or_part!(@ (value, size) => $shown, $out, $part)
+    }};
+    ($answer:expr, $kind:expr, $text:expr => $shown:ident, $out:expr, $part:expr) => {{
+        let value = value_or_part!($answer, $kind, $text => $part);
+        write_or_part!(@ (value, $text.len()) => $shown, $out, $part)
+    }};
+}
+
+/// Writes the value at the front of a text, and gives the code.
+macro_rules! write_front {
+    ($answer:expr => $shown:ident, $out:expr) => {{
+        let (value, _) = answer_or_return!($answer);
+        *$out = $shown::from_value(&value);
+        $crate::code::SUCCESS
+    }};
+}
+
 /// The code of an answer.
 macro_rules! code_of {
     ($answer:expr) => {{

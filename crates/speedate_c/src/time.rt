@@ -1,25 +1,28 @@
 //! Times of day as C sees them.
 
-ghost use Rattle.std.specs.Prelude.{◌≡◌, ◌≢◌, ◌≤◌, length};
+ghost use Rattle.std.specs.Prelude.{◌≡◌, ◌≢◌, ◌≤◌, if◌then◌else◌, length};
+ghost use Rattle.std.specs.Ordering.{int_eq};
 ghost use Rattle.std.specs.Option.{ForSome};
 ghost use Rattle.speedate.specs.Offset.{IsOffset};
 ghost use Rattle.speedate.specs.Requirement.{result_map};
-ghost use Rattle.speedate.specs.Time.{time_of_day, millisecond_of_day, second_of_day, time_answer};
-ghost use Rattle.speedate.specs.Time.{time_front, time_text, ◌gives◌, time_instant_order};
+ghost use Rattle.speedate.specs.Time.{time_of_day, millisecond_of_day, second_of_day};
+ghost use Rattle.speedate.specs.Time.{time_text, ◌gives◌, time_instant_order};
 ghost use Rattle.speedate.specs.Time.{time_in_timezone};
-ghost use Rattle.speedate.specs.Strict.{strict_time_answer};
-ghost use Rattle.speedate_c.specs.Written.{written_answer, written_front, written_text};
+ghost use Rattle.speedate_c.specs.Written.{written_answer, written_text};
 ghost use Rattle.speedate_c.specs.Written.{written_value, with_option, with_value};
 ghost use Rattle.speedate_c.specs.Code.{answer_code, buffer_too_small, config_out_of_range};
 ghost use Rattle.speedate_c.specs.Code.{order_number, success, value_out_of_range};
 ghost use Rattle.speedate_c.specs.Config.{choices_of};
 ghost use Rattle.speedate.specs.Time.{time_text_with};
-ghost use Rattle.speedate_c.specs.Time.{fraction_digits_of, shown_time, time_of};
+ghost use Rattle.speedate_c.specs.Time.{digits_auto, fraction_digits_of, shown_time, time_by_form};
+ghost use Rattle.speedate_c.specs.Time.{time_of};
 
 mod part;
 mod timestamp;
 
-use crate::code::{SUCCESS, VALUE_OUT_OF_RANGE, order_number};
+use crate::code::{
+    CONFIG_OUT_OF_RANGE, FRONT, STRICT, SUCCESS, TEXT, VALUE_OUT_OF_RANGE, order_number,
+};
 use crate::config::{SpeedateConfig, offset};
 use crate::text::write_text;
 use arrayvec::ArrayString;
@@ -27,6 +30,9 @@ use speedate::{FractionDigits, ParseError, Time};
 
 /// How many bytes the longest text of a time has.
 const TEXT_MAX: usize = 21;
+
+/// The number of digits for six after the second, or none if the microsecond is 0.
+pub(crate) const DIGITS_AUTO: i32 = -1;
 
 /// A time of day, with an offset from UTC or without one.
 #[repr(C)]
@@ -85,65 +91,30 @@ fn write_time(answer: Result<Time, ParseError>, out: &mut SpeedateTime) -> i32
     SUCCESS
 }
 
-/// Parses a time from a text under a configuration, as [`Time::parse_bytes_with_config`] does:
-/// 12:13:14.5, an hour east of UTC, from `12:13:14.5+01:00`.
+/// Parses a time in a form, under a configuration: 12:13:14.5, an hour east of UTC, from
+/// `12:13:14.5+01:00`.
 ///
-/// The errors are that call's; `CONFIG_OUT_OF_RANGE` comes first.
+/// `CONFIG_OUT_OF_RANGE`, also for a form that times lack, comes before the errors of the text.
 #[unsafe(no_mangle)]
-pub extern "C" fn speedate_time_parse(
+pub extern "C" fn speedate_time_parse_value(
     text: &[u8],
+    form: i32,
     config: SpeedateConfig,
     out: &mut SpeedateTime,
 ) -> i32
     ensures answer { (result, out.new)
         ≡ with_option (choices_of config) (config_out_of_range, out.old)
-        (λ config. written_answer shown_time out.old (time_answer config.behavior text.now)) }
+        (λ config. with_option (time_by_form form config text.now) (config_out_of_range, out.old)
+        (λ answer. written_answer shown_time out.old answer)) }
 {
-    let config = config_or_return!(config.to_config());
-    let time = Time::parse_bytes_with_config(text, &config.time_config);
-    write_time(time, out)
-}
-
-/// Parses a time from a text of RFC 3339, as [`Time::parse_bytes_strict`] does by the behavior of a
-/// configuration: 12:13:14.5, an hour east of UTC, from `12:13:14.5+01:00`.
-///
-/// The errors are that call's; `CONFIG_OUT_OF_RANGE` comes first.
-#[unsafe(no_mangle)]
-pub extern "C" fn speedate_time_parse_strict(
-    text: &[u8],
-    config: SpeedateConfig,
-    out: &mut SpeedateTime,
-) -> i32
-    ensures answer { (result, out.new)
-        ≡ with_option (choices_of config) (config_out_of_range, out.old)
-        (λ config. written_answer shown_time out.old
-        (strict_time_answer config.behavior text.now)) }
-{
-    let config = config_or_return!(config.to_config());
-    let behavior = config.time_config.microseconds_precision_overflow_behavior;
-    write_time(Time::parse_bytes_strict(text, behavior), out)
-}
-
-/// Parses the time at the front of a text, and writes how many bytes it has, as
-/// [`Time::parse_front`] does: 12:13:14Z, and 9, from `12:13:14Z GET /`. `CONFIG_OUT_OF_RANGE`
-/// comes first.
-#[unsafe(no_mangle)]
-pub extern "C" fn speedate_time_parse_front(
-    text: &[u8],
-    config: SpeedateConfig,
-    out: &mut SpeedateTime,
-    size: &mut usize,
-) -> i32
-    ensures answer { (result, out.new, size.new)
-        ≡ with_option (choices_of config) (config_out_of_range, out.old, size.old)
-        (λ config. written_front shown_time out.old size.old
-        (time_front config.behavior text.now)) }
-{
-    let config = config_or_return!(config.to_config());
-    let (time, count) = answer_or_return!(Time::parse_front(text, &config.time_config));
-    *out = SpeedateTime::from_value(&time);
-    *size = count;
-    SUCCESS
+    let config = config_or_return!(config.to_config()).time_config;
+    let behavior = config.microseconds_precision_overflow_behavior;
+    match form {
+        TEXT => write_time(Time::parse_bytes_with_config(text, &config), out),
+        STRICT => write_time(Time::parse_bytes_strict(text, behavior), out),
+        FRONT => write_front!(Time::parse_front(text, &config) => SpeedateTime, out),
+        _ => CONFIG_OUT_OF_RANGE,
+    }
 }
 
 /// Whether the numbers are a time, as [`Time::new`] says: `SUCCESS`, or the error of the first
@@ -155,37 +126,45 @@ pub extern "C" fn speedate_time_check(time: SpeedateTime) -> i32
     code_of!(time.to_value())
 }
 
-/// Prints a time into a buffer, with a zero byte after it, as [`Time::to_text`] gives it:
-/// `12:13:14.500000+01:30`. `VALUE_OUT_OF_RANGE` comes before `BUFFER_TOO_SMALL`.
+/// Prints a time into a buffer, with a zero byte after it: with -1 digits as [`Time::to_text`] does,
+/// `12:13:14.500000+01:30`, and otherwise with 0, 3 or 6 digits after the second, rounded down, as
+/// [`Time::to_text_with_digits`] does, `12:13:14.500+01:30` with 3.
+///
+/// `VALUE_OUT_OF_RANGE`, also for another number of digits, comes before `BUFFER_TOO_SMALL`.
 #[unsafe(no_mangle)]
 pub extern "C" fn speedate_time_to_text(
-    time: SpeedateTime,
-    buffer: &mut [u8],
-    text_length: &mut usize,
-) -> i32
-    ensures answer { (result, buffer.new, text_length.new)
-        ≡ with_value (time_of time) (value_out_of_range, buffer.old, text_length.old)
-        (λ time. written_text (time_text time) buffer.old text_length.old) }
-    ensures room { 22 ≤ length buffer.old → result ≢ buffer_too_small }
-{
-    let time = value_or_return!(time);
-    print_by_parts!(time, parts => print_time(&parts, buffer, text_length))
-}
-
-/// Prints a time with 0, 3 or 6 digits after the second, rounded down, as [`Time::to_text_with_digits`]
-/// does: `12:13:14.500+01:30` with 3.
-///
-/// `VALUE_OUT_OF_RANGE` also for another number of digits. It comes before `BUFFER_TOO_SMALL`.
-#[unsafe(no_mangle)]
-pub extern "C" fn speedate_time_to_text_with_digits(
     time: SpeedateTime,
     digits: i32,
     buffer: &mut [u8],
     text_length: &mut usize,
 ) -> i32
     ensures answer { (result, buffer.new, text_length.new)
-        ≡ with_option (fraction_digits_of digits) (value_out_of_range, buffer.old, text_length.old)
+        ≡ if int_eq digits digits_auto
+        then with_value (time_of time) (value_out_of_range, buffer.old, text_length.old)
+        (λ time. written_text (time_text time) buffer.old text_length.old)
+        else with_option (fraction_digits_of digits)
+        (value_out_of_range, buffer.old, text_length.old)
         (λ digits. with_value (time_of time) (value_out_of_range, buffer.old, text_length.old)
+        (λ time. written_text (time_text_with digits time) buffer.old text_length.old)) }
+    ensures room { 22 ≤ length buffer.old → result ≢ buffer_too_small }
+{
+    if digits != DIGITS_AUTO {
+        return print_with_digits(&time, digits, buffer, text_length);
+    }
+    let time = value_or_return!(time);
+    print_by_parts!(time, parts => print_time(&parts, buffer, text_length))
+}
+
+/// Prints a time with that many digits after the second, and gives the code.
+fn print_with_digits(
+    time: &SpeedateTime,
+    digits: i32,
+    buffer: &mut [u8],
+    text_length: &mut usize,
+) -> i32
+    ensures after { (result, buffer.new, text_length.new)
+        ≡ with_option (fraction_digits_of digits) (value_out_of_range, buffer.old, text_length.old)
+        (λ digits. with_value (time_of time.now) (value_out_of_range, buffer.old, text_length.old)
         (λ time. written_text (time_text_with digits time) buffer.old text_length.old)) }
     ensures room { 22 ≤ length buffer.old → result ≢ buffer_too_small }
 {
@@ -193,11 +172,8 @@ pub extern "C" fn speedate_time_to_text_with_digits(
         return VALUE_OUT_OF_RANGE;
     };
     let time = value_or_return!(time);
-    write_text(
-        time.to_text_with_digits(digits).as_str(),
-        buffer,
-        text_length,
-    )
+    let text = time.to_text_with_digits(digits);
+    write_text(text.as_str(), buffer, text_length)
 }
 
 /// The digits of a fraction that a number asks for.

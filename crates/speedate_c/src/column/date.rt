@@ -1,6 +1,6 @@
 //! Columns of dates as C sees them.
 
-ghost use Rattle.std.specs.Prelude.{◌≡◌, MatchOption};
+ghost use Rattle.std.specs.Prelude.{MatchOption, if◌then◌else◌, ◌==◌, ◌≡◌};
 ghost use Rattle.speedate_c.specs.Code.{config_out_of_range, success};
 ghost use Rattle.speedate_c.specs.Column.{IsColumn, chosen_for_dates};
 ghost use Rattle.speedate_c.specs.Column.{date_kind, date_reader, written_lines};
@@ -9,6 +9,7 @@ ghost use Rattle.speedate.specs.ColumnText.{date_line, least_of_32_bits};
 use super::{
     ColumnChoices, LineParser, SpeedateColumnConfig, SpeedateProgress, write_column, write_lines,
 };
+use crate::code::CONFIG_OUT_OF_RANGE;
 use crate::config::SpeedateConfig;
 use speedate::{CallKind, DateConfig, DatePrinter, DateReader};
 
@@ -41,10 +42,10 @@ impl LineParser {
 /// Reads the lines of a text as dates, and writes their days since 1970-01-01, as [`read_column`] does by
 /// a [`DateReader`]: 1 for `1970-01-02`.
 ///
-/// `CONFIG_OUT_OF_RANGE` and refused lines are as in [`speedate_datetime_column`]; the parser 2 is
+/// `CONFIG_OUT_OF_RANGE` and refused lines are as in [`speedate_datetime_lines`]; the parser 2 is
 /// out of range.
 #[unsafe(no_mangle)]
-pub extern "C" fn speedate_date_column(
+pub extern "C" fn speedate_date_lines(
     text: &[u8],
     config: SpeedateConfig,
     column: SpeedateColumnConfig,
@@ -75,18 +76,23 @@ pub extern "C" fn speedate_date_column(
 }
 
 /// Prints days since 1970-01-01 as dates, a line for each, as [`print_column`] does by a
-/// [`DatePrinter`]: `1970-01-02` for 1.
+/// [`DatePrinter`]: `1970-01-02` for 1. `CONFIG_OUT_OF_RANGE` for other flags than 0.
 ///
 /// A number without a line does not make the call fail: it ends the text, and the progress has the
 /// code of its error.
 #[unsafe(no_mangle)]
 pub extern "C" fn speedate_date_print_column(
     days: &[i32],
+    flags: u32,
     buffer: &mut [u8],
     progress: &mut SpeedateProgress,
 ) -> i32
     ensures answer { (result, buffer.new, progress.new)
-        ≡ written_lines date_line days.now buffer.old }
+        ≡ if flags == 0 then written_lines date_line days.now buffer.old
+        else (config_out_of_range, buffer.old, progress.old) }
 {
-    write_lines(days, &DatePrinter, buffer, progress)
+    match flags {
+        0 => write_lines(days, &DatePrinter, buffer, progress),
+        _ => CONFIG_OUT_OF_RANGE,
+    }
 }

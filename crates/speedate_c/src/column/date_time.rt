@@ -1,11 +1,11 @@
 //! Columns of date-times as C sees them: of their instants, of what their clocks show, and of their offsets.
 
-ghost use Rattle.std.specs.Prelude.{◌≡◌, MatchOption, None, Some, pos};
+ghost use Rattle.std.specs.Prelude.{◌≡◌, ◌==◌, MatchOption, None, Some, if◌then◌else◌, pos};
 ghost use Rattle.speedate.specs.Column.{clock_number, date_time_number, date_time_offset_number};
 ghost use Rattle.speedate.specs.Column.{date_time_place};
 ghost use Rattle.speedate.specs.Config.{choices};
 ghost use Rattle.speedate_c.specs.Code.{config_out_of_range, success};
-ghost use Rattle.speedate_c.specs.Column.{IsColumn, chosen_for_clocks};
+ghost use Rattle.speedate_c.specs.Column.{IsColumn, chosen_for_clocks, clock_flag};
 ghost use Rattle.speedate_c.specs.Column.{date_time_call};
 ghost use Rattle.speedate_c.specs.Column.{chosen_for_date_time_offsets, chosen_for_date_times};
 ghost use Rattle.speedate_c.specs.Column.{clock_number_by, date_time_number_by};
@@ -18,11 +18,15 @@ ghost use Rattle.speedate.specs.ColumnText.{least_of_64_bits};
 use super::{
     ColumnChoices, LineParser, SpeedateColumnConfig, SpeedateProgress, write_column, write_lines,
 };
+use crate::code::CONFIG_OUT_OF_RANGE;
 use crate::config::SpeedateConfig;
 use speedate::{
     CallKind, DateTimeClockPrinter, DateTimeClockReader, DateTimeConfig, DateTimeOffsetReader,
     DateTimeParser, DateTimePrinter, DateTimeReader,
 };
+
+/// The flag for what the clocks of date-times show.
+const CLOCK: u32 = 16;
 
 impl ColumnChoices {
     /// The parser of date-times.
@@ -147,7 +151,7 @@ fn write_offsets(
 /// a failure of the call: if it ends the column, the progress has the code of its error, and the part of the
 /// line that the error is about.
 #[unsafe(no_mangle)]
-pub extern "C" fn speedate_datetime_column(
+pub extern "C" fn speedate_datetime_lines(
     text: &[u8],
     config: SpeedateConfig,
     column: SpeedateColumnConfig,
@@ -170,7 +174,7 @@ pub extern "C" fn speedate_datetime_column(
 /// their clocks show, whatever the offset, as [`read_column`] does by a [`DateTimeClockReader`]:
 /// 3,600,000,000 for `1970-01-01T01:00+01:00`.
 ///
-/// `CONFIG_OUT_OF_RANGE` and refused lines are as in [`speedate_datetime_column`].
+/// `CONFIG_OUT_OF_RANGE` and refused lines are as in [`speedate_datetime_lines`].
 #[unsafe(no_mangle)]
 pub extern "C" fn speedate_datetime_clock_column(
     text: &[u8],
@@ -195,7 +199,7 @@ pub extern "C" fn speedate_datetime_clock_column(
 /// by a [`DateTimeOffsetReader`]: 3,600 for `1970-01-01T01:00+01:00`. A timestamp has the offset of `config`.
 /// A line without an offset is refused, with the code of `TzRequired`.
 ///
-/// `CONFIG_OUT_OF_RANGE` and refused lines are as in [`speedate_datetime_column`].
+/// `CONFIG_OUT_OF_RANGE` and refused lines are as in [`speedate_datetime_lines`].
 #[unsafe(no_mangle)]
 pub extern "C" fn speedate_datetime_offset_column(
     text: &[u8],
@@ -216,35 +220,28 @@ pub extern "C" fn speedate_datetime_offset_column(
     write_offsets(text, &config, &choices, out, errors, progress)
 }
 
-/// Prints microseconds since 1970-01-01T00:00:00 in UTC as date-times with `Z`, a line for each, as
-/// [`print_column`] does by a [`DateTimePrinter`]: `1970-01-01T00:00:01Z` for 1,000,000.
+/// Prints microseconds since 1970-01-01T00:00:00 as date-times, a line for each: with the flags 0 in UTC, as
+/// [`print_column`] does by a [`DateTimePrinter`], `1970-01-01T00:00:01Z` for 1,000,000, and with the
+/// flag `CLOCK` without an offset, as by a [`DateTimeClockPrinter`]. `CONFIG_OUT_OF_RANGE` for other flags.
 ///
 /// A number without a line ends the text, as with [`speedate_date_print_column`].
 #[unsafe(no_mangle)]
 pub extern "C" fn speedate_datetime_print_column(
     microseconds: &[i64],
+    flags: u32,
     buffer: &mut [u8],
     progress: &mut SpeedateProgress,
 ) -> i32
     ensures answer { (result, buffer.new, progress.new)
-        ≡ written_lines (date_time_line (Some (pos 0))) microseconds.now buffer.old }
+        ≡ if flags == 0
+        then written_lines (date_time_line (Some (pos 0))) microseconds.now buffer.old
+        else (if flags == clock_flag
+        then written_lines (date_time_line None) microseconds.now buffer.old
+        else (config_out_of_range, buffer.old, progress.old)) }
 {
-    write_lines(microseconds, &DateTimePrinter, buffer, progress)
-}
-
-/// Prints microseconds since 1970-01-01T00:00:00 on a clock as date-times without an offset, a line
-/// for each, as [`print_column`] does with a [`DateTimeClockPrinter`]: `1970-01-01T00:00:01` for
-/// 1,000,000.
-///
-/// A number without a line ends the text, as with [`speedate_date_print_column`].
-#[unsafe(no_mangle)]
-pub extern "C" fn speedate_datetime_clock_print_column(
-    microseconds: &[i64],
-    buffer: &mut [u8],
-    progress: &mut SpeedateProgress,
-) -> i32
-    ensures answer { (result, buffer.new, progress.new)
-        ≡ written_lines (date_time_line None) microseconds.now buffer.old }
-{
-    write_lines(microseconds, &DateTimeClockPrinter, buffer, progress)
+    match flags {
+        0 => write_lines(microseconds, &DateTimePrinter, buffer, progress),
+        CLOCK => write_lines(microseconds, &DateTimeClockPrinter, buffer, progress),
+        _ => CONFIG_OUT_OF_RANGE,
+    }
 }

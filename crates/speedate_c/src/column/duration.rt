@@ -1,6 +1,6 @@
 //! Columns of durations as C sees them.
 
-ghost use Rattle.std.specs.Prelude.{◌≡◌, MatchOption};
+ghost use Rattle.std.specs.Prelude.{MatchOption, if◌then◌else◌, ◌==◌, ◌≡◌};
 ghost use Rattle.speedate.specs.Column.{duration_number, duration_place};
 ghost use Rattle.speedate.specs.Config.{choices};
 ghost use Rattle.speedate_c.specs.Code.{config_out_of_range, success};
@@ -9,6 +9,7 @@ ghost use Rattle.speedate_c.specs.Column.{duration_number_by, duration_place_by,
 ghost use Rattle.speedate.specs.ColumnText.{duration_line, least_of_64_bits};
 
 use super::{SpeedateColumnConfig, SpeedateProgress, write_column, write_lines};
+use crate::code::CONFIG_OUT_OF_RANGE;
 use crate::config::SpeedateConfig;
 use speedate::{CallKind, DateTimeConfig, DurationPrinter, DurationReader};
 
@@ -26,9 +27,9 @@ pub(super) fn duration_reader(config: &DateTimeConfig) -> DurationReader
 /// Reads the lines of a text as durations, and writes their microseconds, with the sign, as
 /// [`read_column`] does by a [`DurationReader`]: -1,500,000 for `-PT1.5S`.
 ///
-/// `CONFIG_OUT_OF_RANGE` and refused lines are as in [`speedate_datetime_column`].
+/// `CONFIG_OUT_OF_RANGE` and refused lines are as in [`speedate_datetime_lines`].
 #[unsafe(no_mangle)]
-pub extern "C" fn speedate_duration_column(
+pub extern "C" fn speedate_duration_lines(
     text: &[u8],
     config: SpeedateConfig,
     column: SpeedateColumnConfig,
@@ -62,11 +63,16 @@ pub extern "C" fn speedate_duration_column(
 #[unsafe(no_mangle)]
 pub extern "C" fn speedate_duration_print_column(
     microseconds: &[i64],
+    flags: u32,
     buffer: &mut [u8],
     progress: &mut SpeedateProgress,
 ) -> i32
     ensures answer { (result, buffer.new, progress.new)
-        ≡ written_lines duration_line microseconds.now buffer.old }
+        ≡ if flags == 0 then written_lines duration_line microseconds.now buffer.old
+        else (config_out_of_range, buffer.old, progress.old) }
 {
-    write_lines(microseconds, &DurationPrinter, buffer, progress)
+    match flags {
+        0 => write_lines(microseconds, &DurationPrinter, buffer, progress),
+        _ => CONFIG_OUT_OF_RANGE,
+    }
 }

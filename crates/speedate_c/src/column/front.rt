@@ -40,10 +40,10 @@ impl ColumnChoices {
 /// 1970-01-01T00:00:00 in UTC, and how many bytes of its line it takes, as [`read_column`] does by a
 /// [`DateTimeFrontReader`]: 1,000,000 and 20 for `1970-01-01T00:00:01Z GET /`.
 ///
-/// `CONFIG_OUT_OF_RANGE` and refused lines are as in [`speedate_datetime_column`]; the parsers 1 and 2 are
+/// `CONFIG_OUT_OF_RANGE` and refused lines are as in [`speedate_datetime_lines`]; the parsers 1 and 2 are
 /// out of range. The size of a refused line is 0.
 #[unsafe(no_mangle)]
-pub extern "C" fn speedate_datetime_front_column(
+pub extern "C" fn speedate_datetime_front_lines(
     text: &[u8],
     config: SpeedateConfig,
     column: SpeedateColumnConfig,

@@ -1,7 +1,7 @@
 //! Columns of times as C sees them: of what their clocks show, and of their offsets.
 
 ghost use Rattle.std.specs.Option.{option_map};
-ghost use Rattle.std.specs.Prelude.{◌≡◌, MatchOption};
+ghost use Rattle.std.specs.Prelude.{MatchOption, if◌then◌else◌, ◌==◌, ◌≡◌};
 ghost use Rattle.speedate.specs.Column.{time_of_line, time_place};
 ghost use Rattle.speedate.specs.Config.{choices};
 ghost use Rattle.speedate_c.specs.Code.{config_out_of_range, success};
@@ -13,6 +13,7 @@ ghost use Rattle.speedate.specs.ColumnText.{least_of_32_bits, least_of_64_bits, 
 use super::{
     ColumnChoices, LineParser, SpeedateColumnConfig, SpeedateProgress, write_column, write_lines,
 };
+use crate::code::CONFIG_OUT_OF_RANGE;
 use crate::config::SpeedateConfig;
 use speedate::{CallKind, DateTimeConfig, TimeOffsetReader, TimeParser, TimePrinter, TimeReader};
 
@@ -50,10 +51,10 @@ impl LineParser {
 /// Reads the lines of a text as times, and writes the microseconds after midnight that their clocks show,
 /// whatever the offset, as [`read_column`] does by a [`TimeReader`]: 43,994,500,000 for `12:13:14.5`.
 ///
-/// `CONFIG_OUT_OF_RANGE` and refused lines are as in [`speedate_datetime_column`]; the parser 1 is
+/// `CONFIG_OUT_OF_RANGE` and refused lines are as in [`speedate_datetime_lines`]; the parser 1 is
 /// out of range.
 #[unsafe(no_mangle)]
-pub extern "C" fn speedate_time_column(
+pub extern "C" fn speedate_time_lines(
     text: &[u8],
     config: SpeedateConfig,
     column: SpeedateColumnConfig,
@@ -88,7 +89,7 @@ pub extern "C" fn speedate_time_column(
 /// [`TimeOffsetReader`]: 3,600 for `12:13+01:00`. A line without an offset is refused, with the code of
 /// `TzRequired`.
 ///
-/// `CONFIG_OUT_OF_RANGE` and refused lines are as in [`speedate_datetime_column`]; the parser 1 is
+/// `CONFIG_OUT_OF_RANGE` and refused lines are as in [`speedate_datetime_lines`]; the parser 1 is
 /// out of range.
 #[unsafe(no_mangle)]
 pub extern "C" fn speedate_time_offset_column(
@@ -129,11 +130,16 @@ pub extern "C" fn speedate_time_offset_column(
 #[unsafe(no_mangle)]
 pub extern "C" fn speedate_time_print_column(
     microseconds: &[i64],
+    flags: u32,
     buffer: &mut [u8],
     progress: &mut SpeedateProgress,
 ) -> i32
     ensures answer { (result, buffer.new, progress.new)
-        ≡ written_lines time_line microseconds.now buffer.old }
+        ≡ if flags == 0 then written_lines time_line microseconds.now buffer.old
+        else (config_out_of_range, buffer.old, progress.old) }
 {
-    write_lines(microseconds, &TimePrinter, buffer, progress)
+    match flags {
+        0 => write_lines(microseconds, &TimePrinter, buffer, progress),
+        _ => CONFIG_OUT_OF_RANGE,
+    }
 }

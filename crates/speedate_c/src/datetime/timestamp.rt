@@ -20,7 +20,7 @@ use speedate::{DateTime, timestamp_microseconds};
 ///
 /// The errors are that call's; `CONFIG_OUT_OF_RANGE` comes first.
 #[unsafe(no_mangle)]
-pub extern "C" fn speedate_datetime_from_timestamp(
+pub extern "C" fn speedate_datetime_of_timestamp(
     timestamp: i64,
     microsecond: u32,
     config: SpeedateConfig,
