@@ -8,7 +8,6 @@
  *
  * - A Date, Time, DateTime or Duration is always in range. `of` makes one of numbers, and refuses those that are not.
  * - A call that can refuse returns a Result, which has a value or an Error. A call that cannot returns its value.
- * - Arguments come in one order: what is read, and then the configuration, which may be left out.
  * - A text is a std::string_view, and what is printed a std::string. Nothing else allocates memory.
  * - No call throws but Result::value, where there are exceptions, and what std::string throws.
  * - Values have std::hash, and std::formatter where the library of C++ has it: std::format("{:>12}", date).
@@ -24,6 +23,7 @@
 
 #include "speedate.h"
 
+#include <algorithm>
 #include <chrono>
 #include <cstddef>
 #include <cstdint>
@@ -58,54 +58,45 @@ namespace speedate {
 
 /* ---- Errors and results ---- */
 
-/* Why a call refuses: a code of speedate.h other than SPEEDATE_OK. */
+/* Why a call refuses: a code of speedate.h other than SPEEDATE_OK, and the part of the text that a parser refuses. */
 class Error {
   public:
-    explicit Error(int code) noexcept : code_(code) {}
+    /* For a code that a column has written for a line, the part has just the kind: {0, 0, SPEEDATE_KIND_DATE}. */
+    explicit Error(int code, SpeedatePart part = SPEEDATE_PART_NONE) noexcept : code_(code), part_(part) {}
 
     /* A number of SpeedateCode: error.code() == SPEEDATE_OUT_OF_RANGE_DAY. */
     int code() const noexcept { return code_; }
 
     /* "out_of_range_day". It is "unknown code" for a code that the library does not know. */
-    std::string name() const { return printed("unknown code", speedate_code_name); }
+    const char *name() const noexcept { return speedate_code_string(code_); }
 
-    /* "day value is outside expected range". */
-    std::string documentation() const { return printed("unknown code", speedate_code_documentation); }
+    /* Where the part of the text begins, and where it ends: 8 and 10 for "2021-02-29". */
+    std::size_t start() const noexcept { return part_.start; }
+    std::size_t end() const noexcept { return part_.end; }
+    const SpeedatePart &part() const noexcept { return part_; }
 
-    /* What the call expected that refused a text for it, and wrote the part: "month, 01 to 12". For a code that a column
-     * has written for a line, the part has just the kind: {0, 0, SPEEDATE_KIND_DATE}. */
-    std::string expected(const SpeedatePart &part) const {
-        return printed("unknown code or kind", [&](int code, auto... out) {
-            return speedate_code_expected(code, &part, out...);
-        });
-    }
-
-    /* Where the part ends that it is about, in a text that is refused for it at a place: 7 in "2020-13-01", from 5 on. It is
-     * the place for a code that is not a fault of a text. */
-    std::size_t part_end(std::string_view text, std::size_t place) const noexcept {
-        std::size_t end = place;
-        return speedate_code_part_end(code_, text.data(), text.size(), place, &end) == SPEEDATE_OK ? end : place;
-    }
-
-    friend bool operator==(Error first, Error second) noexcept { return first.code_ == second.code_; }
-    friend bool operator!=(Error first, Error second) noexcept { return first.code_ != second.code_; }
-    friend std::ostream &operator<<(std::ostream &to, Error error) { return to << error.name(); }
-
-  private:
-    template <typename Call>
-    std::string printed(const char *unknown, Call call) const {
+    /* What was expected there: "a day that the month has". */
+    std::string expected() const {
         char text[SPEEDATE_CODE_TEXT_SIZE];
         std::size_t length;
-        return call(code_, text, sizeof text, &length) == SPEEDATE_OK ? std::string(text, length) : unknown;
+        const int code = speedate_code_expected(code_, &part_, text, sizeof text, &length);
+        return code == SPEEDATE_OK ? std::string(text, length) : "unknown code or kind";
     }
 
+    /* Errors are equal if their codes are. */
+    friend bool operator==(const Error &first, const Error &second) noexcept { return first.code_ == second.code_; }
+    friend bool operator!=(const Error &first, const Error &second) noexcept { return first.code_ != second.code_; }
+    friend std::ostream &operator<<(std::ostream &to, const Error &error) { return to << error.name(); }
+
+  private:
     int code_;
+    SpeedatePart part_;
 };
 
 /* What Result::value throws if there is none. */
 class Failure : public std::runtime_error {
   public:
-    explicit Failure(Error error) : std::runtime_error(error.name()), error_(error) {}
+    explicit Failure(const Error &error) : std::runtime_error(error.name()), error_(error) {}
     Error error() const noexcept { return error_; }
 
   private:
@@ -116,8 +107,8 @@ class Failure : public std::runtime_error {
  */
 template <class T> class [[nodiscard]] Result {
   public:
-    Result(const T &value) : value_(value) {}
-    Result(Error error) noexcept : error_(error) {}
+    Result(const T &value, std::size_t size = 0) : value_(value), size_(size) {}
+    Result(const Error &error) noexcept : error_(error) {}
 
     bool has_value() const noexcept { return value_.has_value(); }
     explicit operator bool() const noexcept { return has_value(); }
@@ -140,32 +131,16 @@ template <class T> class [[nodiscard]] Result {
 
     T value_or(const T &other) const { return value_ ? *value_ : other; }
 
+    /* How many bytes of the text the value takes, if a parser returned it: with Form::Front it ends there. */
+    std::size_t size() const noexcept { return size_; }
+
     /* The error. Call it only if the value is missing. */
-    Error error() const noexcept { return error_; }
+    const Error &error() const noexcept { return error_; }
 
   private:
     std::optional<T> value_;
+    std::size_t size_ = 0;
     Error error_{SPEEDATE_OK};
-};
-
-/* The result of a call that says which part of a text it refuses, or SPEEDATE_PART_NONE where it refuses none:
- * if (auto date = Date::parse_or_part(text)) use(*date); else underline(date.part().place, date.part().end); */
-template <class T> class [[nodiscard]] OrPart : public Result<T> {
-  public:
-    OrPart(const Result<T> &result, const SpeedatePart &part) : Result<T>(result), part_(part) {}
-    const SpeedatePart &part() const noexcept { return part_; }
-
-    /* What was expected in place of the part. Call it only if the value is missing. */
-    std::string expected() const { return this->error().expected(part_); }
-
-  private:
-    SpeedatePart part_;
-};
-
-/* A value at the front of a text, and how many bytes of the text it takes. */
-template <class T> struct Front {
-    T value;
-    std::size_t size;
 };
 
 /* ---- Configurations ---- */
@@ -184,15 +159,16 @@ enum class Overflow : std::uint8_t { Error = SPEEDATE_OVERFLOW_ERROR, Truncate =
 /* The order of the components of an ISO 8601 duration: SPEEDATE_ORDER_LAX and so on. */
 enum class Order : std::uint8_t { Lax = SPEEDATE_ORDER_LAX, Strict = SPEEDATE_ORDER_STRICT };
 
-/* How a line of a column is parsed: SPEEDATE_PARSER_TEXT and so on. */
-enum class Parser : std::uint8_t {
-    Text = SPEEDATE_PARSER_TEXT,
-    OrTimestamp = SPEEDATE_PARSER_OR_TIMESTAMP,
-    Strict = SPEEDATE_PARSER_STRICT
+/* How a text is read: SPEEDATE_TEXT and so on. A form that a type lacks is SPEEDATE_CONFIG_OUT_OF_RANGE. */
+enum class Form {
+    Text = SPEEDATE_TEXT,
+    OrTimestamp = SPEEDATE_OR_TIMESTAMP,
+    Strict = SPEEDATE_STRICT,
+    Front = SPEEDATE_FRONT
 };
 
-/* How many digits of a second to_text prints, rounded down: without one, six, or none if they are 0. */
-enum class FractionDigits { Zero = 0, Three = 3, Six = 6 };
+/* How many digits of a second to_text prints, rounded down: with Auto six, or none if they are 0. */
+enum class FractionDigits { Auto = SPEEDATE_DIGITS_AUTO, Zero = 0, Three = 3, Six = 6 };
 
 /* How texts and timestamps are parsed, as SpeedateConfig says. Config() is the default. */
 struct Config {
@@ -212,22 +188,20 @@ struct Config {
     }
 };
 
-/* How a column is read, as SpeedateColumnConfig says. ColumnConfig() is the default. */
+/* How a column is read: the form, the configuration, and the flags of speedate.h. ColumnConfig() is the default,
+ * which reads the last line too. */
 struct ColumnConfig {
+    Form form = Form::Text;
+    Config config = {};
     bool at_end = true;
-    bool drops_returns = false;
-    Parser parser = Parser::Text;
-    bool assumes_utc = false;
-    bool goes_on = false;
+    bool drop_returns = false;
+    bool assume_utc = false;
+    bool go_on = false;
+    bool clock = false;
 
-    SpeedateColumnConfig c() const noexcept {
-        SpeedateColumnConfig to = SPEEDATE_COLUMN_CONFIG_DEFAULT;
-        to.at_end = at_end;
-        to.drops_returns = drops_returns;
-        to.parser = static_cast<std::uint8_t>(parser);
-        to.assumes_utc = assumes_utc;
-        to.goes_on = goes_on;
-        return to;
+    unsigned flags() const noexcept {
+        return (at_end ? SPEEDATE_AT_END : 0u) | (drop_returns ? SPEEDATE_DROP_RETURNS : 0u) |
+               (assume_utc ? SPEEDATE_ASSUME_UTC : 0u) | (go_on ? SPEEDATE_GO_ON : 0u) | (clock ? SPEEDATE_CLOCK : 0u);
     }
 };
 
@@ -250,8 +224,16 @@ template <class T, class C, class Call> Result<T> written(Call call) {
     return T(out);
 }
 
-/* The same for a value of which C++ has no type of its own. */
-template <class T, class Call> Result<T> number(Call call) { return written<T, T>(call); }
+/* The value that a parser writes, and its size, or the part that it refuses. */
+template <class T, class C, class Call> Result<T> parsed(Call call, std::string_view text, Form form, const Config &config) {
+    C out;
+    SpeedatePart part;
+    const SpeedateConfig of = config.c();
+    const int code = call(text.data(), text.size(), static_cast<int>(form), &of, &out, &part);
+    if (code != SPEEDATE_OK)
+        return Error(code, part);
+    return Result<T>(T(out), part.end);
+}
 
 /* The value of a call that cannot refuse, of one argument or two. */
 template <class C, class T> T sure(int (*call)(C, T *), C value) noexcept {
@@ -265,28 +247,8 @@ template <class C, class T> T sure(int (*call)(C, C, T *), C first, C second) no
     return out;
 }
 
-template <class T, class C, class Call> Result<Front<T>> front(Call call) {
-    C out;
-    std::size_t taken;
-    const int code = call(&out, &taken);
-    if (code != SPEEDATE_OK)
-        return Error(code);
-    return Front<T>{T(out), taken};
-}
-
-template <class T, class C, class Call> OrPart<T> or_part(Call call) {
-    SpeedatePart part;
-    const Result<T> result = written<T, C>([&](auto *out) { return call(out, &part); });
-    return {result, part};
-}
-template <class T, class C, class Call> OrPart<Front<T>> front_or_part(Call call) {
-    SpeedatePart part;
-    const Result<Front<T>> result = front<T, C>([&](auto... out) { return call(out..., &part); });
-    return {result, part};
-}
-
-/* An integer of any type, none of which wraps: one that does not fit 64 bits with a sign is the nearest that does, and no
- * field may have that. */
+/* An integer of any type, none of which wraps: one that does not fit 64 bits with a sign is the nearest that does,
+ * and no field may have that. */
 class Whole {
   public:
     template <class Integer, std::enable_if_t<std::is_integral_v<Integer>, int> = 0>
@@ -373,57 +335,19 @@ class Date : public detail::Ordered<Date> {
     std::uint8_t day() const noexcept { return c_.day; }
     const SpeedateDate &c() const noexcept { return c_; }
 
-    static Result<Date> parse(std::string_view text, const Config &config = {}) {
-        return from_c([&](auto *out) { return speedate_date_parse(text.data(), text.size(), config.c(), out); });
+    static Result<Date> parse(std::string_view text, Form form = Form::Text, const Config &config = {}) {
+        return detail::parsed<Date, SpeedateDate>(speedate_date_parse, text, form, config);
     }
-    static Result<Date> parse_text(std::string_view text) {
-        return from_c([&](auto *out) { return speedate_date_parse_text(text.data(), text.size(), out); });
-    }
-    static Result<Front<Date>> parse_front(std::string_view text) {
-        return detail::front<Date, SpeedateDate>(
-            [&](auto... out) { return speedate_date_parse_front(text.data(), text.size(), out...); });
-    }
-
-    /* What the parser of that name returns, and the part of a text that it refuses. */
-    static OrPart<Date> parse_or_part(std::string_view text, const Config &config = {}) {
-        return detail::or_part<Date, SpeedateDate>(
-            [&](auto... out) { return speedate_date_parse_or_part(text.data(), text.size(), config.c(), out...); });
-    }
-    static OrPart<Date> parse_or_part_text(std::string_view text) {
-        return detail::or_part<Date, SpeedateDate>(
-            [&](auto... out) { return speedate_date_parse_or_part_text(text.data(), text.size(), out...); });
-    }
-    static OrPart<Front<Date>> parse_or_part_front(std::string_view text) {
-        return detail::front_or_part<Date, SpeedateDate>(
-            [&](auto... out) { return speedate_date_parse_or_part_front(text.data(), text.size(), out...); });
-    }
-
-    template <class Flag, detail::IfBool<Flag> = 0>
-    static Result<Date> from_timestamp(std::int64_t timestamp, Flag require_exact, const Config &config = {}) {
-        return from_c(
-            [&](auto *out) { return speedate_date_from_timestamp(timestamp, require_exact, config.c(), out); });
-    }
-    static Result<Date> from_day_number(std::uint32_t number) {
-        return from_c([&](auto *out) { return speedate_date_from_day_number(number, out); });
-    }
-
     std::string to_text() const { return detail::text<SPEEDATE_DATE_TEXT_SIZE>(speedate_date_to_text, c_); }
-    std::int64_t timestamp() const noexcept { return detail::sure(speedate_date_timestamp, c_); }
-    std::int64_t timestamp_ms() const noexcept { return detail::sure(speedate_date_timestamp_ms, c_); }
-    std::uint32_t day_number() const noexcept { return detail::sure(speedate_date_day_number, c_); }
-    std::uint16_t ordinal_day() const noexcept { return detail::sure(speedate_date_ordinal_day, c_); }
-    Result<Date> add_days(std::int32_t days) const {
-        return from_c([&](auto *out) { return speedate_date_add_days(c_, days, out); });
-    }
-    /* The days from one date to another, negative if `later` is the earlier one. */
-    static std::int32_t days_between(const Date &earlier, const Date &later) noexcept {
-        return detail::sure(speedate_date_days_between, earlier.c_, later.c_);
+
+    /* The days since 1970-01-01, and the date of such a number. */
+    std::int32_t days() const noexcept { return detail::sure(speedate_date_days, c_); }
+    static Result<Date> from_days(std::int32_t days) {
+        return detail::written<Date, SpeedateDate>([&](auto *out) { return speedate_date_from_days(days, out); });
     }
 
     /* Negative if the first is the earlier one, 0 if they are equal, otherwise positive. */
-    friend int compare(const Date &first, const Date &second) noexcept {
-        return detail::sure(speedate_date_compare, first.c_, second.c_);
-    }
+    friend int compare(const Date &first, const Date &second) noexcept { return first.days() - second.days(); }
     friend std::ostream &operator<<(std::ostream &to, const Date &date) { return to << date.to_text(); }
 
 #ifdef SPEEDATE_HAS_CALENDAR
@@ -439,30 +363,24 @@ class Date : public detail::Ordered<Date> {
     /* The date of a day of chrono, or SPEEDATE_NO_SUCH_DATE outside the years 0000 to 9999. */
     template <class Day, std::enable_if_t<std::is_same_v<Day, std::chrono::sys_days>, int> = 0>
     static Result<Date> of(Day day) {
-        const std::int32_t days = detail::Whole(day.time_since_epoch().count()).in<std::int32_t>();
-        return from_c([&](auto *out) { return speedate_date_add_days(SpeedateDate{1970, 1, 1}, days, out); });
+        return from_days(detail::Whole(day.time_since_epoch().count()).in<std::int32_t>());
     }
-    std::chrono::sys_days sys_days() const noexcept {
-        const SpeedateDate epoch = {1970, 1, 1};
-        return std::chrono::sys_days(std::chrono::days(detail::sure(speedate_date_days_between, epoch, c_)));
-    }
+    std::chrono::sys_days sys_days() const noexcept { return std::chrono::sys_days(std::chrono::days(days())); }
 #endif
 
   private:
     template <class T, class C, class Call> friend Result<T> detail::written(Call);
-    template <class T, class C, class Call> friend Result<Front<T>> detail::front(Call);
+    template <class T, class C, class Call>
+    friend Result<T> detail::parsed(Call, std::string_view, Form, const Config &);
     friend class DateTime;
-    friend class Duration;
     explicit Date(SpeedateDate date) noexcept : c_(date) {}
-    template <class Call> static Result<Date> from_c(Call call) { return detail::written<Date, SpeedateDate>(call); }
 
     SpeedateDate c_;
 };
 
 /* ---- Times ---- */
 
-/* A time of day, with an offset from UTC or without one. `==` compares clocks and offsets. A mixture of times with
- * and without an offset has no order by which it can be sorted: speedate_time_compare in speedate.h says more. */
+/* A time of day, with an offset from UTC or without one. `==` compares clocks and offsets. */
 class Time : public detail::Equal<Time> {
   public:
     /* The time of its numbers, or SPEEDATE_OUT_OF_RANGE_HOUR, _MINUTE or _SECOND, SPEEDATE_TIME_TOO_LARGE for the
@@ -492,191 +410,27 @@ class Time : public detail::Equal<Time> {
     }
     const SpeedateTime &c() const noexcept { return c_; }
 
-    static Result<Time> parse(std::string_view text, const Config &config = {}) {
-        return from_c([&](auto *out) { return speedate_time_parse(text.data(), text.size(), config.c(), out); });
+    static Result<Time> parse(std::string_view text, Form form = Form::Text, const Config &config = {}) {
+        return detail::parsed<Time, SpeedateTime>(speedate_time_parse, text, form, config);
     }
-    static Result<Time> parse_strict(std::string_view text, const Config &config = {}) {
-        return from_c([&](auto *out) { return speedate_time_parse_strict(text.data(), text.size(), config.c(), out); });
-    }
-    static Result<Front<Time>> parse_front(std::string_view text, const Config &config = {}) {
-        return detail::front<Time, SpeedateTime>(
-            [&](auto... out) { return speedate_time_parse_front(text.data(), text.size(), config.c(), out...); });
-    }
-
-    /* What the parser of that name returns, and the part of a text that it refuses. */
-    static OrPart<Time> parse_or_part(std::string_view text, const Config &config = {}) {
-        return detail::or_part<Time, SpeedateTime>(
-            [&](auto... out) { return speedate_time_parse_or_part(text.data(), text.size(), config.c(), out...); });
-    }
-    static OrPart<Time> parse_or_part_strict(std::string_view text, const Config &config = {}) {
-        return detail::or_part<Time, SpeedateTime>([&](auto... out) {
-            return speedate_time_parse_or_part_strict(text.data(), text.size(), config.c(), out...);
-        });
-    }
-    static OrPart<Front<Time>> parse_or_part_front(std::string_view text, const Config &config = {}) {
-        return detail::front_or_part<Time, SpeedateTime>([&](auto... out) {
-            return speedate_time_parse_or_part_front(text.data(), text.size(), config.c(), out...);
-        });
-    }
-
-    static Result<Time> from_timestamp(std::uint32_t second, std::uint32_t microsecond, const Config &config = {}) {
-        return from_c([&](auto *out) { return speedate_time_from_timestamp(second, microsecond, config.c(), out); });
-    }
-
-    std::string to_text() const { return detail::text<SPEEDATE_TIME_TEXT_SIZE>(speedate_time_to_text, c_); }
-    std::string to_text(FractionDigits digits) const {
-        return detail::text<SPEEDATE_TIME_TEXT_SIZE>(speedate_time_to_text_with_digits, c_, static_cast<int>(digits));
-    }
-    std::uint32_t total_seconds() const noexcept { return detail::sure(speedate_time_total_seconds, c_); }
-    std::uint32_t total_ms() const noexcept { return detail::sure(speedate_time_total_ms, c_); }
-    Result<Time> in_timezone(std::int32_t offset) const {
-        return from_c([&](auto *out) { return speedate_time_in_timezone(c_, offset, out); });
-    }
-
-    /* As speedate_time_compare says: 0 if both are the same instant. */
-    friend int compare_instants(const Time &first, const Time &second) noexcept {
-        return detail::sure(speedate_time_compare, first.c_, second.c_);
+    std::string to_text(FractionDigits digits = FractionDigits::Auto) const {
+        return detail::text<SPEEDATE_TIME_TEXT_SIZE>(speedate_time_to_text, c_, static_cast<int>(digits));
     }
     friend std::ostream &operator<<(std::ostream &to, const Time &time) { return to << time.to_text(); }
 
   private:
     template <class T, class C, class Call> friend Result<T> detail::written(Call);
-    template <class T, class C, class Call> friend Result<Front<T>> detail::front(Call);
+    template <class T, class C, class Call>
+    friend Result<T> detail::parsed(Call, std::string_view, Form, const Config &);
     friend class DateTime;
     explicit Time(SpeedateTime time) noexcept : c_(time) {}
-    template <class Call> static Result<Time> from_c(Call call) { return detail::written<Time, SpeedateTime>(call); }
 
     SpeedateTime c_;
 };
 
-/* ---- Date-times ---- */
-
-/* A moment of std::chrono. C++20 calls it std::chrono::sys_time<std::chrono::microseconds>. */
-using SysTime = std::chrono::time_point<std::chrono::system_clock, std::chrono::microseconds>;
-
-/* A date and a time of day. What is said of the order of times holds here too. */
-class DateTime : public detail::Equal<DateTime> {
-  public:
-    DateTime(const Date &date, const Time &time) noexcept : c_{date.c(), time.c()} {}
-    static Result<DateTime> of(SpeedateDateTime value) {
-        const int code = speedate_datetime_check(value);
-        if (code != SPEEDATE_OK)
-            return Error(code);
-        if (!value.time.has_offset)
-            value.time.offset = 0;
-        return DateTime(value);
-    }
-
-    Date date() const noexcept { return Date(c_.date); }
-    Time time() const noexcept { return Time(c_.time); }
-    const SpeedateDateTime &c() const noexcept { return c_; }
-
-    static Result<DateTime> parse(std::string_view text, const Config &config = {}) {
-        return from_c([&](auto *out) { return speedate_datetime_parse(text.data(), text.size(), config.c(), out); });
-    }
-    static Result<DateTime> parse_text(std::string_view text, const Config &config = {}) {
-        return from_c(
-            [&](auto *out) { return speedate_datetime_parse_text(text.data(), text.size(), config.c(), out); });
-    }
-    static Result<DateTime> parse_strict(std::string_view text, const Config &config = {}) {
-        return from_c(
-            [&](auto *out) { return speedate_datetime_parse_strict(text.data(), text.size(), config.c(), out); });
-    }
-    static Result<Front<DateTime>> parse_front(std::string_view text, const Config &config = {}) {
-        return detail::front<DateTime, SpeedateDateTime>(
-            [&](auto... out) { return speedate_datetime_parse_front(text.data(), text.size(), config.c(), out...); });
-    }
-
-    /* What the parser of that name returns, and the part of a text that it refuses. */
-    static OrPart<DateTime> parse_or_part(std::string_view text, const Config &config = {}) {
-        return detail::or_part<DateTime, SpeedateDateTime>(
-            [&](auto... out) { return speedate_datetime_parse_or_part(text.data(), text.size(), config.c(), out...); });
-    }
-    static OrPart<DateTime> parse_or_part_text(std::string_view text, const Config &config = {}) {
-        return detail::or_part<DateTime, SpeedateDateTime>([&](auto... out) {
-            return speedate_datetime_parse_or_part_text(text.data(), text.size(), config.c(), out...);
-        });
-    }
-    static OrPart<DateTime> parse_or_part_strict(std::string_view text, const Config &config = {}) {
-        return detail::or_part<DateTime, SpeedateDateTime>([&](auto... out) {
-            return speedate_datetime_parse_or_part_strict(text.data(), text.size(), config.c(), out...);
-        });
-    }
-    static OrPart<Front<DateTime>> parse_or_part_front(std::string_view text, const Config &config = {}) {
-        return detail::front_or_part<DateTime, SpeedateDateTime>([&](auto... out) {
-            return speedate_datetime_parse_or_part_front(text.data(), text.size(), config.c(), out...);
-        });
-    }
-
-    static Result<DateTime> from_timestamp(std::int64_t timestamp, std::uint32_t microsecond,
-                                           const Config &config = {}) {
-        return from_c(
-            [&](auto *out) { return speedate_datetime_from_timestamp(timestamp, microsecond, config.c(), out); });
-    }
-
-    /* The microseconds of a timestamp, as a column of date-times has them. */
-    static Result<std::int64_t> timestamp_microseconds(std::int64_t timestamp, const Config &config = {}) {
-        return detail::number<std::int64_t>(
-            [&](auto *out) { return speedate_datetime_timestamp_microseconds(timestamp, config.c(), out); });
-    }
-
-    std::string to_text() const { return detail::text<SPEEDATE_DATETIME_TEXT_SIZE>(speedate_datetime_to_text, c_); }
-    std::string to_text(FractionDigits digits) const {
-        return detail::text<SPEEDATE_DATETIME_TEXT_SIZE>(speedate_datetime_to_text_with_digits, c_,
-                                                         static_cast<int>(digits));
-    }
-    /* Unix time. */
-    std::int64_t unix_seconds() const noexcept { return detail::sure(speedate_datetime_unix_seconds, c_); }
-    std::int64_t unix_milliseconds() const noexcept { return detail::sure(speedate_datetime_unix_milliseconds, c_); }
-    std::int64_t unix_microseconds() const noexcept { return detail::sure(speedate_datetime_unix_microseconds, c_); }
-    /* What the clock shows, whatever the offset. */
-    std::int64_t clock_seconds() const noexcept { return detail::sure(speedate_datetime_clock_seconds, c_); }
-    std::int64_t clock_milliseconds() const noexcept { return detail::sure(speedate_datetime_clock_milliseconds, c_); }
-    Result<DateTime> in_timezone(std::int32_t offset) const {
-        return from_c([&](auto *out) { return speedate_datetime_in_timezone(c_, offset, out); });
-    }
-
-    /* The moment of a date-time. One without an offset is taken to be in UTC. */
-    SysTime sys_time() const noexcept { return SysTime(std::chrono::microseconds(unix_microseconds())); }
-    /* The date-time of a moment, such as std::chrono::system_clock::now(), in UTC; digits past the microsecond are
-     * rounded down. It fails with SPEEDATE_DATE_TOO_SMALL or SPEEDATE_DATE_TOO_LARGE outside the years 0000 to 9999. */
-    template <class Number, class Period>
-    static Result<DateTime>
-    of(std::chrono::time_point<std::chrono::system_clock, std::chrono::duration<Number, Period>> moment) {
-        constexpr bool in_seconds = std::ratio_equal_v<Period, std::ratio<1>>;
-        constexpr bool in_milliseconds = std::ratio_equal_v<Period, std::milli>;
-        static_assert(std::is_integral_v<Number> && std::is_signed_v<Number>, "a moment has a whole number with a sign");
-        static_assert(in_seconds || in_milliseconds || std::ratio_less_equal_v<Period, std::micro>,
-                      "a moment in any other unit has to be cast to seconds first");
-        Config config;
-        config.timestamp_offset = 0;
-        config.timestamp_unit = in_seconds ? Unit::Second : in_milliseconds ? Unit::Millisecond : Unit::Microsecond;
-        if constexpr (in_seconds || in_milliseconds)
-            return from_timestamp(moment.time_since_epoch().count(), 0, config);
-        else
-            return from_timestamp(std::chrono::floor<std::chrono::microseconds>(moment).time_since_epoch().count(), 0,
-                                  config);
-    }
-
-    /* As speedate_datetime_compare says: 0 if both are the same instant. */
-    friend int compare_instants(const DateTime &first, const DateTime &second) noexcept {
-        return detail::sure(speedate_datetime_compare, first.c_, second.c_);
-    }
-    friend std::ostream &operator<<(std::ostream &to, const DateTime &value) { return to << value.to_text(); }
-
-  private:
-    template <class T, class C, class Call> friend Result<T> detail::written(Call);
-    template <class T, class C, class Call> friend Result<Front<T>> detail::front(Call);
-    friend class Duration;
-    explicit DateTime(SpeedateDateTime value) noexcept : c_(value) {}
-    template <class Call> static Result<DateTime> from_c(Call call) {
-        return detail::written<DateTime, SpeedateDateTime>(call);
-    }
-
-    SpeedateDateTime c_;
-};
-
 /* ---- Durations ---- */
+
+class DateTime;
 
 /* A length of time, with a sign, which zero may have too. Durations are ordered; negative zero is smaller than zero. */
 class Duration : public detail::Ordered<Duration> {
@@ -709,7 +463,7 @@ class Duration : public detail::Ordered<Duration> {
     }
     /* The duration of a number of microseconds with a sign. */
     static Duration of(std::chrono::microseconds length) noexcept {
-        return Duration(detail::sure(speedate_duration_from_signed_microseconds, std::int64_t{length.count()}));
+        return Duration(detail::sure(speedate_duration_from_microseconds, std::int64_t{length.count()}));
     }
 
     bool negative() const noexcept { return c_.negative; }
@@ -718,30 +472,14 @@ class Duration : public detail::Ordered<Duration> {
     std::uint32_t microsecond() const noexcept { return c_.microsecond; }
     const SpeedateDuration &c() const noexcept { return c_; }
 
-    static Result<Duration> parse(std::string_view text, const Config &config = {}) {
-        return from_c([&](auto *out) { return speedate_duration_parse(text.data(), text.size(), config.c(), out); });
+    static Result<Duration> parse(std::string_view text, Form form = Form::Text, const Config &config = {}) {
+        return detail::parsed<Duration, SpeedateDuration>(speedate_duration_parse, text, form, config);
     }
-    /* What the parser of that name returns, and the part of a text that it refuses. */
-    static OrPart<Duration> parse_or_part(std::string_view text, const Config &config = {}) {
-        return detail::or_part<Duration, SpeedateDuration>(
-            [&](auto... out) { return speedate_duration_parse_or_part(text.data(), text.size(), config.c(), out...); });
-    }
-
     std::string to_text() const { return detail::text<SPEEDATE_DURATION_TEXT_SIZE>(speedate_duration_to_text, c_); }
-    /* The whole seconds, and the whole milliseconds, cut toward zero, and the microseconds beyond the whole seconds. */
-    std::chrono::seconds signed_total_seconds() const noexcept {
-        return std::chrono::seconds(detail::sure(speedate_duration_signed_total_seconds, c_));
-    }
-    std::chrono::milliseconds signed_total_ms() const noexcept {
-        return std::chrono::milliseconds(detail::sure(speedate_duration_signed_total_ms, c_));
-    }
-    std::chrono::microseconds signed_microseconds() const noexcept {
-        return std::chrono::microseconds(detail::sure(speedate_duration_signed_microseconds, c_));
-    }
     /* All microseconds, or SPEEDATE_NUMBER_TOO_LARGE, over 106,751,991 days. */
-    Result<std::chrono::microseconds> signed_total_microseconds() const {
+    Result<std::chrono::microseconds> microseconds() const {
         return detail::written<std::chrono::microseconds, std::int64_t>(
-            [&](auto *out) { return speedate_duration_signed_total_microseconds(c_, out); });
+            [&](auto *out) { return speedate_duration_microseconds(c_, out); });
     }
     /* The sum of the durations of a container where they are contiguous, or SPEEDATE_DURATION_DAYS_TOO_LARGE. */
     template <class Durations = std::initializer_list<Duration>>
@@ -752,38 +490,31 @@ class Duration : public detail::Ordered<Duration> {
             return speedate_duration_sum(reinterpret_cast<const SpeedateDuration *>(first), std::size(durations), out);
         });
     }
-    Duration operator-() const noexcept { return Duration(detail::sure(speedate_duration_negate, c_)); }
-
-    /* The duration from one value to another, which is negative if `later` is the earlier one. */
-    static Duration between(const DateTime &earlier, const DateTime &later) noexcept {
-        return Duration(detail::sure(speedate_duration_between, earlier.c(), later.c()));
-    }
-    static Duration between(const Date &earlier, const Date &later) noexcept {
-        return Duration(detail::sure(speedate_duration_between_dates, earlier.c(), later.c()));
+    Duration operator-() const noexcept {
+        return Duration(SpeedateDuration{!c_.negative, c_.day, c_.second, c_.microsecond});
     }
 
-    /* What is this duration after a value, or before it. */
-    Result<DateTime> after(const DateTime &start) const {
-        return DateTime::from_c([&](auto *out) { return speedate_duration_after(c_, start.c(), out); });
-    }
-    Result<DateTime> before(const DateTime &start) const {
-        return DateTime::from_c([&](auto *out) { return speedate_duration_before(c_, start.c(), out); });
-    }
-    Result<Date> after(const Date &start) const {
-        return Date::from_c([&](auto *out) { return speedate_duration_after_date(c_, start.c(), out); });
-    }
-    Result<Date> before(const Date &start) const {
-        return Date::from_c([&](auto *out) { return speedate_duration_before_date(c_, start.c(), out); });
-    }
+    /* The duration from one date-time to another, which is negative if `later` is the earlier one. */
+    static Duration between(const DateTime &earlier, const DateTime &later) noexcept;
 
     /* Negative if the first is the smaller one, 0 if they are equal, otherwise positive. */
     friend int compare(const Duration &first, const Duration &second) noexcept {
-        return detail::sure(speedate_duration_compare, first.c_, second.c_);
+        const SpeedateDuration &one = first.c_, &other = second.c_;
+        if (one.negative != other.negative)
+            return one.negative ? -1 : 1;
+        const int order = one.day != other.day         ? (one.day < other.day ? -1 : 1)
+                          : one.second != other.second ? (one.second < other.second ? -1 : 1)
+                          : one.microsecond == other.microsecond ? 0
+                          : one.microsecond < other.microsecond  ? -1
+                                                                 : 1;
+        return one.negative ? -order : order;
     }
     friend std::ostream &operator<<(std::ostream &to, const Duration &duration) { return to << duration.to_text(); }
 
   private:
     template <class T, class C, class Call> friend Result<T> detail::written(Call);
+    template <class T, class C, class Call>
+    friend Result<T> detail::parsed(Call, std::string_view, Form, const Config &);
     explicit Duration(SpeedateDuration duration) noexcept : c_(duration) {}
     template <class Call> static Result<Duration> from_c(Call call) {
         return detail::written<Duration, SpeedateDuration>(call);
@@ -792,20 +523,130 @@ class Duration : public detail::Ordered<Duration> {
     SpeedateDuration c_;
 };
 
+/* ---- Date-times ---- */
+
+/* A moment of std::chrono. C++20 calls it std::chrono::sys_time<std::chrono::microseconds>. */
+using SysTime = std::chrono::time_point<std::chrono::system_clock, std::chrono::microseconds>;
+
+/* A date and a time of day. `==` compares clocks and offsets; sort by unix_microseconds(). */
+class DateTime : public detail::Equal<DateTime> {
+  public:
+    DateTime(const Date &date, const Time &time) noexcept : c_{date.c(), time.c()} {}
+    static Result<DateTime> of(SpeedateDateTime value) {
+        const int code = speedate_datetime_check(value);
+        if (code != SPEEDATE_OK)
+            return Error(code);
+        if (!value.time.has_offset)
+            value.time.offset = 0;
+        return DateTime(value);
+    }
+
+    Date date() const noexcept { return Date(c_.date); }
+    Time time() const noexcept { return Time(c_.time); }
+    const SpeedateDateTime &c() const noexcept { return c_; }
+
+    static Result<DateTime> parse(std::string_view text, Form form = Form::Text, const Config &config = {}) {
+        return detail::parsed<DateTime, SpeedateDateTime>(speedate_datetime_parse, text, form, config);
+    }
+    std::string to_text(FractionDigits digits = FractionDigits::Auto) const {
+        return detail::text<SPEEDATE_DATETIME_TEXT_SIZE>(speedate_datetime_to_text, c_, static_cast<int>(digits));
+    }
+
+    static Result<DateTime> from_timestamp(std::int64_t timestamp, std::uint32_t microsecond = 0,
+                                           const Config &config = {}) {
+        const SpeedateConfig of = config.c();
+        return from_c([&](auto *out) { return speedate_datetime_from_timestamp(timestamp, microsecond, &of, out); });
+    }
+    /* Unix time. */
+    std::int64_t unix_microseconds() const noexcept { return detail::sure(speedate_datetime_unix_microseconds, c_); }
+    Result<DateTime> in_timezone(std::int32_t offset) const {
+        return from_c([&](auto *out) { return speedate_datetime_in_timezone(c_, offset, out); });
+    }
+
+    /* The date-time a duration later, and earlier. */
+    friend Result<DateTime> operator+(const DateTime &value, const Duration &duration) {
+        return from_c([&](auto *out) { return speedate_datetime_add(value.c_, duration.c(), out); });
+    }
+    friend Result<DateTime> operator-(const DateTime &value, const Duration &duration) { return value + -duration; }
+
+    /* The moment of a date-time. One without an offset is taken to be in UTC. */
+    SysTime sys_time() const noexcept { return SysTime(std::chrono::microseconds(unix_microseconds())); }
+    /* The date-time of a moment, such as std::chrono::system_clock::now(), in UTC; digits past the microsecond are
+     * rounded down. It fails with SPEEDATE_DATE_TOO_SMALL or SPEEDATE_DATE_TOO_LARGE outside the years 0000 to 9999. */
+    template <class Number, class Period>
+    static Result<DateTime>
+    of(std::chrono::time_point<std::chrono::system_clock, std::chrono::duration<Number, Period>> moment) {
+        constexpr bool in_seconds = std::ratio_equal_v<Period, std::ratio<1>>;
+        constexpr bool in_milliseconds = std::ratio_equal_v<Period, std::milli>;
+        static_assert(std::is_integral_v<Number> && std::is_signed_v<Number>, "a moment has a whole number with a sign");
+        static_assert(in_seconds || in_milliseconds || std::ratio_less_equal_v<Period, std::micro>,
+                      "a moment in any other unit has to be cast to seconds first");
+        Config config;
+        config.timestamp_offset = 0;
+        config.timestamp_unit = in_seconds ? Unit::Second : in_milliseconds ? Unit::Millisecond : Unit::Microsecond;
+        if constexpr (in_seconds || in_milliseconds)
+            return from_timestamp(moment.time_since_epoch().count(), 0, config);
+        else
+            return from_timestamp(std::chrono::floor<std::chrono::microseconds>(moment).time_since_epoch().count(), 0,
+                                  config);
+    }
+
+    friend std::ostream &operator<<(std::ostream &to, const DateTime &value) { return to << value.to_text(); }
+
+  private:
+    template <class T, class C, class Call> friend Result<T> detail::written(Call);
+    template <class T, class C, class Call>
+    friend Result<T> detail::parsed(Call, std::string_view, Form, const Config &);
+    explicit DateTime(SpeedateDateTime value) noexcept : c_(value) {}
+    template <class Call> static Result<DateTime> from_c(Call call) {
+        return detail::written<DateTime, SpeedateDateTime>(call);
+    }
+
+    SpeedateDateTime c_;
+};
+
+inline Duration Duration::between(const DateTime &earlier, const DateTime &later) noexcept {
+    return Duration(detail::sure(speedate_duration_between, earlier.c(), later.c()));
+}
+
 /* ---- Columns ---- */
 
 /* How far a column has come: how many lines have a number in it, how many bytes they take, and the error of the next
- * line, if that is refused and ends the column, with the part of the line that it is about:
- * if (read.error) underline(read.part.place, read.part.end), say(read.error->expected(read.part)); */
+ * line, if that is refused and ends the column, with the part of the line that it is about. */
 struct Progress {
     explicit Progress(const SpeedateProgress &from)
         : lines(from.lines), bytes(from.bytes),
-          error(from.error == SPEEDATE_OK ? std::nullopt : std::optional<Error>(Error(from.error))), part(from.part) {}
+          error(from.error == SPEEDATE_OK ? std::nullopt : std::optional<Error>(Error(from.error, from.part))) {}
 
     std::size_t lines;
     std::size_t bytes;
     std::optional<Error> error;
-    SpeedatePart part;
+};
+
+/* What a column reads: the lines of a text, or parts of it, each of which begins at its offset and ends at the next
+ * one, as in a string array of Arrow: Texts(bytes, offsets). The offsets are a container of std::int32_t, which
+ * stays as it is. */
+class Texts {
+  public:
+    template <class Text, std::enable_if_t<std::is_convertible_v<const Text &, std::string_view>, int> = 0>
+    Texts(const Text &lines) noexcept : bytes_(lines) {}
+    template <class Offsets = std::initializer_list<std::int32_t>>
+    Texts(std::string_view bytes, const Offsets &offsets) noexcept
+        : bytes_(bytes), offsets_(std::data(offsets)), count_(std::size(offsets)) {
+        if (count_ == 0)
+            offsets_ = &none;
+    }
+
+    std::string_view bytes() const noexcept { return bytes_; }
+    const std::int32_t *offsets() const noexcept { return offsets_; }
+    /* How many texts there are, at most. */
+    std::size_t most() const noexcept { return !offsets_ ? SIZE_MAX : count_ == 0 ? 0 : count_ - 1; }
+
+  private:
+    static constexpr std::int32_t none = 0;
+    std::string_view bytes_;
+    const std::int32_t *offsets_ = nullptr;
+    std::size_t count_ = 0;
 };
 
 namespace detail {
@@ -813,123 +654,81 @@ namespace detail {
 /* A call on columns, of which each below is one: date_column(text, out), or date_column(text, out, errors). */
 template <class Number> class Column {
   public:
-    using Call = int (*)(const char *, std::size_t, SpeedateConfig, SpeedateColumnConfig, Number *, std::size_t,
+    using Call = int (*)(const char *, std::size_t, const std::int32_t *, int, const SpeedateConfig *, unsigned, Number *,
                          std::uint8_t *, std::size_t, SpeedateProgress *);
     explicit constexpr Column(Call call) noexcept : call_(call) {}
 
     template <class Numbers>
-    Result<Progress> operator()(std::string_view text, Numbers &&out, const Config &config = {},
-                                const ColumnConfig &column = {}) const {
-        return read(text, std::data(out), std::size(out), nullptr, 0, config, column);
+    Result<Progress> operator()(const Texts &texts, Numbers &&out, const ColumnConfig &column = {}) const {
+        return read(texts, std::data(out), nullptr, std::size(out), column);
     }
     template <class Numbers, class Codes, class = decltype(std::data(std::declval<Codes &>()))>
-    Result<Progress> operator()(std::string_view text, Numbers &&out, Codes &&errors, const Config &config = {},
-                                const ColumnConfig &column = {}) const {
-        /* Where there is no place for an error, no line is read. */
-        const std::size_t room = std::size(errors) == 0 ? 0 : std::size(out);
-        return read(text, std::data(out), room, std::data(errors), std::size(errors), config, column);
+    Result<Progress> operator()(const Texts &texts, Numbers &&out, Codes &&errors, const ColumnConfig &column = {}) const {
+        return read(texts, std::data(out), std::data(errors), std::min(std::size(out), std::size(errors)), column);
     }
 
   private:
-    Result<Progress> read(std::string_view text, Number *out, std::size_t room, std::uint8_t *errors,
-                          std::size_t error_room, const Config &config, const ColumnConfig &column) const {
-        return written<Progress, SpeedateProgress>([&](auto *progress) {
-            return call_(text.data(), text.size(), config.c(), column.c(), out, room, errors, error_room, progress);
-        });
-    }
-
-    Call call_;
-};
-
-/* A call on columns of texts, of which each below is one: date_texts(bytes, offsets, out), or with errors after `out`. */
-template <class Number> class Texts {
-  public:
-    using Call = int (*)(const char *, std::size_t, const std::int32_t *, std::size_t, SpeedateConfig,
-                         SpeedateColumnConfig, Number *, std::size_t, std::uint8_t *, std::size_t, SpeedateProgress *);
-    explicit constexpr Texts(Call call) noexcept : call_(call) {}
-
-    template <class Offsets = std::initializer_list<std::int32_t>, class Numbers>
-    Result<Progress> operator()(std::string_view bytes, const Offsets &offsets, Numbers &&out,
-                                const Config &config = {}, const ColumnConfig &column = {}) const {
-        return read(bytes, offsets, std::data(out), std::size(out), nullptr, 0, config, column);
-    }
-    template <class Offsets = std::initializer_list<std::int32_t>, class Numbers, class Codes,
-              class = decltype(std::data(std::declval<Codes &>()))>
-    Result<Progress> operator()(std::string_view bytes, const Offsets &offsets, Numbers &&out, Codes &&errors,
-                                const Config &config = {}, const ColumnConfig &column = {}) const {
-        /* Where there is no place for an error, no text is read. */
-        const std::size_t room = std::size(errors) == 0 ? 0 : std::size(out);
-        return read(bytes, offsets, std::data(out), room, std::data(errors), std::size(errors), config, column);
-    }
-
-  private:
-    template <class Offsets>
-    Result<Progress> read(std::string_view bytes, const Offsets &offsets, Number *out, std::size_t room,
-                          std::uint8_t *errors, std::size_t error_room, const Config &config,
+    Result<Progress> read(const Texts &texts, Number *out, std::uint8_t *errors, std::size_t room,
                           const ColumnConfig &column) const {
+        const SpeedateConfig config = column.config.c();
         return written<Progress, SpeedateProgress>([&](auto *progress) {
-            return call_(bytes.data(), bytes.size(), std::data(offsets), std::size(offsets), config.c(), column.c(),
-                         out, room, errors, error_room, progress);
+            return call_(texts.bytes().data(), texts.bytes().size(), texts.offsets(), static_cast<int>(column.form),
+                         &config, column.flags(), out, errors, std::min(room, texts.most()), progress);
         });
     }
 
     Call call_;
 };
+
+/* The column of fronts has no other texts and no other form. */
+inline int front_column(const char *text, std::size_t size, const std::int32_t *offsets, int form,
+                        const SpeedateConfig *config, unsigned flags, SpeedateDateTimeFront *out, std::uint8_t *errors,
+                        std::size_t room, SpeedateProgress *progress) {
+    if (offsets || form != SPEEDATE_TEXT)
+        return SPEEDATE_CONFIG_OUT_OF_RANGE;
+    return speedate_datetime_front_column(text, size, config, flags, out, errors, room, progress);
+}
 
 /* A call that prints a column, of which each below is one: date_print_column(days, buffer). */
 template <class Number> class PrintColumn {
   public:
-    using Call = int (*)(const Number *, std::size_t, char *, std::size_t, SpeedateProgress *);
-    explicit constexpr PrintColumn(Call call) noexcept : call_(call) {}
+    using Call = int (*)(const Number *, std::size_t, unsigned, char *, std::size_t, SpeedateProgress *);
+    explicit constexpr PrintColumn(Call call, unsigned flags = 0) noexcept : call_(call), flags_(flags) {}
 
     template <class Numbers = std::initializer_list<Number>, class Buffer>
     Progress operator()(const Numbers &numbers, Buffer &&buffer) const {
         SpeedateProgress progress;
-        must(call_(std::data(numbers), std::size(numbers), std::data(buffer), std::size(buffer), &progress));
+        must(call_(std::data(numbers), std::size(numbers), flags_, std::data(buffer), std::size(buffer), &progress));
         return Progress(progress);
     }
 
   private:
     Call call_;
+    unsigned flags_;
 };
 
 } // namespace detail
 
-/* Read the lines of a text as numbers, as many as there is room for in `out`, an array, a std::vector, a std::span or
- * another container with contiguous numbers: std::int32_t for dates and offsets, SpeedateDateTimeFront at the front of
- * lines, otherwise std::int64_t. With errors, a container of std::uint8_t after `out`, the code of each line is written
- * there. A configuration and a ColumnConfig may come last. */
+/* Read texts as numbers, as many as there is room for in `out`, an array, a std::vector, a std::span or another
+ * container with contiguous numbers: std::int32_t for dates, SpeedateDateTimeFront at the front of lines, otherwise
+ * std::int64_t. With errors, a container of std::uint8_t after `out`, the code of each text is written there. A
+ * ColumnConfig may come last. */
 inline constexpr detail::Column<std::int32_t> date_column(speedate_date_column);
-inline constexpr detail::Column<std::int64_t> datetime_column(speedate_datetime_column);
-inline constexpr detail::Column<std::int64_t> datetime_clock_column(speedate_datetime_clock_column);
-inline constexpr detail::Column<std::int32_t> datetime_offset_column(speedate_datetime_offset_column);
-inline constexpr detail::Column<SpeedateDateTimeFront> datetime_front_column(speedate_datetime_front_column);
 inline constexpr detail::Column<std::int64_t> time_column(speedate_time_column);
-inline constexpr detail::Column<std::int32_t> time_offset_column(speedate_time_offset_column);
+inline constexpr detail::Column<std::int64_t> datetime_column(speedate_datetime_column);
 inline constexpr detail::Column<std::int64_t> duration_column(speedate_duration_column);
-
-/* Read texts as numbers, which are parts of the same bytes: each begins at its offset and ends at the next one, as in a
- * string array of Arrow. The offsets are in a container of std::int32_t; SPEEDATE_VALUE_OUT_OF_RANGE if one is negative,
- * less than the one before it, or beyond the bytes. Numbers, errors and configurations are as above. */
-inline constexpr detail::Texts<std::int32_t> date_texts(speedate_date_texts);
-inline constexpr detail::Texts<std::int64_t> datetime_texts(speedate_datetime_texts);
-inline constexpr detail::Texts<std::int64_t> time_texts(speedate_time_texts);
-inline constexpr detail::Texts<std::int64_t> duration_texts(speedate_duration_texts);
+inline constexpr detail::Column<SpeedateDateTimeFront> datetime_front_column(detail::front_column);
 
 /* Print the numbers of a container as lines, as many as there is room for in a container of char, as a std::string is.
- * If there is no error, and a number without a line, empty it, and go on with that number. */
+ * If there is no error, and a number without a line, empty it, and go on with that number. The column of clocks prints
+ * date-times without an offset. */
 inline constexpr detail::PrintColumn<std::int32_t> date_print_column(speedate_date_print_column);
-inline constexpr detail::PrintColumn<std::int64_t> datetime_print_column(speedate_datetime_print_column);
-inline constexpr detail::PrintColumn<std::int64_t> datetime_clock_print_column(speedate_datetime_clock_print_column);
 inline constexpr detail::PrintColumn<std::int64_t> time_print_column(speedate_time_print_column);
+inline constexpr detail::PrintColumn<std::int64_t> datetime_print_column(speedate_datetime_print_column);
+inline constexpr detail::PrintColumn<std::int64_t> datetime_clock_print_column(speedate_datetime_print_column, SPEEDATE_CLOCK);
 inline constexpr detail::PrintColumn<std::int64_t> duration_print_column(speedate_duration_print_column);
 
-/* ---- Numbers and versions ---- */
-
-/* The whole number of a text. */
-inline Result<std::int64_t> int_parse(std::string_view text) {
-    return detail::number<std::int64_t>([&](auto *out) { return speedate_int_parse(text.data(), text.size(), out); });
-}
+/* ---- The version ---- */
 
 /* The SPEEDATE_VERSION_NUMBER of the library that is called. */
 inline int version() noexcept { return speedate_version(); }

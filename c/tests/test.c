@@ -1,22 +1,22 @@
-/* Runs the rows of a table, standard input, through every function of speedate.h.
+/* Runs the rows of a table, standard input, through every function of speedate.h, and of speedate_packages.h.
  *
- * A row is a call, its arguments, the name of its code and what it writes, with `|` between them. A value is its
- * numbers in the order of its fields, a configuration `default` or its numbers, and a text stands as it is, which
- * for a row of an empty one is an empty field.
+ * A row is a call, some of which have the name of a form too, its arguments, the name of its code and what it writes,
+ * with `|` between them. A value is its numbers in the order of its fields, a configuration `default` or its numbers,
+ * and a text stands as it is, which for a row of an empty one is an empty field.
  *
  * In the text of a column `\n` stands for a line feed, and `\r` for a carriage return. Its row has the configurations,
  * the room for numbers and, if there is any, for errors, and the text; then the numbers, the errors, how many lines and
- * bytes they are, and the name of the error that ends it. A row of a column of texts has their offsets before the text. A
- * row of a column that is printed has the room for the text, and the numbers; then the text, and the same. A part is its
- * place, its end and its kind.
+ * bytes they are, and the name of the error that ends it. A row of a column of texts has their offsets before the text.
+ * A row of a column that is printed has the room for the text, and the numbers; then the text, and the same. A part is
+ * its start, its end and its kind.
  *
- * Each text is read from three places: a block of the heap of its very size, the end of a page after which none
- * can be read, and the beginning of one before which none can be; an empty one also from NULL. Each text is
- * printed into a buffer of its very size, at the end of such a page, and is refused by one that is a byte too small,
- * and by none. Each output stands before bytes that no call may touch, and a call that refuses may touch no output but
- * the part of the text. */
+ * Each text is read from three places: a block of the heap of its very size, the end of a page after which none can
+ * be read, and the beginning of one before which none can be; an empty one also from NULL. Each text is printed into
+ * a buffer of its very size, at the end of such a page, and is refused by one that is a byte too small, and by none.
+ * Each output stands before bytes that no call may touch, and a call that refuses may touch no output but the part
+ * of the text. */
 #define _DEFAULT_SOURCE
-#include "speedate.h"
+#include "speedate_packages.h"
 
 #include <limits.h>
 #include <stdio.h>
@@ -98,8 +98,16 @@ static SpeedateConfig config(void) {
     return it;
 }
 
+/* The same, or NULL for the default. */
+static const SpeedateConfig *config_or_null(void) {
+    static SpeedateConfig it;
+    int is_default = strcmp(fields[field], "default") == 0;
+    it = config();
+    return is_default ? NULL : &it;
+}
+
 static SpeedateColumnConfig column_config(void) {
-    SpeedateColumnConfig it = SPEEDATE_COLUMN_CONFIG_DEFAULT;
+    SpeedateColumnConfig it = {1, 0, 0, 0, 0};
     long long n[5];
     if (field < FIELDS && fields[field] && strcmp(fields[field], "default") == 0) {
         field++;
@@ -235,15 +243,30 @@ static void say_lines(const char *text, size_t size) {
     strcat(answer, "|");
 }
 
+#define NO_FLAGS UINT_MAX
+
+/* The flags of a configuration, if it has no others than speedate.h. */
+static unsigned flags_of(SpeedateColumnConfig it) {
+    if (it.at_end > 1 || it.drops_returns > 1 || it.assumes_utc > 1 || it.goes_on > 1)
+        return NO_FLAGS;
+    return (it.at_end ? SPEEDATE_AT_END : 0u) | (it.drops_returns ? SPEEDATE_DROP_RETURNS : 0u) |
+           (it.assumes_utc ? SPEEDATE_ASSUME_UTC : 0u) | (it.goes_on ? SPEEDATE_GO_ON : 0u);
+}
+
+static int is_same(SpeedateProgress it, SpeedateProgress other) {
+    return it.lines == other.lines && it.bytes == other.bytes && it.error == other.error &&
+           it.part.start == other.part.start && it.part.end == other.part.end && it.part.kind == other.part.kind;
+}
+
 static void say_progress(SpeedateProgress it) {
     say("%lld ", (long long)it.lines);
     say("%lld ", (long long)it.bytes);
     strcat(answer, speedate_code_string(it.error));
     if (it.part.kind != SPEEDATE_KIND_NONE) {
-        say(" %lld ", (long long)it.part.place);
+        say(" %lld ", (long long)it.part.start);
         say("%lld ", (long long)it.part.end);
         say("%lld", it.part.kind);
-    } else if (it.part.place != 0 || it.part.end != 0) {
+    } else if (it.part.start != 0 || it.part.end != 0) {
         strcat(answer, " with a part");
     }
 }
@@ -268,54 +291,52 @@ static void say_progress(SpeedateProgress it) {
         return 1;                                                                                                      \
     }
 
-/* A call that reads the front of a text. */
-#define WRITES_FRONT(TYPE, SAY, CALL)                                                                                  \
-    {                                                                                                                  \
+/* A parser in a form. Its part is said if the text is refused and the row has it, and the size of a value at a
+ * front. The part of a value ends with it, and without a part the call does the same. */
+#define PARSE(TYPE, SAY, CALL, NAME, FORM, CONFIG)                                                                     \
+    if (is_call(#NAME)) {                                                                                              \
+        const SpeedateConfig *it = CONFIG;                                                                             \
         OUTPUT(TYPE, out)                                                                                              \
-        OUTPUT(size_t, taken)                                                                                          \
-        int code = CALL;                                                                                               \
-        if (said(code, IS_KEPT(code, out) && IS_KEPT(code, taken))) {                                                  \
-            SAY(*out);                                                                                                 \
-            say("|%lld", (long long)*taken);                                                                           \
-        }                                                                                                              \
-        return 1;                                                                                                      \
-    }
-
-/* A call that writes a value, or the part for which a text is refused, and no part if none is. */
-#define WRITES_PART(TYPE, SAY, CALL)                                                                                   \
-    {                                                                                                                  \
-        OUTPUT(TYPE, out)                                                                                              \
-        OUTPUT(size_t, taken)                                                                                          \
+        OUTPUT(TYPE, alone)                                                                                            \
         OUTPUT(SpeedatePart, part)                                                                                     \
         size_t end = 0;                                                                                                \
-        int is_front = strstr(#CALL, "_front(") != NULL;                                                               \
-        int code = CALL;                                                                                               \
-        int is_fault = code >= SPEEDATE_TOO_SHORT && code <= SPEEDATE_LAST_FAULT;                                      \
-        int kept = IS_KEPT(code, out) && IS_KEPT(is_front ? code : SPEEDATE_VALUE_OUT_OF_RANGE, taken) &&              \
-                   IS_KEPT(SPEEDATE_OK, part);                                                                         \
-        if (said(code, kept))                                                                                          \
+        int code = speedate_##CALL##_parse(text, size, FORM, it, out, part);                                           \
+        if (said(code, IS_KEPT(code, out) && IS_KEPT(SPEEDATE_OK, part)))                                              \
             SAY(*out);                                                                                                 \
-        if (is_front && code == SPEEDATE_OK)                                                                           \
-            say("|%lld", (long long)*taken);                                                                           \
-        if (is_fault) {                                                                                                \
-            say("|%lld ", (long long)part->place);                                                                     \
+        if (code == SPEEDATE_OK && FORM == SPEEDATE_FRONT)                                                             \
+            say("|%lld", (long long)part->end);                                                                        \
+        if (SPEEDATE_IS_FAULT(code) && strstr(#NAME, "_or_part")) {                                                    \
+            say("|%lld ", (long long)part->start);                                                                     \
             say("%lld ", (long long)part->end);                                                                        \
             say("%lld", part->kind);                                                                                   \
-            if (speedate_code_part_end(code, text, size, part->place, &end) != SPEEDATE_OK || end != part->end)        \
-                strcat(answer, " with another end");                                                                   \
-        } else if (part->place != 0 || part->end != 0 || part->kind != SPEEDATE_KIND_NONE) {                           \
-            strcat(answer, " with a part");                                                                            \
         }                                                                                                              \
+        if (!SPEEDATE_IS_FAULT(code)) {                                                                                \
+            size_t wanted = code != SPEEDATE_OK ? 0 : FORM == SPEEDATE_FRONT ? part->end : size;                       \
+            if (part->start != 0 || part->end != wanted || wanted > size || part->kind != SPEEDATE_KIND_NONE)          \
+                strcat(answer, " with another part");                                                                  \
+        } else if (speedate_code_part_end(code, text, size, part->start, &end) != SPEEDATE_OK || end != part->end) {   \
+            strcat(answer, " with another end");                                                                       \
+        }                                                                                                              \
+        if (speedate_##CALL##_parse(text, size, FORM, it, alone, NULL) != code ||                                      \
+            memcmp(&alone_place, &out_place, sizeof out_place) != 0)                                                   \
+            strcat(answer, " and something else without a part");                                                      \
         return 1;                                                                                                      \
     }
 
-/* Calls that read a column, with errors if there is room for them. Without room there is no address either. */
-#define COLUMN(TYPE, NAME) COLUMN_OF(TYPE, say_number, NAME, )
-#define FRONTS(NAME) COLUMN_OF(SpeedateDateTimeFront, say_datetime_front, NAME, )
+/* Calls that read a column, with errors if there is room for them. Without room there is no address either. If the
+ * row's flags are flags and it has as much room for errors as for numbers, the call of speedate.h does the same. */
+#define LINES(TYPE, SAY, NAME, CALL, PUBLIC) COLUMN_OF(TYPE, SAY, NAME, CALL, , PUBLIC)
 /* The same of texts at offsets, which are the row's last argument but one. */
-#define TEXTS(TYPE, NAME) COLUMN_OF(TYPE, say_number, NAME, OFFSETS)
+#define TEXTS(TYPE, NAME)                                                                                              \
+    COLUMN_OF(TYPE, say_number, NAME##_texts, NAME##_texts, OFFSETS,                                                   \
+              offset_count == room + 1                                                                                 \
+                  ? speedate_##NAME##_column(text, size, offsets, by.parser, &it, flags, again, places, room, &far)    \
+                  : -1)
+#define COLUMN(TYPE, NAME)                                                                                             \
+    LINES(TYPE, say_number, NAME##_column, NAME##_lines,                                                               \
+          speedate_##NAME##_column(text, size, NULL, by.parser, &it, flags, again, places, room, &far))
 #define OFFSETS offset_count ? offsets : NULL, offset_count,
-#define COLUMN_OF(TYPE, SAY, NAME, BETWEEN)                                                                            \
+#define COLUMN_OF(TYPE, SAY, NAME, CALL, BETWEEN, PUBLIC)                                                              \
     if (is_call(#NAME)) {                                                                                              \
         SpeedateConfig it = config();                                                                                  \
         SpeedateColumnConfig by = column_config();                                                                     \
@@ -324,12 +345,17 @@ static void say_progress(SpeedateProgress it) {
         size_t room = (size_t)rooms[0], error_room = (size_t)rooms[1];                                                 \
         if (sizeof #BETWEEN > 1)                                                                                       \
             read_offsets();                                                                                            \
-        TYPE out[PLACES];                                                                                              \
-        uint8_t errors[PLACES];                                                                                        \
+        TYPE out[PLACES], again[PLACES];                                                                               \
+        uint8_t errors[PLACES], errors_again[PLACES], *places = error_room ? errors_again : NULL;                      \
+        SpeedateProgress far;                                                                                          \
+        unsigned flags = flags_of(by);                                                                                 \
+        (void)places;                                                                                                  \
         OUTPUT(SpeedateProgress, progress)                                                                             \
         memset(out, UNTOUCHED, sizeof out);                                                                            \
         memset(errors, UNTOUCHED, sizeof errors);                                                                      \
-        int code = speedate_##NAME(text, size, BETWEEN it, by, room ? out : NULL, room, error_room ? errors : NULL,    \
+        memset(again, UNTOUCHED, sizeof again);                                                                        \
+        memset(errors_again, UNTOUCHED, sizeof errors_again);                                                          \
+        int code = speedate_##CALL(text, size, BETWEEN it, by, room ? out : NULL, room, error_room ? errors : NULL,    \
                                    error_room, progress);                                                              \
         size_t lines = code == SPEEDATE_OK ? progress->lines : 0, written = error_room ? lines : 0;                    \
         int kept = lines <= room && is_untouched(out + lines, sizeof out - lines * sizeof *out);                       \
@@ -340,11 +366,16 @@ static void say_progress(SpeedateProgress it) {
                 LIST(say_number, errors, lines)                                                                        \
             say_progress(*progress);                                                                                   \
         }                                                                                                              \
+        int public = flags == NO_FLAGS || (error_room && error_room != room) ? -1 : PUBLIC;                            \
+        if (public >= 0 && (public != code || memcmp(out, again, sizeof out) != 0 ||                                   \
+                            memcmp(errors, errors_again, sizeof errors) != 0 ||                                        \
+                            (code == SPEEDATE_OK && !is_same(far, *progress))))                                        \
+            strcat(answer, " and something else by flags");                                                            \
         return 1;                                                                                                      \
     }
 
 /* Calls that print a column: into so many bytes, which end with a page. Without numbers or room there is no address. */
-#define PRINT_COLUMN(TYPE, NAME)                                                                                       \
+#define PRINT_COLUMN(TYPE, NAME, CALL, FLAGS)                                                                          \
     if (is_call(#NAME)) {                                                                                              \
         size_t room = (size_t)number(), count;                                                                         \
         long long numbers_in[PLACES];                                                                                  \
@@ -355,7 +386,8 @@ static void say_progress(SpeedateProgress it) {
         for (size_t i = 0; i < count; i++)                                                                             \
             in[i] = (TYPE)numbers_in[i];                                                                               \
         memset(first_page, UNTOUCHED, page);                                                                           \
-        int code = speedate_##NAME(count ? in : NULL, count, room ? buffer : NULL, room, progress);                    \
+        int code = speedate_##CALL##_print_column(count ? in : NULL, count, FLAGS, room ? buffer : NULL, room,         \
+                                                  progress);                                                           \
         size_t size = progress->bytes;                                                                                 \
         int kept = size <= room && is_untouched(first_page, page - room) && is_untouched(buffer + size, room - size);  \
         if (said(code, kept && IS_KEPT(code, progress))) {                                                             \
@@ -431,24 +463,6 @@ static int is_call(const char *name) {
         WRITES(TYPE, SAY, speedate_##NAME(first, second, out))                                                         \
     }
 
-#define PARSE(TYPE, SAY, NAME)                                                                                         \
-    if (is_call(#NAME)) {                                                                                              \
-        SpeedateConfig it = config();                                                                                  \
-        WRITES(TYPE, SAY, speedate_##NAME(text, size, it, out))                                                        \
-    }
-
-#define FRONT(TYPE, SAY, NAME)                                                                                         \
-    if (is_call(#NAME)) {                                                                                              \
-        SpeedateConfig it = config();                                                                                  \
-        WRITES_FRONT(TYPE, SAY, speedate_##NAME(text, size, it, out, taken))                                           \
-    }
-
-#define PART(TYPE, SAY, NAME)                                                                                          \
-    if (is_call(#NAME)) {                                                                                              \
-        SpeedateConfig it = config();                                                                                  \
-        WRITES_PART(TYPE, SAY, speedate_##NAME(text, size, it, out, part))                                             \
-    }
-
 #define CHECK(NAME, TYPE, READ)                                                                                        \
     if (is_call(#NAME)) {                                                                                              \
         TYPE it = READ();                                                                                              \
@@ -462,32 +476,16 @@ static int is_call(const char *name) {
         PRINTS(speedate_##NAME(it, buffer, size, length))                                                              \
     }
 
-#define PRINT_DIGITS(NAME, TYPE, READ)                                                                                 \
+#define PRINT_DIGITS(NAME, CALL, TYPE, READ, DIGITS)                                                                   \
     if (is_call(#NAME)) {                                                                                              \
         TYPE it = READ();                                                                                              \
-        int digits = (int)number();                                                                                    \
-        PRINTS(speedate_##NAME(it, digits, buffer, size, length))                                                      \
+        int digits = DIGITS;                                                                                           \
+        PRINTS(speedate_##CALL(it, digits, buffer, size, length))                                                      \
     }
 
 /* Calls of a text: the text is the row's last argument. */
 static int run_text(const char *text, size_t size) {
     field = 1;
-    if (is_call("date_parse_text"))
-        WRITES(SpeedateDate, say_date, speedate_date_parse_text(text, size, out))
-    if (is_call("date_parse_front"))
-        WRITES_FRONT(SpeedateDate, say_date, speedate_date_parse_front(text, size, out, taken))
-    if (is_call("date_parse_or_part_text"))
-        WRITES_PART(SpeedateDate, say_date, speedate_date_parse_or_part_text(text, size, out, part))
-    if (is_call("date_parse_or_part_front"))
-        WRITES_PART(SpeedateDate, say_date, speedate_date_parse_or_part_front(text, size, out, taken, part))
-    if (is_call("time_parse_or_part_front")) {
-        SpeedateConfig it = config();
-        WRITES_PART(SpeedateTime, say_time, speedate_time_parse_or_part_front(text, size, it, out, taken, part))
-    }
-    if (is_call("datetime_parse_or_part_front")) {
-        SpeedateConfig it = config();
-        WRITES_PART(SpeedateDateTime, say_datetime, speedate_datetime_parse_or_part_front(text, size, it, out, taken, part))
-    }
     if (is_call("code_part_end")) {
         int of = (int)number();
         size_t place = (size_t)number();
@@ -495,34 +493,42 @@ static int run_text(const char *text, size_t size) {
     }
     if (is_call("int_parse"))
         WRITES(int64_t, say_number, speedate_int_parse(text, size, out))
-    PARSE(SpeedateDate, say_date, date_parse)
-    PARSE(SpeedateTime, say_time, time_parse)
-    PARSE(SpeedateTime, say_time, time_parse_strict)
-    FRONT(SpeedateTime, say_time, time_parse_front)
-    PARSE(SpeedateDateTime, say_datetime, datetime_parse)
-    PARSE(SpeedateDateTime, say_datetime, datetime_parse_text)
-    PARSE(SpeedateDateTime, say_datetime, datetime_parse_strict)
-    FRONT(SpeedateDateTime, say_datetime, datetime_parse_front)
-    PARSE(SpeedateDuration, say_duration, duration_parse)
-    PART(SpeedateDate, say_date, date_parse_or_part)
-    PART(SpeedateTime, say_time, time_parse_or_part)
-    PART(SpeedateTime, say_time, time_parse_or_part_strict)
-    PART(SpeedateDateTime, say_datetime, datetime_parse_or_part)
-    PART(SpeedateDateTime, say_datetime, datetime_parse_or_part_text)
-    PART(SpeedateDateTime, say_datetime, datetime_parse_or_part_strict)
-    PART(SpeedateDuration, say_duration, duration_parse_or_part)
-    COLUMN(int64_t, datetime_column)
-    COLUMN(int64_t, datetime_clock_column)
-    COLUMN(int32_t, datetime_offset_column)
-    FRONTS(datetime_front_column)
-    COLUMN(int32_t, date_column)
-    COLUMN(int64_t, time_column)
-    COLUMN(int32_t, time_offset_column)
-    COLUMN(int64_t, duration_column)
-    TEXTS(int64_t, datetime_texts)
-    TEXTS(int32_t, date_texts)
-    TEXTS(int64_t, time_texts)
-    TEXTS(int64_t, duration_texts)
+    PARSE(SpeedateDate, say_date, date, date_parse, SPEEDATE_OR_TIMESTAMP, config_or_null())
+    PARSE(SpeedateDate, say_date, date, date_parse_or_part, SPEEDATE_OR_TIMESTAMP, config_or_null())
+    PARSE(SpeedateDate, say_date, date, date_parse_text, SPEEDATE_TEXT, NULL)
+    PARSE(SpeedateDate, say_date, date, date_parse_or_part_text, SPEEDATE_TEXT, NULL)
+    PARSE(SpeedateDate, say_date, date, date_parse_front, SPEEDATE_FRONT, NULL)
+    PARSE(SpeedateDate, say_date, date, date_parse_or_part_front, SPEEDATE_FRONT, NULL)
+    PARSE(SpeedateTime, say_time, time, time_parse, SPEEDATE_TEXT, config_or_null())
+    PARSE(SpeedateTime, say_time, time, time_parse_or_part, SPEEDATE_TEXT, config_or_null())
+    PARSE(SpeedateTime, say_time, time, time_parse_strict, SPEEDATE_STRICT, config_or_null())
+    PARSE(SpeedateTime, say_time, time, time_parse_or_part_strict, SPEEDATE_STRICT, config_or_null())
+    PARSE(SpeedateTime, say_time, time, time_parse_front, SPEEDATE_FRONT, config_or_null())
+    PARSE(SpeedateTime, say_time, time, time_parse_or_part_front, SPEEDATE_FRONT, config_or_null())
+    PARSE(SpeedateDateTime, say_datetime, datetime, datetime_parse, SPEEDATE_OR_TIMESTAMP, config_or_null())
+    PARSE(SpeedateDateTime, say_datetime, datetime, datetime_parse_or_part, SPEEDATE_OR_TIMESTAMP, config_or_null())
+    PARSE(SpeedateDateTime, say_datetime, datetime, datetime_parse_text, SPEEDATE_TEXT, config_or_null())
+    PARSE(SpeedateDateTime, say_datetime, datetime, datetime_parse_or_part_text, SPEEDATE_TEXT, config_or_null())
+    PARSE(SpeedateDateTime, say_datetime, datetime, datetime_parse_strict, SPEEDATE_STRICT, config_or_null())
+    PARSE(SpeedateDateTime, say_datetime, datetime, datetime_parse_or_part_strict, SPEEDATE_STRICT, config_or_null())
+    PARSE(SpeedateDateTime, say_datetime, datetime, datetime_parse_front, SPEEDATE_FRONT, config_or_null())
+    PARSE(SpeedateDateTime, say_datetime, datetime, datetime_parse_or_part_front, SPEEDATE_FRONT, config_or_null())
+    PARSE(SpeedateDuration, say_duration, duration, duration_parse, SPEEDATE_TEXT, config_or_null())
+    PARSE(SpeedateDuration, say_duration, duration, duration_parse_or_part, SPEEDATE_TEXT, config_or_null())
+    COLUMN(int32_t, date)
+    COLUMN(int64_t, time)
+    COLUMN(int64_t, datetime)
+    COLUMN(int64_t, duration)
+    LINES(int64_t, say_number, datetime_clock_column, datetime_clock_column,
+          speedate_datetime_column(text, size, NULL, by.parser, &it, flags | SPEEDATE_CLOCK, again, places, room, &far))
+    LINES(SpeedateDateTimeFront, say_datetime_front, datetime_front_column, datetime_front_lines,
+          by.parser ? -1 : speedate_datetime_front_column(text, size, &it, flags, again, places, room, &far))
+    LINES(int32_t, say_number, datetime_offset_column, datetime_offset_column, -1)
+    LINES(int32_t, say_number, time_offset_column, time_offset_column, -1)
+    TEXTS(int32_t, date)
+    TEXTS(int64_t, time)
+    TEXTS(int64_t, datetime)
+    TEXTS(int64_t, duration)
     return 0;
 }
 
@@ -551,14 +557,14 @@ static int run_value(void) {
     }
     VALUE(int64_t, say_number, date_timestamp, SpeedateDate, date)
     VALUE(int64_t, say_number, date_timestamp_ms, SpeedateDate, date)
-    VALUE(uint32_t, say_number, date_day_number, SpeedateDate, date)
-    VALUE(SpeedateDate, say_date, date_from_day_number, uint32_t, (uint32_t)number)
+    VALUE(int32_t, say_number, date_days, SpeedateDate, date)
+    VALUE(SpeedateDate, say_date, date_from_days, int32_t, (int32_t)number)
     VALUE(uint16_t, say_number, date_ordinal_day, SpeedateDate, date)
     TWO_VALUES(SpeedateDate, say_date, date_add_days, SpeedateDate, date, int32_t, (int32_t)number)
     TWO_VALUES(int32_t, say_number, date_days_between, SpeedateDate, date, SpeedateDate, date)
     CHECK(time_check, SpeedateTime, time_value)
-    PRINT(time_to_text, SpeedateTime, time_value)
-    PRINT_DIGITS(time_to_text_with_digits, SpeedateTime, time_value)
+    PRINT_DIGITS(time_to_text, time_to_text, SpeedateTime, time_value, SPEEDATE_DIGITS_AUTO)
+    PRINT_DIGITS(time_to_text_with_digits, time_to_text, SpeedateTime, time_value, (int)number())
     TWO_VALUES(int32_t, say_number, time_compare, SpeedateTime, time_value, SpeedateTime, time_value)
     if (is_call("time_from_timestamp")) {
         uint32_t second = (uint32_t)number(), microsecond = (uint32_t)number();
@@ -569,13 +575,13 @@ static int run_value(void) {
     VALUE(uint32_t, say_number, time_total_ms, SpeedateTime, time_value)
     TWO_VALUES(SpeedateTime, say_time, time_in_timezone, SpeedateTime, time_value, int32_t, (int32_t)number)
     CHECK(datetime_check, SpeedateDateTime, datetime)
-    PRINT(datetime_to_text, SpeedateDateTime, datetime)
-    PRINT_DIGITS(datetime_to_text_with_digits, SpeedateDateTime, datetime)
+    PRINT_DIGITS(datetime_to_text, datetime_to_text, SpeedateDateTime, datetime, SPEEDATE_DIGITS_AUTO)
+    PRINT_DIGITS(datetime_to_text_with_digits, datetime_to_text, SpeedateDateTime, datetime, (int)number())
     TWO_VALUES(int32_t, say_number, datetime_compare, SpeedateDateTime, datetime, SpeedateDateTime, datetime)
     if (is_call("datetime_from_timestamp")) {
         int64_t timestamp = number();
         uint32_t microsecond = (uint32_t)number();
-        SpeedateConfig it = config();
+        const SpeedateConfig *it = config_or_null();
         WRITES(SpeedateDateTime, say_datetime, speedate_datetime_from_timestamp(timestamp, microsecond, it, out))
     }
     if (is_call("datetime_timestamp_microseconds")) {
@@ -596,7 +602,8 @@ static int run_value(void) {
     VALUE(int64_t, say_number, duration_signed_total_seconds, SpeedateDuration, duration)
     VALUE(int64_t, say_number, duration_signed_total_ms, SpeedateDuration, duration)
     VALUE(int32_t, say_number, duration_signed_microseconds, SpeedateDuration, duration)
-    VALUE(int64_t, say_number, duration_signed_total_microseconds, SpeedateDuration, duration)
+    if (is_call("duration_signed_total_microseconds"))
+        WRITES(int64_t, say_number, speedate_duration_microseconds(duration(), out))
     if (is_call("duration_sum")) {
         SpeedateDuration durations[FIELDS];
         size_t count = 0;
@@ -604,15 +611,19 @@ static int run_value(void) {
             durations[count++] = duration();
         WRITES(SpeedateDuration, say_duration, speedate_duration_sum(count ? durations : NULL, count, out))
     }
-    PRINT_COLUMN(int32_t, date_print_column)
-    PRINT_COLUMN(int64_t, datetime_print_column)
-    PRINT_COLUMN(int64_t, datetime_clock_print_column)
-    PRINT_COLUMN(int64_t, time_print_column)
-    PRINT_COLUMN(int64_t, duration_print_column)
-    VALUE(SpeedateDuration, say_duration, duration_from_signed_microseconds, int64_t, (int64_t)number)
+    PRINT_COLUMN(int32_t, date_print_column, date, 0)
+    PRINT_COLUMN(int64_t, time_print_column, time, 0)
+    PRINT_COLUMN(int64_t, datetime_print_column, datetime, 0)
+    PRINT_COLUMN(int64_t, datetime_clock_print_column, datetime, SPEEDATE_CLOCK)
+    PRINT_COLUMN(int64_t, duration_print_column, duration, 0)
+    if (is_call("duration_from_signed_microseconds"))
+        WRITES(SpeedateDuration, say_duration, speedate_duration_from_microseconds((int64_t)number(), out))
     VALUE(SpeedateDuration, say_duration, duration_negate, SpeedateDuration, duration)
     TWO_VALUES(SpeedateDuration, say_duration, duration_between, SpeedateDateTime, datetime, SpeedateDateTime, datetime)
-    TWO_VALUES(SpeedateDateTime, say_datetime, duration_after, SpeedateDuration, duration, SpeedateDateTime, datetime)
+    if (is_call("duration_after")) {
+        SpeedateDuration by = duration();
+        WRITES(SpeedateDateTime, say_datetime, speedate_datetime_add(datetime(), by, out))
+    }
     TWO_VALUES(SpeedateDateTime, say_datetime, duration_before, SpeedateDuration, duration, SpeedateDateTime, datetime)
     TWO_VALUES(SpeedateDuration, say_duration, duration_between_dates, SpeedateDate, date, SpeedateDate, date)
     TWO_VALUES(SpeedateDate, say_date, duration_after_date, SpeedateDuration, duration, SpeedateDate, date)
@@ -646,8 +657,8 @@ static int cut(char *row) {
     return count;
 }
 
-/* A code has a name, which is its string too, a documentation text, and what is expected, by calls of each kind, except of success, for which
- * there is room. Another number has none, and a string of its own. */
+/* A code has a name, which is its string too, a documentation text, and what is expected, by calls of each kind,
+ * except of success, for which there is room. Another number has none, and a string of its own. */
 static void try_code(int code) {
     char name[SPEEDATE_CODE_TEXT_SIZE], text[SPEEDATE_CODE_TEXT_SIZE];
     size_t length = 0;
@@ -677,7 +688,54 @@ static void try_code(int code) {
     }
 }
 
-/* Whether a field is the name of a code, with which the answer begins. */
+/* A form that a type lacks, and a number that is none, are out of range, and so are flags: nothing is written but no
+ * part. */
+#define IS_REFUSED(CALL) ((CALL) == SPEEDATE_CONFIG_OUT_OF_RANGE)
+#define TRY_FORMS(TYPE, NAME, HAS)                                                                                     \
+    for (int form = -1; form <= 258; form++) {                                                                         \
+        TYPE value;                                                                                                    \
+        SpeedatePart part = {1, 1, 1};                                                                                 \
+        memset(&value, UNTOUCHED, sizeof value);                                                                       \
+        if (form >= 0 && form < 4 && HAS[form] != ' ')                                                                 \
+            continue;                                                                                                  \
+        if (!IS_REFUSED(speedate_##NAME##_parse("", 0, form, NULL, &value, &part)) ||                                  \
+            !IS_REFUSED(speedate_##NAME##_parse("", 0, form, NULL, &value, NULL)) ||                                   \
+            !is_untouched(&value, sizeof value) || part.start || part.end || part.kind) {                              \
+            fprintf(stderr, "speedate_" #NAME "_parse takes the form %d\n", form);                                     \
+            failures++;                                                                                                \
+        }                                                                                                              \
+    }
+#define TRY_FLAGS(TYPE, NAME, FORMS, KNOWN)                                                                            \
+    for (int form = -1; form <= 258; form++)                                                                           \
+        for (unsigned flags = 0; flags <= 32; flags++) {                                                               \
+            const int32_t offset = 0;                                                                                  \
+            SpeedateProgress progress;                                                                                 \
+            TYPE out = 0;                                                                                              \
+            char text[1];                                                                                              \
+            int is_form = form >= 0 && form < 3 && FORMS[form] != ' ', is_known = flags <= 15;                         \
+            if (IS_REFUSED(speedate_##NAME##_column("", 0, NULL, form, NULL, flags, &out, NULL, 0, &progress)) ==      \
+                    (is_form && flags <= KNOWN) ||                                                                     \
+                IS_REFUSED(speedate_##NAME##_column("", 0, &offset, form, NULL, flags, &out, NULL, 0, &progress)) ==   \
+                    (is_form && is_known) ||                                                                           \
+                IS_REFUSED(speedate_##NAME##_print_column(&out, 0, flags, text, 1, &progress)) ==                      \
+                    (flags == 0 || flags == (KNOWN & SPEEDATE_CLOCK))) {                                               \
+                fprintf(stderr, "a column of " #NAME "s answers otherwise to the form %d and the flags %u\n", form,    \
+                        flags);                                                                                        \
+                failures++;                                                                                            \
+            }                                                                                                          \
+        }
+
+static void try_forms(void) {
+    TRY_FORMS(SpeedateDate, date, "to f")
+    TRY_FORMS(SpeedateTime, time, "t sf")
+    TRY_FORMS(SpeedateDateTime, datetime, "tosf")
+    TRY_FORMS(SpeedateDuration, duration, "t   ")
+    TRY_FLAGS(int32_t, date, "to ", 15u)
+    TRY_FLAGS(int64_t, time, "t s", 15u)
+    TRY_FLAGS(int64_t, datetime, "tos", 31u)
+    TRY_FLAGS(int64_t, duration, "t  ", 15u)
+}
+
 /* Puts the bytes of line ends into the text of a column, where they are written as two letters each. */
 static void put_line_ends(char *text) {
     char *to = text;
@@ -733,6 +791,7 @@ int main(void) {
     first_page = pages + page;
     for (int code = -2; code < 200; code++)
         try_code(code);
+    try_forms();
     try_code(INT_MIN);
     try_code(INT_MAX);
     while (fgets(row, sizeof row, stdin)) {

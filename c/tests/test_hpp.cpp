@@ -29,15 +29,16 @@ template <class T> static std::string said(const Result<T> &result) {
         to << result.error();
     return to.str();
 }
-template <class T> static std::string said(const Result<Front<T>> &result) {
-    return result ? result->value.to_text() + " " + std::to_string(result->size) : result.error().name();
+// The same with the size of the value.
+template <class T> static std::string front(const Result<T> &result) {
+    return result ? said(result) + " " + std::to_string(result.size()) : said(result);
 }
-// The part that a text is refused for, and the kind of the call: -1 and the code for any other answer.
-template <class T> static std::string part_of(const OrPart<T> &result) {
-    const SpeedatePart part = result.part();
-    if (result || !SPEEDATE_IS_FAULT(result.error().code()))
-        return part.place == 0 && part.end == 0 && part.kind == SPEEDATE_KIND_NONE ? "none" : "a part by mistake";
-    return std::to_string(part.place) + " " + std::to_string(part.end) + " " + std::to_string(part.kind);
+// The part that a text is refused for, and what it was read as: "none" for any other answer.
+template <class T> static std::string part_of(const Result<T> &result) {
+    const Error &it = result.error();
+    if (result || !SPEEDATE_IS_FAULT(it.code()))
+        return it.start() == 0 && it.end() == 0 && it.part().kind == SPEEDATE_KIND_NONE ? "none" : "a part by mistake";
+    return std::to_string(it.start()) + " " + std::to_string(it.end()) + " " + std::to_string(it.part().kind);
 }
 
 static Date date(const char *text) { return Date::parse(text).value(); }
@@ -87,12 +88,12 @@ static void results() {
     CHECK(good && good.has_value() && good->day() == 29 && good.value() == *good);
     CHECK(!bad && !bad.has_value() && bad.error() == Error(SPEEDATE_OUT_OF_RANGE_DAY));
     CHECK(bad.error().code() == SPEEDATE_OUT_OF_RANGE_DAY && bad.error() != Error(SPEEDATE_TOO_SHORT));
-    CHECK(bad.error().name() == "out_of_range_day" && Error(1000).name() == "unknown code");
-    CHECK(bad.error().documentation() == "day value is outside expected range");
-    CHECK(bad.error().expected({0, 0, SPEEDATE_KIND_DATE}) == "a day that the month has");
-    CHECK(Date::parse_or_part("").expected() == "a date, YYYY-MM-DD, or a whole number");
-    CHECK(Date::parse_or_part_text("").expected() == "a date: YYYY-MM-DD");
-    CHECK(bad.error().part_end("2021-02-29", 8) == 10 && Error(1000).part_end("2021-02-29", 8) == 8);
+    CHECK(bad.error().name() == std::string("out_of_range_day") && Error(1000).name() == std::string("unknown code"));
+    CHECK(bad.error().start() == 8 && bad.error().end() == 10 && bad.error().expected() == "a day that the month has");
+    CHECK(Error(SPEEDATE_OUT_OF_RANGE_MONTH, {0, 0, SPEEDATE_KIND_DATE}).expected() == "month, 01 to 12");
+    CHECK(Error(1000).expected() == "unknown code or kind" && good.size() == 10);
+    CHECK(Date::parse("", Form::OrTimestamp).error().expected() == "a date, YYYY-MM-DD, or a whole number");
+    CHECK(Date::parse("").error().expected() == "a date: YYYY-MM-DD");
     CHECK(bad.value_or(*good) == *good && good.value_or(date("2020-03-01")) == *good);
     bool throws = false;
     try {
@@ -102,8 +103,6 @@ static void results() {
     }
     CHECK(throws);
     CHECK(version() == SPEEDATE_VERSION_NUMBER && version() / 1000000 == SPEEDATE_VERSION_MAJOR);
-    CHECK(DateTime::timestamp_microseconds(-1).value() == -1000000 && !DateTime::timestamp_microseconds(INT64_MIN));
-    CHECK(int_parse("-012").value() == -12 && int_parse("1.5").error() == Error(SPEEDATE_INVALID_INTEGER));
 }
 
 static void dates() {
@@ -111,31 +110,22 @@ static void dates() {
     CHECK(said(Date::of(2020, 2, 29)) == "2020-02-29" && said(Date::of(2021, 2, 29)) == "out_of_range_day");
     CHECK(said(Date::of(SpeedateDate{10000, 13, 1})) == "date_too_large");
     CHECK(date("2020-02-29").year() == 2020 && date("2020-02-29").month() == 2 && date("2020-02-29").day() == 29);
-    CHECK(said(Date::parse("86400000000", microseconds)) == "1970-01-02" && said(Date::parse("")) == "too_short");
-    CHECK(said(Date::parse_text("2020-02-29")) == "2020-02-29" && !Date::parse_text("1582934400"));
-    CHECK(said(Date::parse_front("2020-02-29 opening balance")) == "2020-02-29 10");
-    CHECK(said(Date::parse_front("2020-02-2")) == "too_short");
-    CHECK(part_of(Date::parse_or_part("2020-13-01")) == "5 7 2" && part_of(Date::parse_or_part("86400")) == "none");
-    CHECK(part_of(Date::parse_or_part("86400", microseconds)) == "0 5 2");
-    CHECK(part_of(Date::parse_or_part("x", with(Unit::Infer, Overflow::Error, Order::Lax, 86400))) == "none");
-    CHECK(part_of(Date::parse_or_part_text("2020-01-01T12:13")) == "10 16 1");
-    CHECK(Date::parse_or_part_front("2020-02-29 rent")->size == 10);
-    CHECK(part_of(Date::parse_or_part_front("2020-02-29 rent")) == "none");
-    CHECK(part_of(Date::parse_or_part_front("2026-11-2")) == "9 9 1");
+    CHECK(said(Date::parse("86400000000", Form::OrTimestamp, microseconds)) == "1970-01-02" && said(Date::parse("")) == "too_short");
+    CHECK(said(Date::parse("2020-02-29")) == "2020-02-29" && !Date::parse("1582934400") && !Date::parse("20200229"));
+    CHECK(front(Date::parse("2020-02-29 opening balance", Form::Front)) == "2020-02-29 10");
+    CHECK(front(Date::parse("86400", Form::OrTimestamp)) == "1970-01-02 5");
+    CHECK(said(Date::parse("2020-02-29", Form::Strict)) == "config_out_of_range");
+    CHECK(part_of(Date::parse("2020-13-01", Form::OrTimestamp)) == "5 7 2" && part_of(Date::parse("86400", Form::OrTimestamp)) == "none");
+    CHECK(part_of(Date::parse("86400", Form::OrTimestamp, microseconds)) == "0 5 2");
+    CHECK(part_of(Date::parse("x", Form::Text, with(Unit::Infer, Overflow::Error, Order::Lax, 86400))) == "none");
+    CHECK(part_of(Date::parse("2020-01-01T12:13")) == "10 16 1");
+    CHECK(part_of(Date::parse("2026-11-2", Form::Front)) == "9 9 1");
     // Numbers that do not fit their fields in C are refused, and not narrowed.
     CHECK(said(Date::of(2020, 257, 29)) == "out_of_range_month" && said(Date::of(2020, 1, 257)) == "out_of_range_day");
     CHECK(said(Date::of(65536 + 2020, 1, 1)) == "date_too_large" && said(Date::of(-1, 1, 1)) == "date_too_small");
     CHECK(said(Date::of(2020, -1, 1)) == "out_of_range_month" && said(Date::of(2020, 1, -1)) == "out_of_range_day");
-    CHECK(said(Date::from_timestamp(86401, false)) == "1970-01-02" &&
-          said(Date::from_timestamp(86401, true)) == "date_not_exact");
-    CHECK(said(Date::from_timestamp(86400000000, true, microseconds)) == "1970-01-02");
-    CHECK(said(Date::from_day_number(737790)) == "2020-01-01" &&
-          said(Date::from_day_number(3652425)) == "no_such_date");
-    CHECK(date("1970-01-02").timestamp() == 86400 && date("1970-01-02").timestamp_ms() == 86400000);
-    CHECK(date("2020-01-01").day_number() == 737790 && date("2020-12-31").ordinal_day() == 366);
-    CHECK(said(date("2020-02-28").add_days(2)) == "2020-03-01" &&
-          said(date("9999-12-31").add_days(1)) == "no_such_date");
-    CHECK(Date::days_between(date("2020-02-28"), date("2020-03-01")) == 2);
+    CHECK(date("1970-01-02").days() == 1 && date("1969-12-31").days() == -1 && date("2020-01-01").days() == 18262);
+    CHECK(said(Date::from_days(18262)) == "2020-01-01" && said(Date::from_days(-719529)) == "no_such_date");
     const Date early = date("2020-02-29"), late = date("2020-03-01");
     CHECK(early < late && late > early && early <= late && late >= early && early <= early && early >= early);
     CHECK(!(late < early) && !(early > late) && early == early && early != late && !(early == late) &&
@@ -154,32 +144,22 @@ static void times() {
     CHECK(time.offset() == 5400 && !time_of("12:13").offset());
     CHECK(said(Time::of(12, 60)) == "out_of_range_minute" && said(Time::of(12, 0, 0, 0, 86400)) == "out_of_range_tz");
     CHECK(Time::of(SpeedateTime{12, 13, 0, 0, 0, 7}).value() == time_of("12:13"));
-    CHECK(said(Time::parse("12:13:14.1234567", cut)) == "12:13:14.123456" &&
+    CHECK(said(Time::parse("12:13:14.1234567", Form::Text, cut)) == "12:13:14.123456" &&
           said(Time::parse("24:00")) == "out_of_range_hour");
-    CHECK(said(Time::parse_strict("12:13:14Z")) == "12:13:14Z" &&
-          said(Time::parse_strict("12:13:14")) == "tz_required");
-    CHECK(said(Time::parse_strict("12:13:14.1234567Z", cut)) == "12:13:14.123456Z");
-    CHECK(said(Time::parse_front("12:13:14.1234567Z GET /", cut)) == "12:13:14.123456Z 17");
-    CHECK(part_of(Time::parse_or_part("12:13:60")) == "6 8 3");
-    CHECK(part_of(Time::parse_or_part("12:13:14.1234567", cut)) == "none");
-    CHECK(part_of(Time::parse_or_part_strict("12:13+01:00")) == "5 6 4");
-    CHECK(part_of(Time::parse_or_part_strict("12:13:14.1234567Z", cut)) == "none");
-    CHECK(part_of(Time::parse_or_part_front("12:00:00-ERROR")) == "9 11 3");
-    CHECK(part_of(Time::parse_or_part_front("12:13:14.1234567", cut)) == "none");
+    CHECK(said(Time::parse("12:13:14Z", Form::Strict)) == "12:13:14Z" &&
+          said(Time::parse("12:13:14", Form::Strict)) == "tz_required");
+    CHECK(said(Time::parse("12:13:14.1234567Z", Form::Strict, cut)) == "12:13:14.123456Z");
+    CHECK(front(Time::parse("12:13:14.1234567Z GET /", Form::Front, cut)) == "12:13:14.123456Z 17");
+    CHECK(said(Time::parse("12:13", Form::OrTimestamp)) == "config_out_of_range");
+    CHECK(part_of(Time::parse("12:13:60")) == "6 8 3");
+    CHECK(part_of(Time::parse("12:13+01:00", Form::Strict)) == "5 6 4");
+    CHECK(part_of(Time::parse("12:00:00-ERROR", Form::Front)) == "9 11 3");
     CHECK(said(Time::of(256, 0)) == "out_of_range_hour" && said(Time::of(0, 256)) == "out_of_range_minute");
     CHECK(said(Time::of(0, 0, 256)) == "out_of_range_second" && said(Time::of(0, 0, -1)) == "out_of_range_second");
     CHECK(said(Time::of(0, 0, 0, std::int64_t{1} << 32)) == "time_too_large");
     CHECK(said(Time::of(0, 0, 0, 0, std::int64_t{1} << 32)) == "out_of_range_tz");
     CHECK(said(Time::of(0, 0, 0, 0, -(std::int64_t{1} << 32))) == "out_of_range_tz");
     CHECK(said(Time::of(0, 0, 0, 0, -60)) == "00:00:00-00:01");
-    CHECK(said(Time::from_timestamp(36005, 1500000)) == "10:00:06.500000" &&
-          said(Time::from_timestamp(86400, 0)) == "time_too_large");
-    CHECK(said(Time::from_timestamp(1, 0, with(Unit::Infer, Overflow::Error, Order::Lax, 60))) == "00:00:01+00:01");
-    CHECK(time.total_seconds() == 43994 && time.total_ms() == 43994500);
-    CHECK(said(time.in_timezone(0)) == "10:43:14.500000Z" && said(time_of("12:13").in_timezone(0)) == "tz_required");
-    CHECK(compare_instants(time_of("12:00Z"), time_of("13:00+01:00")) == 0 &&
-          time_of("12:00Z") != time_of("13:00+01:00"));
-    CHECK(compare_instants(time_of("12:00Z"), time_of("12:00+01:00")) > 0);
 }
 
 static void date_times() {
@@ -193,30 +173,25 @@ static void date_times() {
           time_of("12:13").to_text(FractionDigits::Three) == "12:13:00.000");
     CHECK(DateTime::of(value.c()).value() == value && said(DateTime::of(SpeedateDateTime{})) == "out_of_range_month");
     CHECK(DateTime::of(SpeedateDateTime{{2020, 2, 29}, {12, 13, 0, 0, 0, 7}}).value() == moment("2020-02-29T12:13"));
-    CHECK(said(DateTime::parse("20000000001", unix_time)) == "2603-10-11T11:33:21Z");
-    CHECK(said(DateTime::parse_text("2020-02-29 12:13")) == "2020-02-29T12:13:00" && !DateTime::parse_text("1"));
-    CHECK(said(DateTime::parse_text("2020-02-29 12:13:14.1234567", unix_time)) == "2020-02-29T12:13:14.123456");
-    CHECK(said(DateTime::parse_strict("2020-02-29T12:13:14.1234567Z", unix_time)) == "2020-02-29T12:13:14.123456Z");
-    CHECK(said(DateTime::parse_strict("2020-02-29 12:13:14Z")) == "invalid_char_date_time_sep");
-    CHECK(said(DateTime::parse_front("2026-11-22T12:13:14.1234567Z GET /", unix_time)) ==
+    CHECK(said(DateTime::parse("20000000001", Form::OrTimestamp, unix_time)) == "2603-10-11T11:33:21Z");
+    CHECK(said(DateTime::parse("2020-02-29 12:13")) == "2020-02-29T12:13:00" && !DateTime::parse("1"));
+    CHECK(said(DateTime::parse("2020-02-29 12:13:14.1234567", Form::Text, unix_time)) == "2020-02-29T12:13:14.123456");
+    CHECK(said(DateTime::parse("2020-02-29T12:13:14.1234567Z", Form::Strict, unix_time)) == "2020-02-29T12:13:14.123456Z");
+    CHECK(said(DateTime::parse("2020-02-29 12:13:14Z", Form::Strict)) == "invalid_char_date_time_sep");
+    CHECK(front(DateTime::parse("2026-11-22T12:13:14.1234567Z GET /", Form::Front, unix_time)) ==
           "2026-11-22T12:13:14.123456Z 28");
-    CHECK(part_of(DateTime::parse_or_part("2020-02-29T12:13:60")) == "17 19 6");
-    CHECK(part_of(DateTime::parse_or_part("1.0000000", unix_time)) == "none");
-    CHECK(part_of(DateTime::parse_or_part_text("2020-02-29")) == "10 10 5");
-    CHECK(part_of(DateTime::parse_or_part_text("2020-02-29T12:13:14.1234567", unix_time)) == "none");
-    CHECK(part_of(DateTime::parse_or_part_strict("2020-02-29 12:13:14Z")) == "10 11 7");
-    CHECK(part_of(DateTime::parse_or_part_strict("2020-02-29T12:13:14.1234567Z", unix_time)) == "none");
-    CHECK(part_of(DateTime::parse_or_part_front("2026-11-22T12:00:00-ERROR")) == "20 22 5");
-    CHECK(part_of(DateTime::parse_or_part_front("2026-11-22T12:00:00.1234567", unix_time)) == "none");
+    CHECK(front(DateTime::parse("2026-11-01 08:00:00 -0500", Form::Front)) == "2026-11-01T08:00:00 19");
+    CHECK(part_of(DateTime::parse("2020-02-29T12:13:60", Form::OrTimestamp)) == "17 19 6");
+    CHECK(part_of(DateTime::parse("2020-02-29")) == "10 10 5");
+    CHECK(part_of(DateTime::parse("2020-02-29 12:13:14Z", Form::Strict)) == "10 11 7");
+    CHECK(part_of(DateTime::parse("2026-11-22T12:00:00-ERROR", Form::Front)) == "20 22 5");
     CHECK(said(DateTime::from_timestamp(1, 2)) == "1970-01-01T00:00:01.000002");
     CHECK(said(DateTime::from_timestamp(20000000001, 0, unix_time)) == "2603-10-11T11:33:21Z");
     const DateTime zoned = moment("1970-01-01T01:00:01.5+01:00");
-    CHECK(zoned.clock_seconds() == 3601 && zoned.clock_milliseconds() == 3601500 && zoned.unix_seconds() == 1);
-    CHECK(zoned.unix_milliseconds() == 1500 && zoned.unix_microseconds() == 1500000);
+    CHECK(zoned.unix_microseconds() == 1500000 && moment("1970-01-01T00:00:01.5").unix_microseconds() == 1500000);
     CHECK(said(zoned.in_timezone(0)) == "1970-01-01T00:00:01.500000Z" &&
           said(zoned.in_timezone(86400)) == "out_of_range_tz");
-    CHECK(compare_instants(zoned, zoned.in_timezone(0).value()) == 0 && zoned != zoned.in_timezone(0).value());
-    CHECK(compare_instants(moment("1970-01-01T00:00Z"), zoned) < 0);
+    CHECK(zoned.unix_microseconds() == zoned.in_timezone(0)->unix_microseconds() && zoned != zoned.in_timezone(0).value());
 }
 
 static void durations() {
@@ -232,15 +207,13 @@ static void durations() {
     CHECK(Duration::of(std::chrono::microseconds(-1500000)).to_text() == "-PT1.5S");
     CHECK(Duration::of(duration.c()).value() == duration);
     CHECK(said(Duration::of(SpeedateDuration{0, 0, 86400, 0})) == "duration_value_too_large");
-    CHECK(said(Duration::parse("P1D1Y")) == "P1Y1D" && part_of(Duration::parse_or_part("P1D1Q")) == "4 5 8");
+    CHECK(said(Duration::parse("P1D1Y")) == "P1Y1D" && part_of(Duration::parse("P1D1Q")) == "4 5 8");
     const Config strict = with(Unit::Infer, Overflow::Error, Order::Strict);
-    CHECK(said(Duration::parse("P1D1Y", strict)) == "duration_unit_order" &&
-          part_of(Duration::parse_or_part("P1D1Y", strict)) == "4 5 8");
-    CHECK(duration.signed_total_seconds() == std::chrono::seconds(-86402));
-    CHECK(duration.signed_total_ms() == std::chrono::milliseconds(-86402000));
-    CHECK(duration.signed_microseconds() == std::chrono::microseconds(-3));
-    CHECK(duration.signed_total_microseconds().value() == std::chrono::microseconds(-86402000003));
-    CHECK(length("P999999999D").signed_total_microseconds().error() == Error(SPEEDATE_NUMBER_TOO_LARGE));
+    CHECK(said(Duration::parse("P1D1Y", Form::Text, strict)) == "duration_unit_order" &&
+          part_of(Duration::parse("P1D1Y", Form::Text, strict)) == "4 5 8");
+    CHECK(said(Duration::parse("P1D", Form::Strict)) == "config_out_of_range");
+    CHECK(duration.microseconds().value() == std::chrono::microseconds(-86402000003));
+    CHECK(length("P999999999D").microseconds().error() == Error(SPEEDATE_NUMBER_TOO_LARGE));
     CHECK(said(Duration::sum({length("PT2H"), length("-PT30M")})) == "PT1H30M" &&
           said(Duration::sum(std::array<Duration, 2>{length("PT2H"), length("-PT30M")})) == "PT1H30M" &&
           said(Duration::sum(std::vector<Duration>())) == "PT0S" &&
@@ -249,14 +222,16 @@ static void durations() {
     const DateTime start = moment("2020-02-29T23:00Z"), end = moment("2020-03-01T00:30Z");
     CHECK(Duration::between(start, end).to_text() == "PT1H30M" &&
           Duration::between(end, start).to_text() == "-PT1H30M");
-    CHECK(Duration::between(start.date(), end.date()).to_text() == "P1D");
-    CHECK(length("PT90M").after(start).value() == end && length("PT90M").before(end).value() == start);
-    CHECK(length("P1D").after(start.date()).value() == end.date() &&
-          length("P1D").before(end.date()).value() == start.date());
-    CHECK(said(length("PT1H").after(start.date())) == "date_not_exact" &&
-          said(length("P9999Y").before(end)) == "date_too_small");
+    CHECK((start + length("PT90M")).value() == end && (end - length("PT90M")).value() == start);
+    CHECK(said(end - length("P9999Y")) == "date_too_small");
     const Duration less = length("-PT0S"), more = length("PT0S");
     CHECK(less < more && more > less && less <= more && more >= less && less != more && compare(less, more) < 0);
+    const char *const rising[] = {"-P1DT1S", "-P1D", "-PT2S", "-PT1.5S", "-PT1S", "-PT0S", "PT0S", "PT1S", "PT1.5S", "PT2S", "P1D", "P1DT1S"};
+    for (const char *const *one = rising; one != std::end(rising); one++)
+        for (const char *const *other = rising; other != std::end(rising); other++) {
+            CHECK((length(*one) < length(*other)) == (one < other));
+            CHECK((compare(length(*one), length(*other)) == 0) == (one == other));
+        }
 }
 
 static void columns() {
@@ -267,33 +242,31 @@ static void columns() {
     const std::string_view moments = "1970-01-01T00:00:01Z\n1970-01-01T01:00+01:00\nago\n";
     Progress read = datetime_column(moments, numbers).value();
     CHECK(read.lines == 2 && read.bytes == moments.size() - 4 && read.error == Error(SPEEDATE_TOO_SHORT));
-    CHECK(read.part.place == 3 && read.part.end == 3);
-    CHECK(read.error->expected(read.part) == "a date-time: YYYY-MM-DDTHH:MM or YYYY-MM-DDTHH:MM:SS");
+    CHECK(read.error->start() == 3 && read.error->end() == 3);
+    CHECK(read.error->expected() == "a date-time: YYYY-MM-DDTHH:MM or YYYY-MM-DDTHH:MM:SS");
     CHECK(numbers == std::vector<std::int64_t>({1000000, 0, 7}));
-    column.goes_on = true;
-    read = datetime_column(moments, numbers, {}, column).value();
-    CHECK(read.lines == 3 && !read.error && numbers[2] == INT64_MIN && read.part.kind == SPEEDATE_KIND_NONE);
+    column.go_on = true;
+    read = datetime_column(moments, numbers, column).value();
+    CHECK(read.lines == 3 && !read.error && numbers[2] == INT64_MIN);
     column = ColumnConfig();
     column.at_end = false;
-    column.drops_returns = true;
-    column.parser = Parser::OrTimestamp;
-    read = date_column("86400\r\n1970-01-0", days, {}, column).value();
+    column.drop_returns = true;
+    column.form = Form::OrTimestamp;
+    read = date_column("86400\r\n1970-01-0", days, column).value();
     CHECK(read.lines == 1 && read.bytes == 7 && !read.error && days[0] == 1 && days[1] == 7);
     read = duration_column("PT1.5S\n-00:01:00\n", numbers).value();
     CHECK(read.lines == 2 && numbers[0] == 1500000 && numbers[1] == -60000000);
-    read = datetime_clock_column("1970-01-01T00:00:01\n1970-01-01T01:00+01:00", numbers).value();
+    ColumnConfig clocks;
+    clocks.clock = true;
+    read = datetime_column("1970-01-01T00:00:01\n1970-01-01T01:00+01:00", numbers, clocks).value();
     CHECK(read.lines == 2 && numbers[0] == 1000000 && numbers[1] == 3600000000);
-    read = datetime_offset_column("1970-01-01T01:00+01:00\n1970-01-01T00:00\n", days).value();
-    CHECK(read.lines == 1 && days[0] == 3600 && read.error == Error(SPEEDATE_TZ_REQUIRED));
     read = time_column("12:13:14.5\n00:00+01:00\n", numbers).value();
     CHECK(read.lines == 2 && numbers[0] == 43994500000 && numbers[1] == 0);
-    read = time_offset_column("12:13Z\n00:00-01:00\n", days).value();
-    CHECK(read.lines == 2 && days[0] == 0 && days[1] == -3600);
     column = ColumnConfig();
-    column.assumes_utc = true;
-    CHECK(datetime_column("1970-01-01T00:00:02", numbers, {}, column).value().lines == 1 && numbers[0] == 2000000);
-    column.parser = Parser::Strict;
-    CHECK(said(date_column("", days, {}, column).has_value()
+    column.assume_utc = true;
+    CHECK(datetime_column("1970-01-01T00:00:02", numbers, column).value().lines == 1 && numbers[0] == 2000000);
+    column.form = Form::Strict;
+    CHECK(said(date_column("", days, column).has_value()
                    ? Result<Date>(date("2020-02-29"))
                    : Error(SPEEDATE_CONFIG_OUT_OF_RANGE)) == "config_out_of_range");
     read = datetime_column("1970-01-01T00:00Z\n24:00\n1970-01-01T00:00Z", numbers, errors).value();
@@ -302,50 +275,41 @@ static void columns() {
     CHECK(datetime_column("x", numbers, std::array<std::uint8_t, 0>()).value().lines == 0);
     read = date_column("1970-01-03\nx", days, errors).value();
     CHECK(read.lines == 2 && days[0] == 2 && days[1] == INT32_MIN && errors[1] == SPEEDATE_TOO_SHORT);
-    read = datetime_clock_column("1970-01-01T00:00:03-01:00\nx", numbers, errors).value();
+    read = datetime_column("1970-01-01T00:00:03-01:00\nx", numbers, errors, clocks).value();
     CHECK(read.lines == 2 && numbers[0] == 3000000 && numbers[1] == INT64_MIN && errors[1] == SPEEDATE_TOO_SHORT);
-    read = datetime_offset_column("1970-01-01T00:00+02:00\n1970-01-01T00:00", days, errors).value();
-    CHECK(read.lines == 2 && days[0] == 7200 && days[1] == INT32_MIN && errors[1] == SPEEDATE_TZ_REQUIRED);
     read = time_column("00:00:04+01:00\n24:00", numbers, errors).value();
     CHECK(read.lines == 2 && numbers[0] == 4000000 && errors[0] == 0 && errors[1] == SPEEDATE_OUT_OF_RANGE_HOUR);
-    read = time_offset_column("00:00+03:00\n00:00", days, errors).value();
-    CHECK(read.lines == 2 && days[0] == 10800 && errors[0] == 0 && errors[1] == SPEEDATE_TZ_REQUIRED);
     read = duration_column("PT2S\nP999999999D", numbers, errors).value();
     CHECK(read.lines == 2 && numbers[0] == 2000000 && errors[1] == SPEEDATE_NUMBER_TOO_LARGE);
 
-    // Each call hands on both configurations: by the first the line is read, or refused, and by the second it is cut.
-    const Config config = with(Unit::Microsecond, Overflow::Error, Order::Strict);
+    // Each call passes on the configuration, the form and the flags.
     column = ColumnConfig();
-    column.parser = Parser::OrTimestamp;
-    column.drops_returns = true;
-    column.assumes_utc = true;
-    CHECK(date_column("86400000000\r\n", days, config, column).value().lines == 1 && days[0] == 1);
-    CHECK(datetime_column("5\r\n", numbers, config, column).value().lines == 1 && numbers[0] == 5);
-    CHECK(duration_column("PT3S\r\n", numbers, config, column).value().lines == 1 && numbers[0] == 3000000);
-    CHECK(duration_column("PT1S1M", numbers, config, column).value().error == Error(SPEEDATE_DURATION_UNIT_ORDER));
-    CHECK(date_column("172800000000\r\n", days, errors, config, column).value().lines == 1);
+    column.config = with(Unit::Microsecond, Overflow::Error, Order::Strict);
+    column.form = Form::OrTimestamp;
+    column.drop_returns = true;
+    column.assume_utc = true;
+    CHECK(date_column("86400000000\r\n", days, column).value().lines == 1 && days[0] == 1);
+    CHECK(datetime_column("5\r\n", numbers, column).value().lines == 1 && numbers[0] == 5);
+    clocks = column;
+    clocks.clock = true;
+    CHECK(datetime_column("6\r\n", numbers, clocks).value().lines == 1 && numbers[0] == 6);
+    column.form = Form::Text;
+    CHECK(duration_column("PT3S\r\n", numbers, column).value().lines == 1 && numbers[0] == 3000000);
+    CHECK(duration_column("PT1S1M", numbers, column).value().error == Error(SPEEDATE_DURATION_UNIT_ORDER));
+    column.form = Form::OrTimestamp;
+    CHECK(!duration_column("PT3S\r\n", numbers, column));
+    CHECK(date_column("172800000000\r\n", days, errors, column).value().lines == 1);
     CHECK(days[0] == 2 && errors[0] == 0);
-    CHECK(datetime_column("7\r\n", numbers, errors, config, column).value().lines == 1);
+    CHECK(datetime_column("7\r\n", numbers, errors, column).value().lines == 1);
     CHECK(numbers[0] == 7 && errors[0] == 0);
-    CHECK(datetime_clock_column("6\r\n", numbers, config, column).value().lines == 1 && numbers[0] == 6);
-    CHECK(datetime_clock_column("8\r\n", numbers, errors, config, column).value().lines == 1);
-    CHECK(numbers[0] == 8 && errors[0] == 0);
-    Config east = config;
-    east.timestamp_offset = 3600;
-    CHECK(datetime_offset_column("6\r\n", days, east, column).value().lines == 1 && days[0] == 3600);
-    east.timestamp_offset = 7200;
-    CHECK(datetime_offset_column("6\r\n", days, errors, east, column).value().lines == 1);
-    CHECK(days[0] == 7200 && errors[0] == 0);
     ColumnConfig times;
-    times.drops_returns = true;
-    const Config cut = with(Unit::Infer, Overflow::Truncate, Order::Lax);
-    CHECK(time_column("00:00:00.0000019\r\n", numbers, cut, times).value().lines == 1 && numbers[0] == 1);
-    CHECK(time_column("00:00:00.0000029\r\n", numbers, errors, cut, times).value().lines == 1);
+    times.drop_returns = true;
+    times.config = with(Unit::Infer, Overflow::Truncate, Order::Lax);
+    CHECK(time_column("00:00:00.0000019\r\n", numbers, times).value().lines == 1 && numbers[0] == 1);
+    CHECK(time_column("00:00:00.0000029\r\n", numbers, errors, times).value().lines == 1);
     CHECK(numbers[0] == 2 && errors[0] == 0);
-    CHECK(time_offset_column("00:00:00.1234567+00:01\r\n", days, cut, times).value().lines == 1 && days[0] == 60);
-    CHECK(time_offset_column("00:00:00.1234567z\r\n", days, errors, cut, times).value().lines == 1);
-    CHECK(days[0] == 0 && errors[0] == 0);
-    CHECK(duration_column("PT4S\r\nPT1S1M", numbers, errors, config, column).value().lines == 2);
+    column.form = Form::Text;
+    CHECK(duration_column("PT4S\r\nPT1S1M", numbers, errors, column).value().lines == 2);
     CHECK(numbers[0] == 4000000 && errors[0] == 0 && errors[1] == SPEEDATE_DURATION_UNIT_ORDER);
 }
 
@@ -353,11 +317,11 @@ static void fronts() {
     std::array<SpeedateDateTimeFront, 2> fronts = {};
     std::array<std::uint8_t, 2> errors = {7, 7};
     ColumnConfig column;
-    column.assumes_utc = true;
+    column.assume_utc = true;
     Progress read = datetime_front_column("1970-01-01T00:00:01Z GET /\nx", fronts).value();
     CHECK(read.lines == 1 && fronts[0].microseconds == 1000000 && fronts[0].size == 20);
     CHECK(read.error == Error(SPEEDATE_TOO_SHORT));
-    read = datetime_front_column("1970-01-01T00:00 x\nx", fronts, errors, {}, column).value();
+    read = datetime_front_column("1970-01-01T00:00 x\nx", fronts, errors, column).value();
     CHECK(read.lines == 2 && fronts[0].size == 16 && fronts[1].size == 0 && errors[1] == SPEEDATE_TOO_SHORT);
 }
 
@@ -366,32 +330,33 @@ static void columns_of_texts() {
     std::array<std::uint8_t, 3> errors = {7, 7, 7};
     std::int32_t days[2] = {7, 7};
     const std::vector<std::int32_t> offsets = {1, 11, 21};
-    Progress read = date_texts(">1970-01-021969-12-31", offsets, days).value();
+    Progress read = date_column(Texts(">1970-01-021969-12-31", offsets), days).value();
     CHECK(read.lines == 2 && read.bytes == 21 && !read.error && days[0] == 1 && days[1] == -1);
-    read = date_texts("x1970-01-03", {0, 1, 11}, days, errors).value();
+    read = date_column(Texts("x1970-01-03", {0, 1, 11}), days, errors).value();
     CHECK(read.lines == 2 && days[0] == INT32_MIN && days[1] == 2);
     CHECK(errors[0] == SPEEDATE_TOO_SHORT && errors[1] == 0 && errors[2] == 7);
-    read = datetime_texts("1970-01-01T00:00:01Zago", {0, 20, 23}, numbers).value();
+    read = datetime_column(Texts("1970-01-01T00:00:01Zago", {0, 20, 23}), numbers).value();
     CHECK(read.lines == 1 && read.bytes == 20 && read.error == Error(SPEEDATE_TOO_SHORT));
     CHECK(numbers == std::vector<std::int64_t>({1000000, 7, 7}));
-    CHECK(datetime_texts("x", {0, 1}, numbers, std::array<std::uint8_t, 0>()).value().lines == 0);
-    read = time_texts("12:13:14.500:00+01:00", {0, 10, 21}, numbers).value();
+    CHECK(datetime_column(Texts("x", {0, 1}), numbers, std::array<std::uint8_t, 0>()).value().lines == 0);
+    read = time_column(Texts("12:13:14.500:00+01:00", {0, 10, 21}), numbers).value();
     CHECK(read.lines == 2 && numbers[0] == 43994500000 && numbers[1] == 0);
-    read = duration_texts("PT2SP999999999D", {0, 4, 15}, numbers, errors).value();
+    read = duration_column(Texts("PT2SP999999999D", {0, 4, 15}), numbers, errors).value();
     CHECK(read.lines == 2 && numbers[0] == 2000000 && errors[1] == SPEEDATE_NUMBER_TOO_LARGE);
-    CHECK(!date_texts("", std::vector<std::int32_t>(), days).value().lines);
-    CHECK(!date_texts("1970-01-02", {10, 0}, days).has_value() && days[0] == INT32_MIN);
+    CHECK(!date_column(Texts("", std::vector<std::int32_t>()), days).value().lines);
+    CHECK(!date_column(Texts("1970-01-02", {10, 0}), days).has_value() && days[0] == INT32_MIN);
 
-    // Each call hands on both configurations.
-    const Config config = with(Unit::Microsecond, Overflow::Error, Order::Strict);
+    // Each call passes on the configuration and the form.
     ColumnConfig column;
-    column.parser = Parser::OrTimestamp;
-    column.assumes_utc = true;
-    CHECK(date_texts("86400000000", {0, 11}, days, config, column).value().lines == 1 && days[0] == 1);
-    CHECK(datetime_texts("5", {0, 1}, numbers, errors, config, column).value().lines == 1 && numbers[0] == 5);
-    CHECK(duration_texts("PT1S1M", {0, 6}, numbers, config).value().error == Error(SPEEDATE_DURATION_UNIT_ORDER));
-    column.parser = Parser::Strict;
-    CHECK(time_texts("00:00:00", {0, 8}, numbers, {}, column).value().error == Error(SPEEDATE_TZ_REQUIRED));
+    column.config = with(Unit::Microsecond, Overflow::Error, Order::Strict);
+    column.form = Form::OrTimestamp;
+    column.assume_utc = true;
+    CHECK(date_column(Texts("86400000000", {0, 11}), days, column).value().lines == 1 && days[0] == 1);
+    CHECK(datetime_column(Texts("5", {0, 1}), numbers, errors, column).value().lines == 1 && numbers[0] == 5);
+    column.form = Form::Text;
+    CHECK(duration_column(Texts("PT1S1M", {0, 6}), numbers, column).value().error == Error(SPEEDATE_DURATION_UNIT_ORDER));
+    column.form = Form::Strict;
+    CHECK(time_column(Texts("00:00:00", {0, 8}), numbers, column).value().error == Error(SPEEDATE_TZ_REQUIRED));
 }
 
 static void columns_in_print() {
@@ -454,14 +419,7 @@ static void chrono() {
 #endif
 }
 
-// Whether a call can have {} for its flag, or a number: then it would stand for a flag that nobody has named.
-template <class Flag, class = void> struct TakesFlag : std::false_type {};
-template <class Flag>
-struct TakesFlag<Flag, std::void_t<decltype(Date::from_timestamp(1, std::declval<Flag>()))>> : std::true_type {};
-template <class T, class = void> struct TakesBraces : std::false_type {};
-template <class T> struct TakesBraces<T, std::void_t<decltype(T::from_timestamp(1, {}))>> : std::true_type {};
-static_assert(TakesFlag<bool>::value && !TakesFlag<int>::value && !TakesFlag<Config>::value);
-static_assert(!TakesBraces<Date>::value);
+// Whether a call can have a number for its flag: then it would stand for a flag that nobody has named.
 template <class Flag, class = void> struct TakesSign : std::false_type {};
 template <class Flag>
 struct TakesSign<Flag, std::void_t<decltype(Duration::of(std::declval<Flag>(), 2))>> : std::true_type {};

@@ -294,7 +294,7 @@ ended_code (Some error) = line_error_code error
 abbrev pub progress_part : CallKind → Option LineError → ℕ × ℕ → SpeedatePart
 progress_part kind None part = no_part
 progress_part kind (Some error) part =
-    record { place = part.0; end = part.1; kind = kind_number kind }
+    record { start = part.0; end = part.1; kind = kind_number kind }
 
 -- the part of the first of the lines that are left, if it ends a column
 abbrev pub left_part : {N : Type 0} → LineCall N → LineConfig → Option LineError → List (List ℕ)

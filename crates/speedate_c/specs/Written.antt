@@ -34,12 +34,12 @@ written_number before (Err error) = (line_error_code error, before)
 
 -- the part where no text is refused
 abbrev pub no_part : SpeedatePart
-no_part = record { place = 0; end = 0; kind = pos 0 }
+no_part = record { start = 0; end = 0; kind = pos 0 }
 
 -- the part of a text that a fault at a place is about, from a call of a kind
 abbrev pub part_at : ParseError → CallKind → List ℕ → ℕ → SpeedatePart
 part_at fault kind text place =
-    record { place = place; end = part_end fault text place; kind = kind_number kind }
+    record { start = place; end = part_end fault text place; kind = kind_number kind }
 
 -- the value at the front of a text, without its size
 abbrev pub without_size : {A : Type 0} → Result (A × ℕ) ParseError → Result A ParseError
@@ -62,7 +62,7 @@ pub record Reading : Type 0 where
 -- about, which begins at its place, and otherwise where the value ends
 abbrev pub written_part : ℤ → Reading → List ℕ → SpeedatePart
 written_part code reading text =
-    with_option (fault_of code) (record { place = 0; end = reading.size; kind = pos 0 })
+    with_option (fault_of code) (record { start = 0; end = reading.size; kind = pos 0 })
     (λ fault. with_option reading.place no_part (part_at fault reading.kind text))
 
 -- written of a date, where there is one

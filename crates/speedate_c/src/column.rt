@@ -136,7 +136,7 @@ fn ended_part(progress: &Progress, kind: CallKind) -> SpeedatePart
 {
     match progress.error {
         Some(_) => SpeedatePart {
-            place: progress.place,
+            start: progress.place,
             end: progress.end,
             kind: kind_number(kind),
         },

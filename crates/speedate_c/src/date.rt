@@ -21,7 +21,7 @@ use crate::code::{
 };
 use crate::config::SpeedateConfig;
 use crate::text::write_text;
-use speedate::{Date, ParseError};
+use speedate::{Date, DateConfig, ParseError};
 
 /// The day from which columns count.
 const FIRST_DAY: Date = Date {
@@ -110,10 +110,15 @@ pub extern "C" fn speedate_date_parse_value(
         (λ config. with_option (date_by_form form config text.now) (config_out_of_range, out.old)
         (λ answer. written_answer shown_date out.old answer)) }
 {
-    let config = config_or_return!(config.to_date_config());
+    let config = config_or_return!(config.to_config());
     match form {
         TEXT => write_date(Date::parse_bytes_rfc3339(text), out),
-        OR_TIMESTAMP => write_date(Date::parse_bytes_with_config(text, &config), out),
+        OR_TIMESTAMP => {
+            let config = DateConfig {
+                timestamp_unit: config.timestamp_unit,
+            };
+            write_date(Date::parse_bytes_with_config(text, &config), out)
+        }
         FRONT => write_front!(Date::parse_front(text) => SpeedateDate, out),
         _ => CONFIG_OUT_OF_RANGE,
     }

@@ -95,13 +95,22 @@ pub extern "C" fn speedate_datetime_parse_value(
         (λ answer. written_answer shown_date_time out.old answer)) }
 {
     let config = config_or_return!(config.to_config());
-    let times = &config.time_config;
-    let behavior = times.microseconds_precision_overflow_behavior;
     match form {
-        TEXT => write_date_time(DateTime::parse_bytes_rfc3339_with_config(text, times), out),
-        OR_TIMESTAMP => write_date_time(DateTime::parse_bytes_with_config(text, &config), out),
-        STRICT => write_date_time(DateTime::parse_bytes_strict(text, behavior), out),
-        FRONT => write_front!(DateTime::parse_front(text, times) => SpeedateDateTime, out),
+        TEXT => {
+            let answer = DateTime::parse_bytes_rfc3339_with_config(text, &config.time_config);
+            write_date_time(answer, out)
+        }
+        OR_TIMESTAMP => {
+            let value = answer_or_return!(DateTime::parse_bytes_with_config(text, &config));
+            *out = SpeedateDateTime::from_value(&value);
+            SUCCESS
+        }
+        STRICT => {
+            let behavior = config.time_config.microseconds_precision_overflow_behavior;
+            write_date_time(DateTime::parse_bytes_strict(text, behavior), out)
+        }
+        FRONT =>
+            write_front!(DateTime::parse_front(text, &config.time_config) => SpeedateDateTime, out),
         _ => CONFIG_OUT_OF_RANGE,
     }
 }

@@ -51,7 +51,7 @@ macro_rules! write_or_part {
     (@ ($value:expr, $size:expr) => $shown:ident, $out:expr, $part:expr) => {{
         *$out = $shown::from_value(&$value);
         *$part = $crate::part::SpeedatePart {
-            place: 0,
+            start: 0,
             end: $size,
             kind: 0,
         };

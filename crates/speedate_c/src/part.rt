@@ -12,8 +12,8 @@ use speedate::{CallKind, Refused};
 #[derive(Clone, Copy)]
 pub struct SpeedatePart {
     /// The byte at which it begins, or would begin: the place of the error.
-    pub place: usize,
-    /// The byte at which it ends: the place itself if nothing is there.
+    pub start: usize,
+    /// The byte at which it ends: the same if nothing is there. In an accepted text, where the value ends.
     pub end: usize,
     /// The number of the kind of the call that refused the text: 0 if no text is refused.
     pub kind: i32,
@@ -21,7 +21,7 @@ pub struct SpeedatePart {
 
 /// What a call writes if it refuses no text.
 pub(crate) const NO_PART: SpeedatePart = SpeedatePart {
-    place: 0,
+    start: 0,
     end: 0,
     kind: 0,
 };
@@ -38,7 +38,7 @@ pub(crate) fn write_part(
     ensures reads_back { fault_of result ≡ Some refused.fault }
 {
     *part = SpeedatePart {
-        place: refused.place,
+        start: refused.place,
         end: refused.fault.part_end(text, refused.place),
         kind: kind_number(kind),
     };
