@@ -17,7 +17,7 @@ static void report(int number, int code, SpeedatePart part) {
     fprintf(stderr, "line %d: %s", number, speedate_code_string(code));
     /* A date-time that parses, but has no clock in UTC, has no part that is wrong. */
     if (part.kind != SPEEDATE_KIND_NONE)
-        fprintf(stderr, " at byte %zu", part.place);
+        fprintf(stderr, " at byte %zu", part.start);
     fprintf(stderr, ": expected %s\n", wanted);
 }
 
@@ -27,24 +27,24 @@ int main(void) {
     SpeedateDuration span;
     SpeedatePart part;
     char *line = NULL, text[SPEEDATE_DATETIME_TEXT_SIZE], span_text[SPEEDATE_DURATION_TEXT_SIZE];
-    size_t room = 0, taken, length;
+    size_t room = 0, length;
     ssize_t size;
     int seen = 0;
     /* Of nine digits of a second, which Go, Docker and Kubernetes print, those after the sixth are dropped; by default
      * they are refused. */
     config.overflow_behavior = SPEEDATE_OVERFLOW_TRUNCATE;
     for (int number = 1; (size = getline(&line, &room, stdin)) > 0; number++) {
-        int code = speedate_datetime_parse_or_part_front(line, (size_t)size, config, &moment, &taken, &part);
+        int code = speedate_datetime_parse(line, (size_t)size, SPEEDATE_FRONT, &config, &moment, &part);
         if (code == SPEEDATE_OK)
             code = speedate_datetime_in_timezone(moment, 0, &moment);
         if (code == SPEEDATE_OK)
-            code = speedate_datetime_to_text(moment, text, sizeof text, &length);
+            code = speedate_datetime_to_text(moment, SPEEDATE_DIGITS_AUTO, text, sizeof text, &length);
         if (code != SPEEDATE_OK) {
             report(number, code, part);
             continue;
         }
         fputs(text, stdout);
-        fwrite(line + taken, 1, (size_t)size - taken, stdout);
+        fwrite(line + part.end, 1, (size_t)size - part.end, stdout);
         if (line[size - 1] != '\n')
             putchar('\n');
         if (seen++ == 0)

@@ -467,17 +467,17 @@ SPEEDATE_NODISCARD int speedate_duration_sum(const SpeedateDuration *durations, 
 
 /* The end of the text ends its last line. Without it more text may follow: the bytes after the last line feed are left
  * for a further call, so that half a line is never read as a whole one. */
-#define SPEEDATE_AT_END 1
+#define SPEEDATE_AT_END 0x01
 /* A carriage return at the end of a line is dropped, as files of Windows have one. Otherwise the line is refused. */
-#define SPEEDATE_DROP_RETURNS 2
+#define SPEEDATE_DROP_RETURNS 0x02
 /* A date-time without an offset is taken to be in UTC. Otherwise it is refused, with SPEEDATE_TZ_REQUIRED. */
-#define SPEEDATE_ASSUME_UTC 4
+#define SPEEDATE_ASSUME_UTC 0x04
 /* A text that is refused gets the smallest number, INT64_MIN or INT32_MIN, and the column goes on. Otherwise it ends
  * the column. No other text has this number, and INT64_MIN is NaT in NumPy. */
-#define SPEEDATE_GO_ON 8
+#define SPEEDATE_GO_ON 0x08
 /* Date-times are read and printed as their clocks show them: microseconds since 1970-01-01T00:00:00 on the same clock,
  * whatever the offset. Only for lines of speedate_datetime_column, and speedate_datetime_print_column. */
-#define SPEEDATE_CLOCK 16
+#define SPEEDATE_CLOCK 0x10
 
 /* How far a column has come that is read, or printed. */
 typedef struct SpeedateProgress {

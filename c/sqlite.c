@@ -3,8 +3,8 @@
  *     speedate(text)     its date-time in one form: 2026-11-22T23:30:00+01:00 for '2026-11-22 23:30+0100'
  *     speedate_us(text)  its microseconds since 1970-01-01T00:00:00 in UTC, by which rows can be sorted
  *
- * A timestamp is a text too: 1700000000 and '1700000000' are seconds, in UTC. NULL gives NULL. A text that is refused
- * ends the statement, with what is wrong, where, and what was expected there.
+ * NULL gives NULL. A text that is refused ends the statement, with what is wrong, where, and what was expected there. A
+ * number is refused too, so that 20200229 is no second of 1970: for a column of timestamps use SPEEDATE_OR_TIMESTAMP.
  *
  *     cc -shared -fPIC sqlite.c $(pkg-config --cflags --libs speedate) -o speedate.so
  *     sqlite3 :memory: '.load ./speedate' "SELECT speedate_us('2026-11-22T22:30:00Z')"
@@ -19,7 +19,7 @@ static void refuse(sqlite3_context *context, int code, SpeedatePart part) {
     size_t length;
     int known = speedate_code_expected(code, &part, wanted, sizeof wanted, &length) == SPEEDATE_OK;
     char *message = sqlite3_mprintf("%s at byte %llu: expected %s", speedate_code_string(code),
-                                    (unsigned long long)part.place, known ? wanted : "another text");
+                                    (unsigned long long)part.start, known ? wanted : "another text");
     if (message)
         sqlite3_result_error(context, message, -1);
     else
@@ -31,13 +31,11 @@ static void refuse(sqlite3_context *context, int code, SpeedatePart part) {
 static int parse(sqlite3_context *context, sqlite3_value *argument, SpeedateDateTime *value) {
     const char *text = (const char *)sqlite3_value_text(argument);
     size_t size = (size_t)sqlite3_value_bytes(argument);
-    SpeedateConfig config = SPEEDATE_CONFIG_DEFAULT;
     SpeedatePart part;
     int code;
     if (!text) /* NULL, which is also the result if there is no other */
         return 0;
-    config.has_timestamp_offset = 1;
-    code = speedate_datetime_parse_or_part(text, size, config, value, &part);
+    code = speedate_datetime_parse(text, size, SPEEDATE_TEXT, NULL, value, &part);
     if (code != SPEEDATE_OK)
         refuse(context, code, part);
     return code == SPEEDATE_OK;
@@ -49,7 +47,7 @@ static void print(sqlite3_context *context, int count, sqlite3_value **arguments
     size_t length;
     (void)count;
     if (parse(context, arguments[0], &value) &&
-        speedate_datetime_to_text(value, text, sizeof text, &length) == SPEEDATE_OK)
+        speedate_datetime_to_text(value, SPEEDATE_DIGITS_AUTO, text, sizeof text, &length) == SPEEDATE_OK)
         sqlite3_result_text(context, text, (int)length, SQLITE_TRANSIENT);
 }
 

@@ -10,19 +10,19 @@
 #include <string.h>
 
 /* A kind of line: parses a text, and prints its value. */
-#define KIND(TYPE, NAME)                                                                                               \
+#define KIND(TYPE, NAME, FORM, VALUE)                                                                                  \
     static int answer_##NAME(const char *text, size_t size, char *printed, size_t room) {                              \
-        SpeedateConfig config = SPEEDATE_CONFIG_DEFAULT;                                                               \
         TYPE value;                                                                                                    \
         size_t length;                                                                                                 \
-        int code = speedate_##NAME##_parse(text, size, config, &value);                                                \
-        return code == SPEEDATE_OK ? speedate_##NAME##_to_text(value, printed, room, &length) : code;                  \
+        int code = speedate_##NAME##_parse(text, size, FORM, NULL, &value, NULL);                                      \
+        return code == SPEEDATE_OK ? speedate_##NAME##_to_text(VALUE, printed, room, &length) : code;              \
     }
 
-KIND(SpeedateDate, date)
-KIND(SpeedateTime, time)
-KIND(SpeedateDateTime, datetime)
-KIND(SpeedateDuration, duration)
+#define WITH_DIGITS value, SPEEDATE_DIGITS_AUTO
+KIND(SpeedateDate, date, SPEEDATE_OR_TIMESTAMP, value)
+KIND(SpeedateTime, time, SPEEDATE_TEXT, WITH_DIGITS)
+KIND(SpeedateDateTime, datetime, SPEEDATE_OR_TIMESTAMP, WITH_DIGITS)
+KIND(SpeedateDuration, duration, SPEEDATE_TEXT, value)
 
 static const struct {
     const char *word;
