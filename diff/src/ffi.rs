@@ -1,4 +1,4 @@
-//! The structs of `c/speedate.h`, and those of its functions that the package for Rust does not call, each with its C
+//! The structs of `c/speedate_packages.h`, and those of its functions that the package for Rust does not call, each with its C
 //! name. This is the one module with unsafe code: each call gets the addresses of variables of its types. Each answers a
 //! code, and writes to `out` if and only if the code is 0.
 
@@ -118,18 +118,20 @@ macro_rules! values {
 }
 
 #[inline]
-pub fn speedate_duration_parse(text: &[u8], config: Config, out: &mut Duration) -> Code {
+pub fn speedate_duration_parse_value(text: &[u8], form: c_int, config: Config, out: &mut Duration) -> Code {
     unsafe extern "C" {
-        fn speedate_duration_parse(text: *const c_char, size: usize, config: Config, out: *mut Duration) -> Code;
+        fn speedate_duration_parse_value(
+            text: *const c_char, size: usize, form: c_int, config: Config, out: *mut Duration,
+        ) -> Code;
     }
     // SAFETY: the address and the size are those of the text, and `out` is a variable of its type.
-    unsafe { speedate_duration_parse(text.as_ptr().cast(), text.len(), config, out) }
+    unsafe { speedate_duration_parse_value(text.as_ptr().cast(), text.len(), form, config, out) }
 }
 
 values! {
     fn speedate_date_compare(first: Date, second: Date) -> i32;
-    fn speedate_date_day_number(date: Date) -> u32;
-    fn speedate_date_from_day_number(number: u32) -> Date;
+    fn speedate_date_days(date: Date) -> i32;
+    fn speedate_date_from_days(days: i32) -> Date;
     fn speedate_duration_negate(duration: Duration) -> Duration;
     fn speedate_duration_between_dates(earlier: Date, later: Date) -> Duration;
     fn speedate_duration_after_date(duration: Duration, start: Date) -> Date;

@@ -45,20 +45,26 @@ pub fn read_front(kind: Kind, text: &[u8], config: &Config) -> Result<Value, api
     Ok(Value::Front(Box::new(value), size))
 }
 
+/// The day number of 1970-01-01, from which C counts.
+const FIRST_DAY: i64 = 719_528;
+
 fn by_c(call: &Call) -> Result<Value, Code> {
     match call {
         Call::ReadInOrder { text, config } => {
-            written(|out| ffi::speedate_duration_parse(text, *config, out)).map(Value::Duration)
+            written(|out| ffi::speedate_duration_parse_value(text, 0, *config, out)).map(Value::Duration)
         }
         Call::CompareDates(first, second) => {
             let order = written(|out| ffi::speedate_date_compare(*first, *second, out))?;
             Ok(Value::Numbers(vec![order.into()]))
         }
         Call::DayNumber(date) => {
-            let number = written(|out| ffi::speedate_date_day_number(*date, out))?;
-            Ok(Value::Numbers(vec![number.into()]))
+            let days = written(|out| ffi::speedate_date_days(*date, out))?;
+            Ok(Value::Numbers(vec![i64::from(days) + FIRST_DAY]))
         }
-        Call::FromDayNumber(it) => written(|out| ffi::speedate_date_from_day_number(*it, out)).map(Value::Date),
+        Call::FromDayNumber(it) => {
+            let days = (i64::from(*it) - FIRST_DAY) as i32;
+            written(|out| ffi::speedate_date_from_days(days, out)).map(Value::Date)
+        }
         Call::BetweenDates(earlier, later) => {
             written(|out| ffi::speedate_duration_between_dates(*earlier, *later, out)).map(Value::Duration)
         }

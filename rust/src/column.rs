@@ -333,7 +333,7 @@ pub enum DateReader {
     OrTimestamp(DateConfig),
 }
 
-reader!(DateReader by speedate_date_column and speedate_date_texts -> i32);
+reader!(DateReader by speedate_date_lines and speedate_date_texts -> i32);
 
 impl From<&DateReader> for (Config, ColumnConfig) {
     fn from(reader: &DateReader) -> Self {
@@ -376,7 +376,7 @@ pub struct DateTimeReader {
     pub assumes_utc: bool,
 }
 
-reader!(DateTimeReader by speedate_datetime_column and speedate_datetime_texts -> i64);
+reader!(DateTimeReader by speedate_datetime_lines and speedate_datetime_texts -> i64);
 
 impl From<&DateTimeReader> for (Config, ColumnConfig) {
     fn from(reader: &DateTimeReader) -> Self {
@@ -484,7 +484,7 @@ pub struct TimeReader {
     pub parser: TimeParser,
 }
 
-reader!(TimeReader by speedate_time_column and speedate_time_texts -> i64);
+reader!(TimeReader by speedate_time_lines and speedate_time_texts -> i64);
 
 /// Reads a line as a time, and gives its offset from UTC in seconds, positive east of UTC.
 ///
@@ -528,7 +528,7 @@ pub struct DurationReader {
     pub config: TimeConfig,
 }
 
-reader!(DurationReader by speedate_duration_column and speedate_duration_texts -> i64);
+reader!(DurationReader by speedate_duration_lines and speedate_duration_texts -> i64);
 
 impl From<&DurationReader> for (Config, ColumnConfig) {
     fn from(reader: &DurationReader) -> Self {
@@ -550,7 +550,7 @@ impl From<&DurationReader> for (Config, ColumnConfig) {
 /// the error of the first field that is out of range.
 pub fn duration_microseconds(duration: &Duration) -> Result<i64, LineError> {
     duration.check().map_err(LineError::Parse)?;
-    ffi::speedate_duration_signed_total_microseconds(duration).map_err(|_| LineError::NumberTooLarge)
+    ffi::speedate_duration_microseconds(duration).map_err(|_| LineError::NumberTooLarge)
 }
 
 /// How many bytes the longest line of a printer has, without its line feed.
@@ -585,7 +585,7 @@ pub fn print_column<P: LinePrinter>(numbers: &[P::Number], printer: &P, out: &mu
 
 /// Defines printers, each by its function of C.
 macro_rules! printers {
-    ($($(#[$document:meta])* $name:ident by $column:ident of $number:ty;)*) => {$(
+    ($($(#[$document:meta])* $name:ident by $column:ident of $number:ty, $flags:literal;)*) => {$(
         $(#[$document])*
         #[derive(Debug, Clone, Copy, PartialEq, Eq)]
         pub struct $name;
@@ -597,7 +597,7 @@ macro_rules! printers {
 
             #[inline]
             fn print(&self, numbers: &[$number], out: &mut [u8]) -> Progress {
-                ffi::$column(numbers, out)
+                ffi::$column(numbers, $flags, out)
             }
         }
     )*};
@@ -606,18 +606,18 @@ macro_rules! printers {
 printers! {
     /// Prints days since 1970-01-01 as dates: 1 as `1970-01-02`. A day outside the years 0000 to 9999 is refused, with
     /// [`DateTooSmall`](ParseError::DateTooSmall) or [`DateTooLarge`](ParseError::DateTooLarge).
-    DatePrinter by speedate_date_print_column of i32;
+    DatePrinter by speedate_date_print_column of i32, 0;
     /// Prints microseconds since 1970-01-01T00:00:00 in UTC as date-times: 1,000,000 as `1970-01-01T00:00:01Z`. It refuses
     /// what a [`DatePrinter`] does.
-    DateTimePrinter by speedate_datetime_print_column of i64;
+    DateTimePrinter by speedate_datetime_print_column of i64, 0;
     /// Prints microseconds since 1970-01-01T00:00:00 on a clock as date-times without an offset: 1,000,000 as
     /// `1970-01-01T00:00:01`. It refuses what a [`DatePrinter`] does.
-    DateTimeClockPrinter by speedate_datetime_clock_print_column of i64;
+    DateTimeClockPrinter by speedate_datetime_print_column of i64, 0x10;
     /// Prints microseconds after midnight as times: 43,994,500,000 as `12:13:14.500000`. A number that is not 0 to
     /// 86,399,999,999 is refused, with [`TimeTooLarge`](ParseError::TimeTooLarge).
-    TimePrinter by speedate_time_print_column of i64;
+    TimePrinter by speedate_time_print_column of i64, 0;
     /// Prints microseconds as durations: -1,500,000 as `-PT1.5S`.
-    DurationPrinter by speedate_duration_print_column of i64;
+    DurationPrinter by speedate_duration_print_column of i64, 0;
 }
 
 #[cfg(test)]

@@ -30,7 +30,7 @@ value! {
     /// assert_eq!(Date::parse_str("2020-02-29"), Date::parse_str("1582934400"));
     /// assert_eq!(Date::parse_str("2021-02-29"), Err(ParseError::OutOfRangeDay));
     /// ```
-    Date by speedate_date_parse under DateConfig, speedate_date_to_text
+    Date by speedate_date_parse_value in OR_TIMESTAMP under DateConfig, speedate_date_to_text
 }
 
 impl Value for Date {
@@ -64,7 +64,7 @@ impl Date {
     ///
     /// Why the text is refused.
     pub fn parse_bytes_rfc3339(bytes: &[u8]) -> Result<Self, ParseError> {
-        Ok(ffi::speedate_date_parse_text(bytes)?)
+        Ok(ffi::speedate_date_parse_value(bytes, ffi::TEXT, Config::default())?)
     }
 
     /// The date at the front of an input, whatever follows it, and its size in bytes. A timestamp is refused.
@@ -78,7 +78,7 @@ impl Date {
     ///
     /// Why no date is at the front.
     pub fn parse_front(bytes: &[u8]) -> Result<(Self, usize), ParseError> {
-        Ok(ffi::speedate_date_parse_front(bytes)?)
+        Ok(Self::parse_or_place_front(bytes)?)
     }
 
     /// What [`parse_bytes_with_config`](Self::parse_bytes_with_config) gives, with the part for which an input is refused.
@@ -92,7 +92,7 @@ impl Date {
     ///
     /// Those of that method.
     pub fn parse_or_place(bytes: &[u8], config: &DateConfig) -> Result<Self, Refused> {
-        ffi::speedate_date_parse_or_part(bytes, config)
+        ffi::speedate_date_parse_or_part(bytes, ffi::OR_TIMESTAMP, config).map(|(value, _)| value)
     }
 
     /// What [`parse_bytes_rfc3339`](Self::parse_bytes_rfc3339) gives, with the part for which an input is refused.
@@ -106,7 +106,7 @@ impl Date {
     ///
     /// Those of that method.
     pub fn parse_or_place_rfc3339(bytes: &[u8]) -> Result<Self, Refused> {
-        ffi::speedate_date_parse_or_part_text(bytes)
+        ffi::speedate_date_parse_or_part(bytes, ffi::TEXT, Config::default()).map(|(value, _)| value)
     }
 
     /// What [`parse_front`](Self::parse_front) gives, with the part for which an input is refused.
@@ -120,7 +120,7 @@ impl Date {
     ///
     /// Those of that method.
     pub fn parse_or_place_front(bytes: &[u8]) -> Result<(Self, usize), Refused> {
-        ffi::speedate_date_parse_or_part_front(bytes)
+        ffi::speedate_date_parse_or_part(bytes, ffi::FRONT, Config::default())
     }
 
     /// The date of a timestamp in the unit of the configuration, which has to be a midnight if `require_exact`.

@@ -39,8 +39,7 @@ value! {
     /// assert_eq!(DateTime::parse_str("2020-02-29 12:13:14.5"), DateTime::parse_str("1582978394.5"));
     /// assert_eq!(DateTime::parse_str("2020-02-29"), Err(ParseError::InvalidCharDateTimeSep));
     /// ```
-    DateTime by speedate_datetime_parse under DateTimeConfig,
-    speedate_datetime_to_text or speedate_datetime_to_text_with_digits
+    DateTime by speedate_datetime_parse_value in OR_TIMESTAMP under DateTimeConfig, speedate_datetime_to_text with digits
 }
 
 impl Value for DateTime {
@@ -100,7 +99,7 @@ impl DateTime {
     ///
     /// Why the text is refused.
     pub fn parse_bytes_rfc3339_with_config(bytes: &[u8], config: &TimeConfig) -> Result<Self, ParseError> {
-        Ok(ffi::speedate_datetime_parse_text(bytes, config)?)
+        Ok(ffi::speedate_datetime_parse_value(bytes, ffi::TEXT, config)?)
     }
 
     /// The date-time of a strict input of RFC 3339, without a second 60.
@@ -112,7 +111,7 @@ impl DateTime {
         bytes: &[u8],
         behavior: MicrosecondsPrecisionOverflowBehavior,
     ) -> Result<Self, ParseError> {
-        Ok(ffi::speedate_datetime_parse_strict(bytes, Config::default().behavior(behavior))?)
+        Ok(ffi::speedate_datetime_parse_value(bytes, ffi::STRICT, Config::default().behavior(behavior))?)
     }
 
     /// The date-time at the front of an input, whatever follows it, and its size in bytes. A timestamp is refused, and so is
@@ -128,7 +127,7 @@ impl DateTime {
     ///
     /// Why no date-time is at the front.
     pub fn parse_front(bytes: &[u8], config: &TimeConfig) -> Result<(Self, usize), ParseError> {
-        Ok(ffi::speedate_datetime_parse_front(bytes, config)?)
+        Ok(Self::parse_or_place_front(bytes, config)?)
     }
 
     /// What [`parse_bytes_with_config`](Self::parse_bytes_with_config) gives, with the part for which an input is refused.
@@ -142,7 +141,7 @@ impl DateTime {
     ///
     /// Those of that method.
     pub fn parse_or_place(bytes: &[u8], config: &DateTimeConfig) -> Result<Self, Refused> {
-        ffi::speedate_datetime_parse_or_part(bytes, config)
+        ffi::speedate_datetime_parse_or_part(bytes, ffi::OR_TIMESTAMP, config).map(|(value, _)| value)
     }
 
     /// What [`parse_bytes_rfc3339_with_config`](Self::parse_bytes_rfc3339_with_config) gives, with the part for which an input is refused.
@@ -156,7 +155,7 @@ impl DateTime {
     ///
     /// Those of that method.
     pub fn parse_or_place_rfc3339(bytes: &[u8], config: &TimeConfig) -> Result<Self, Refused> {
-        ffi::speedate_datetime_parse_or_part_text(bytes, config)
+        ffi::speedate_datetime_parse_or_part(bytes, ffi::TEXT, config).map(|(value, _)| value)
     }
 
     /// What [`parse_bytes_strict`](Self::parse_bytes_strict) gives, with the part for which an input is refused.
@@ -175,7 +174,8 @@ impl DateTime {
         bytes: &[u8],
         behavior: MicrosecondsPrecisionOverflowBehavior,
     ) -> Result<Self, Refused> {
-        ffi::speedate_datetime_parse_or_part_strict(bytes, Config::default().behavior(behavior))
+        let config = Config::default().behavior(behavior);
+        ffi::speedate_datetime_parse_or_part(bytes, ffi::STRICT, config).map(|(value, _)| value)
     }
 
     /// What [`parse_front`](Self::parse_front) gives, with the part for which an input is refused.
@@ -189,7 +189,7 @@ impl DateTime {
     ///
     /// Those of that method.
     pub fn parse_or_place_front(bytes: &[u8], config: &TimeConfig) -> Result<(Self, usize), Refused> {
-        ffi::speedate_datetime_parse_or_part_front(bytes, config)
+        ffi::speedate_datetime_parse_or_part(bytes, ffi::FRONT, config)
     }
 
     /// [`from_timestamp`](Self::from_timestamp), in the unit and with the offset of a configuration.
@@ -204,7 +204,7 @@ impl DateTime {
         timestamp_microsecond: u32,
         config: &DateTimeConfig,
     ) -> Result<Self, ParseError> {
-        Ok(ffi::speedate_datetime_from_timestamp(timestamp, timestamp_microsecond, config)?)
+        Ok(ffi::speedate_datetime_of_timestamp(timestamp, timestamp_microsecond, config)?)
     }
 
     /// The date-time of a timestamp in the unit and with the offset of a configuration. The exact value of the float is
@@ -223,7 +223,7 @@ impl DateTime {
         let microseconds = microseconds(timestamp, if is_second { 1_000_000 } else { 1_000 });
         let (second, microsecond) = (microseconds.div_euclid(1_000_000), microseconds.rem_euclid(1_000_000));
         let config = Config::from(mode).unit(TimestampUnit::Second);
-        Ok(ffi::speedate_datetime_from_timestamp(second, microsecond as u32, config)?)
+        Ok(ffi::speedate_datetime_of_timestamp(second, microsecond as u32, config)?)
     }
 
     /// The date-time so many microseconds after a timestamp, whose unit is inferred: seconds if without its sign it is at
@@ -341,7 +341,7 @@ impl From<&DateTimeConfig> for Config {
 fn now_at(since: std::time::Duration, tz_offset: i32) -> Result<DateTime, ParseError> {
     let second = i64::try_from(since.as_secs()).map_err(|_| ParseError::DateTooLarge)?;
     let config = Config::default().unit(TimestampUnit::Second).offset(Some(0));
-    let now: DateTime = ffi::speedate_datetime_from_timestamp(second, since.subsec_micros(), config)?;
+    let now: DateTime = ffi::speedate_datetime_of_timestamp(second, since.subsec_micros(), config)?;
     now.in_timezone(tz_offset)
 }
 

@@ -38,7 +38,7 @@ value! {
     /// assert_eq!(Duration::parse_str("2 days, 10:20"), Duration::parse_str("P2DT10H20M"));
     /// assert_eq!(Duration::parse_str("P1"), Err(ParseError::DurationInvalidDateUnit));
     /// ```
-    Duration by speedate_duration_parse under TimeConfig, speedate_duration_to_text
+    Duration by speedate_duration_parse_value in TEXT under TimeConfig, speedate_duration_to_text
 }
 
 impl Value for Duration {
@@ -100,7 +100,7 @@ impl Duration {
     /// Never: no number of 64 bits has more than 999,999,999 days.
     #[must_use]
     pub fn from_signed_microseconds(microseconds: i64) -> Self {
-        ffi::speedate_duration_from_signed_microseconds(microseconds).expect("a number of 64 bits is a duration")
+        ffi::speedate_duration_from_microseconds(microseconds).expect("a number of 64 bits is a duration")
     }
 
     /// The sum of durations, each with its sign. It is exact, and zero is positive. It calls C for each duration, since
@@ -145,7 +145,7 @@ impl Duration {
     ///
     /// Those of that method.
     pub fn parse_or_place(bytes: &[u8], config: &TimeConfig) -> Result<Self, Refused> {
-        ffi::speedate_duration_parse_or_part(bytes, config)
+        ffi::speedate_duration_parse_or_part(bytes, ffi::TEXT, config).map(|(value, _)| value)
     }
 
     /// The duration from one date-time to another, by their instants, which is negative if the other is the earlier one. A
@@ -173,7 +173,7 @@ impl Duration {
     /// [`DateTooSmall`](ParseError::DateTooSmall) before the year 0000, [`DateTooLarge`](ParseError::DateTooLarge)
     /// after the year 9999.
     pub fn after(&self, start: &DateTime) -> Result<DateTime, ParseError> {
-        (self, start).checked(ffi::speedate_duration_after(self, start))
+        (self, start).checked(ffi::speedate_datetime_add(start, self))
     }
 
     /// The date-time that is this duration before another, at its offset.

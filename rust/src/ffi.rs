@@ -1,4 +1,4 @@
-//! The functions of `c/speedate.h`, each declared beside the safe function that calls it. This is the one file with
+//! The functions of `c/speedate_packages.h` and `c/speedate.h`, each declared beside the safe function that calls it. This is the one file with
 //! unsafe code.
 
 use core::ffi::c_int;
@@ -21,6 +21,15 @@ impl Code {
     pub(crate) const VALUE_OUT_OF_RANGE: Self = Self(101);
     const CONFIG_OUT_OF_RANGE: Self = Self(102);
 }
+
+/// The forms in which a text is read.
+pub(crate) const TEXT: c_int = 0;
+pub(crate) const OR_TIMESTAMP: c_int = 1;
+pub(crate) const STRICT: c_int = 2;
+pub(crate) const FRONT: c_int = 3;
+
+/// The digits of a second that are printed if nobody asks for others.
+pub(crate) const DIGITS_AUTO: c_int = -1;
 
 /// The number of an error that a line has, and no text.
 pub(crate) const NUMBER_TOO_LARGE: u8 = 97;
@@ -108,7 +117,7 @@ structs! {
     struct ColumnConfig is 5 {
         at_end: u8 = 0, drops_returns: u8 = 1, parser: u8 = 2, assumes_utc: u8 = 3, goes_on: u8 = 4
     }
-    struct CPart is 24 { place: usize = 0, end: usize = 8, kind: i32 = 16 }
+    struct CPart is 24 { start: usize = 0, end: usize = 8, kind: i32 = 16 }
     struct CProgress is 48 { lines: usize = 0, bytes: usize = 8, error: i32 = 16, part: CPart = 24 }
 }
 
@@ -214,13 +223,13 @@ impl CPart {
     /// Why a text is refused, by the code of the call that has written the part.
     #[cold]
     fn refused(self, code: Code) -> Refused {
-        Refused { fault: code.into(), place: self.place, end: self.end }
+        Refused { fault: code.into(), place: self.start, end: self.end }
     }
 }
 
 impl From<CProgress> for Progress {
     fn from(CProgress { lines, bytes, error, part }: CProgress) -> Self {
-        Self { lines, bytes, error: Code(error).into(), place: part.place, end: part.end }
+        Self { lines, bytes, error: Code(error).into(), place: part.start, end: part.end }
     }
 }
 
@@ -257,63 +266,24 @@ macro_rules! calls {
     )*};
 }
 
-/// Functions that write the value at the front of a text, and its size.
-macro_rules! fronts {
-    ($(fn $name:ident([$text:ident] $($config:ident)?) -> $answer:ty;)*) => {$(
-        #[inline]
-        pub(crate) fn $name<T: From<$answer>>(
-            $text: &[u8] $(, $config: impl Into<Config>)?
-        ) -> Result<(T, usize), Code> {
-            unsafe extern "C" {
-                fn $name(
-                    $text: *const u8, size: usize, $($config: Config,)? out: *mut $answer, taken: *mut usize,
-                ) -> c_int;
-            }
-            let mut taken = 0;
-            // SAFETY: as for the calls above; `taken` is a variable's address too.
-            let value = written(|out| unsafe { $name($text.as_ptr(), $text.len(), $($config.into(),)? out, &mut taken) })?;
-            Ok((value, taken))
-        }
-    )*};
-}
-
-/// The same functions with the part for which a text is refused, which each of them writes.
+/// Parsers that write the value and its size, or the part for which a text is refused.
 macro_rules! calls_or_part {
-    ($(fn $name:ident([$text:ident] $($config:ident)?) -> $answer:ty;)*) => {$(
+    ($(fn $name:ident([$text:ident] $form:ident: c_int, $config:ident: Config) -> $answer:ty;)*) => {$(
         #[inline]
         pub(crate) fn $name<T: From<$answer>>(
-            $text: &[u8] $(, $config: impl Into<Config>)?
-        ) -> Result<T, Refused> {
+            $text: &[u8], $form: c_int, $config: impl Into<Config>
+        ) -> Result<(T, usize), Refused> {
             unsafe extern "C" {
                 fn $name(
-                    $text: *const u8, size: usize, $($config: Config,)? out: *mut $answer, part: *mut CPart,
+                    $text: *const u8, size: usize, $form: c_int, $config: Config, out: *mut $answer, part: *mut CPart,
                 ) -> c_int;
             }
             let mut part = CPart::default();
             // SAFETY: as for the calls above; `part` is a variable's address too.
-            written(|out| unsafe { $name($text.as_ptr(), $text.len(), $($config.into(),)? out, &mut part) })
-                .map_err(|code| part.refused(code))
-        }
-    )*};
-}
-
-macro_rules! fronts_or_part {
-    ($(fn $name:ident([$text:ident] $($config:ident)?) -> $answer:ty;)*) => {$(
-        #[inline]
-        pub(crate) fn $name<T: From<$answer>>(
-            $text: &[u8] $(, $config: impl Into<Config>)?
-        ) -> Result<(T, usize), Refused> {
-            unsafe extern "C" {
-                fn $name(
-                    $text: *const u8, size: usize, $($config: Config,)? out: *mut $answer, taken: *mut usize,
-                    part: *mut CPart,
-                ) -> c_int;
+            match written(|out| unsafe { $name($text.as_ptr(), $text.len(), $form, $config.into(), out, &mut part) }) {
+                Ok(value) => Ok((value, part.end)),
+                Err(code) => Err(part.refused(code)),
             }
-            let (mut taken, mut part) = (0, CPart::default());
-            // SAFETY: as for the calls above.
-            written(|out| unsafe { $name($text.as_ptr(), $text.len(), $($config.into(),)? out, &mut taken, &mut part) })
-                .map(|value| (value, taken))
-                .map_err(|code| part.refused(code))
         }
     )*};
 }
@@ -383,18 +353,19 @@ pub(crate) fn duration_sum(durations: &[CDuration]) -> Result<Duration, Code> {
 
 /// Functions that print numbers as the lines of a text.
 macro_rules! print_columns {
-    ($(fn $name:ident($numbers:ident: *const $number:ty, count: usize);)*) => {$(
+    ($(fn $name:ident($numbers:ident: *const $number:ty, count: usize, flags: u32);)*) => {$(
         #[inline]
-        pub(crate) fn $name($numbers: &[$number], buffer: &mut [u8]) -> Progress {
+        pub(crate) fn $name($numbers: &[$number], flags: u32, buffer: &mut [u8]) -> Progress {
             unsafe extern "C" {
                 fn $name(
-                    $numbers: *const $number, count: usize, buffer: *mut u8, size: usize, progress: *mut CProgress,
+                    $numbers: *const $number, count: usize, flags: u32, buffer: *mut u8, size: usize,
+                    progress: *mut CProgress,
                 ) -> c_int;
             }
             // SAFETY: the types are the header's; addresses and sizes are those of slices, which do not overlap, and
             // `progress` is a variable's address.
             written(|progress| unsafe {
-                $name($numbers.as_ptr(), $numbers.len(), buffer.as_mut_ptr(), buffer.len(), progress)
+                $name($numbers.as_ptr(), $numbers.len(), flags, buffer.as_mut_ptr(), buffer.len(), progress)
             })
             .expect("it refuses nothing")
         }
@@ -469,67 +440,47 @@ macro_rules! printers {
 }
 
 calls! {
-    fn speedate_date_parse([text] config: Config) -> CDate;
-    fn speedate_date_parse_text([text]) -> CDate;
+    fn speedate_date_parse_value([text] form: c_int, config: Config) -> CDate;
     fn speedate_date_from_timestamp(timestamp: i64, require_exact: u8, config: Config) -> CDate;
     fn speedate_date_timestamp(date: CDate) -> i64;
     fn speedate_date_timestamp_ms(date: CDate) -> i64;
     fn speedate_date_ordinal_day(date: CDate) -> u16;
     fn speedate_date_add_days(date: CDate, days: i32) -> CDate;
     fn speedate_date_days_between(earlier: CDate, later: CDate) -> i32;
-    fn speedate_time_parse([text] config: Config) -> CTime;
-    fn speedate_time_parse_strict([text] config: Config) -> CTime;
+    fn speedate_time_parse_value([text] form: c_int, config: Config) -> CTime;
     fn speedate_time_compare(first: CTime, second: CTime) -> i32;
     fn speedate_time_from_timestamp(second: u32, microsecond: u32, config: Config) -> CTime;
     fn speedate_time_total_seconds(time: CTime) -> u32;
     fn speedate_time_total_ms(time: CTime) -> u32;
     fn speedate_time_in_timezone(time: CTime, offset: i32) -> CTime;
-    fn speedate_datetime_parse([text] config: Config) -> CDateTime;
-    fn speedate_datetime_parse_text([text] config: Config) -> CDateTime;
-    fn speedate_datetime_parse_strict([text] config: Config) -> CDateTime;
+    fn speedate_datetime_parse_value([text] form: c_int, config: Config) -> CDateTime;
     fn speedate_datetime_compare(first: CDateTime, second: CDateTime) -> i32;
-    fn speedate_datetime_from_timestamp(timestamp: i64, microsecond: u32, config: Config) -> CDateTime;
+    fn speedate_datetime_of_timestamp(timestamp: i64, microsecond: u32, config: Config) -> CDateTime;
     fn speedate_datetime_clock_seconds(value: CDateTime) -> i64;
     fn speedate_datetime_clock_milliseconds(value: CDateTime) -> i64;
     fn speedate_datetime_unix_seconds(value: CDateTime) -> i64;
     fn speedate_datetime_unix_milliseconds(value: CDateTime) -> i64;
     fn speedate_datetime_unix_microseconds(value: CDateTime) -> i64;
     fn speedate_datetime_in_timezone(value: CDateTime, offset: i32) -> CDateTime;
-    fn speedate_duration_parse([text] config: Config) -> CDuration;
+    fn speedate_duration_parse_value([text] form: c_int, config: Config) -> CDuration;
     fn speedate_duration_normalize(numbers: CDuration) -> CDuration;
     fn speedate_duration_compare(first: CDuration, second: CDuration) -> i32;
     fn speedate_duration_signed_total_seconds(duration: CDuration) -> i64;
     fn speedate_duration_signed_total_ms(duration: CDuration) -> i64;
-    fn speedate_duration_signed_total_microseconds(duration: CDuration) -> i64;
+    fn speedate_duration_microseconds(duration: CDuration) -> i64;
     fn speedate_duration_signed_microseconds(duration: CDuration) -> i32;
-    fn speedate_duration_from_signed_microseconds(microseconds: i64) -> CDuration;
+    fn speedate_duration_from_microseconds(microseconds: i64) -> CDuration;
     fn speedate_duration_between(earlier: CDateTime, later: CDateTime) -> CDuration;
-    fn speedate_duration_after(duration: CDuration, start: CDateTime) -> CDateTime;
+    fn speedate_datetime_add(value: CDateTime, duration: CDuration) -> CDateTime;
     fn speedate_duration_before(duration: CDuration, start: CDateTime) -> CDateTime;
     fn speedate_int_parse([text]) -> i64;
 }
 
-fronts! {
-    fn speedate_date_parse_front([text]) -> CDate;
-    fn speedate_time_parse_front([text] config) -> CTime;
-    fn speedate_datetime_parse_front([text] config) -> CDateTime;
-}
-
 calls_or_part! {
-    fn speedate_date_parse_or_part([text] config) -> CDate;
-    fn speedate_date_parse_or_part_text([text]) -> CDate;
-    fn speedate_time_parse_or_part([text] config) -> CTime;
-    fn speedate_time_parse_or_part_strict([text] config) -> CTime;
-    fn speedate_datetime_parse_or_part([text] config) -> CDateTime;
-    fn speedate_datetime_parse_or_part_text([text] config) -> CDateTime;
-    fn speedate_datetime_parse_or_part_strict([text] config) -> CDateTime;
-    fn speedate_duration_parse_or_part([text] config) -> CDuration;
-}
-
-fronts_or_part! {
-    fn speedate_date_parse_or_part_front([text]) -> CDate;
-    fn speedate_time_parse_or_part_front([text] config) -> CTime;
-    fn speedate_datetime_parse_or_part_front([text] config) -> CDateTime;
+    fn speedate_date_parse_or_part([text] form: c_int, config: Config) -> CDate;
+    fn speedate_time_parse_or_part([text] form: c_int, config: Config) -> CTime;
+    fn speedate_datetime_parse_or_part([text] form: c_int, config: Config) -> CDateTime;
+    fn speedate_duration_parse_or_part([text] form: c_int, config: Config) -> CDuration;
 }
 
 ends! {
@@ -537,13 +488,13 @@ ends! {
 }
 
 columns! {
-    fn speedate_date_column([text] config: Config, column: ColumnConfig, [out: i32], [errors: u8]);
-    fn speedate_datetime_column([text] config: Config, column: ColumnConfig, [out: i64], [errors: u8]);
+    fn speedate_date_lines([text] config: Config, column: ColumnConfig, [out: i32], [errors: u8]);
+    fn speedate_datetime_lines([text] config: Config, column: ColumnConfig, [out: i64], [errors: u8]);
     fn speedate_datetime_clock_column([text] config: Config, column: ColumnConfig, [out: i64], [errors: u8]);
     fn speedate_datetime_offset_column([text] config: Config, column: ColumnConfig, [out: i32], [errors: u8]);
-    fn speedate_time_column([text] config: Config, column: ColumnConfig, [out: i64], [errors: u8]);
+    fn speedate_time_lines([text] config: Config, column: ColumnConfig, [out: i64], [errors: u8]);
     fn speedate_time_offset_column([text] config: Config, column: ColumnConfig, [out: i32], [errors: u8]);
-    fn speedate_duration_column([text] config: Config, column: ColumnConfig, [out: i64], [errors: u8]);
+    fn speedate_duration_lines([text] config: Config, column: ColumnConfig, [out: i64], [errors: u8]);
     fn speedate_date_texts([bytes] [offsets] config: Config, column: ColumnConfig, [out: i32], [errors: u8]);
     fn speedate_datetime_texts([bytes] [offsets] config: Config, column: ColumnConfig, [out: i64], [errors: u8]);
     fn speedate_time_texts([bytes] [offsets] config: Config, column: ColumnConfig, [out: i64], [errors: u8]);
@@ -551,11 +502,10 @@ columns! {
 }
 
 print_columns! {
-    fn speedate_date_print_column(days: *const i32, count: usize);
-    fn speedate_datetime_print_column(microseconds: *const i64, count: usize);
-    fn speedate_datetime_clock_print_column(microseconds: *const i64, count: usize);
-    fn speedate_time_print_column(microseconds: *const i64, count: usize);
-    fn speedate_duration_print_column(microseconds: *const i64, count: usize);
+    fn speedate_date_print_column(days: *const i32, count: usize, flags: u32);
+    fn speedate_datetime_print_column(microseconds: *const i64, count: usize, flags: u32);
+    fn speedate_time_print_column(microseconds: *const i64, count: usize, flags: u32);
+    fn speedate_duration_print_column(microseconds: *const i64, count: usize, flags: u32);
 }
 
 checks! {
@@ -567,10 +517,8 @@ checks! {
 
 printers! {
     fn speedate_date_to_text(date: CDate);
-    fn speedate_time_to_text(time: CTime);
-    fn speedate_time_to_text_with_digits(time: CTime, digits: c_int);
-    fn speedate_datetime_to_text(value: CDateTime);
-    fn speedate_datetime_to_text_with_digits(value: CDateTime, digits: c_int);
+    fn speedate_time_to_text(time: CTime, digits: c_int);
+    fn speedate_datetime_to_text(value: CDateTime, digits: c_int);
     fn speedate_duration_to_text(duration: CDuration);
 }
 

@@ -41,7 +41,7 @@ value! {
     /// assert!(Time::parse_str("15:00Z").unwrap() > Time::parse_str("15:00+01:00").unwrap());
     /// assert_eq!(Time::parse_str("24:00"), Err(ParseError::OutOfRangeHour));
     /// ```
-    Time by speedate_time_parse under TimeConfig, speedate_time_to_text or speedate_time_to_text_with_digits
+    Time by speedate_time_parse_value in TEXT under TimeConfig, speedate_time_to_text with digits
 }
 
 impl Value for Time {
@@ -75,7 +75,7 @@ impl Time {
         bytes: &[u8],
         behavior: MicrosecondsPrecisionOverflowBehavior,
     ) -> Result<Self, ParseError> {
-        Ok(ffi::speedate_time_parse_strict(bytes, Config::default().behavior(behavior))?)
+        Ok(ffi::speedate_time_parse_value(bytes, ffi::STRICT, Config::default().behavior(behavior))?)
     }
 
     /// The time at the front of an input, whatever follows it, and its size in bytes.
@@ -89,7 +89,7 @@ impl Time {
     ///
     /// Why no time is at the front.
     pub fn parse_front(bytes: &[u8], config: &TimeConfig) -> Result<(Self, usize), ParseError> {
-        Ok(ffi::speedate_time_parse_front(bytes, config)?)
+        Ok(Self::parse_or_place_front(bytes, config)?)
     }
 
     /// What [`parse_bytes_with_config`](Self::parse_bytes_with_config) gives, with the part for which an input is refused.
@@ -103,7 +103,7 @@ impl Time {
     ///
     /// Those of that method.
     pub fn parse_or_place(bytes: &[u8], config: &TimeConfig) -> Result<Self, Refused> {
-        ffi::speedate_time_parse_or_part(bytes, config)
+        ffi::speedate_time_parse_or_part(bytes, ffi::TEXT, config).map(|(value, _)| value)
     }
 
     /// What [`parse_bytes_strict`](Self::parse_bytes_strict) gives, with the part for which an input is refused.
@@ -122,7 +122,8 @@ impl Time {
         bytes: &[u8],
         behavior: MicrosecondsPrecisionOverflowBehavior,
     ) -> Result<Self, Refused> {
-        ffi::speedate_time_parse_or_part_strict(bytes, Config::default().behavior(behavior))
+        let config = Config::default().behavior(behavior);
+        ffi::speedate_time_parse_or_part(bytes, ffi::STRICT, config).map(|(value, _)| value)
     }
 
     /// What [`parse_front`](Self::parse_front) gives, with the part for which an input is refused.
@@ -136,7 +137,7 @@ impl Time {
     ///
     /// Those of that method.
     pub fn parse_or_place_front(bytes: &[u8], config: &TimeConfig) -> Result<(Self, usize), Refused> {
-        ffi::speedate_time_parse_or_part_front(bytes, config)
+        ffi::speedate_time_parse_or_part(bytes, ffi::FRONT, config)
     }
 
     /// The time so many seconds and microseconds after midnight, on the same day.

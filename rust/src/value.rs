@@ -57,15 +57,16 @@ fn out_of_range<V: Value + ?Sized>(value: &V) -> ! {
 
 /// Defines how values of a type are parsed and printed, by its functions of C.
 macro_rules! value {
-    ($(#[$parse_str:meta])* $name:ident by $parse:ident under $config:ident, $to_text:ident $(or $with_digits:ident)?) => {
+    ($(#[$parse_str:meta])* $name:ident by $parse:ident in $form:ident under $config:ident, $to_text:ident $(with $digits:ident)?) => {
         /// Writes the text. It panics if the value is out of range.
         impl core::fmt::Display for $name {
             fn fmt(&self, f: &mut core::fmt::Formatter<'_>) -> core::fmt::Result {
                 let mut buffer = ffi::Buffer::new();
-                $(if let Some(digits @ (0 | 3 | 6)) = f.precision() {
-                    return f.write_str(self.total(buffer.$with_digits(self, digits as i32)));
-                })?
-                f.write_str(self.total(buffer.$to_text(self)))
+                $(let $digits = match f.precision() {
+                    Some(digits @ (0 | 3 | 6)) => digits as i32,
+                    _ => ffi::DIGITS_AUTO,
+                };)?
+                f.write_str(self.total(buffer.$to_text(self $(, $digits)?)))
             }
         }
 
@@ -106,7 +107,7 @@ macro_rules! value {
             /// Why the text, or a configured offset that it needs, is refused.
             #[inline]
             pub fn parse_bytes_with_config(bytes: &[u8], config: &$config) -> Result<Self, ParseError> {
-                Ok(ffi::$parse(bytes, config)?)
+                Ok(ffi::$parse(bytes, ffi::$form, config)?)
             }
         }
     };
