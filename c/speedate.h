@@ -318,8 +318,9 @@ typedef struct SpeedateDuration {
 
 /* The whole text is a value, and no number is a timestamp. All types have it. */
 #define SPEEDATE_TEXT 0
-/* The same, or a timestamp in the unit of the configuration: "1582934400". Every whole number is one, "20200229"
- * too. For dates, where it has to be a midnight, and date-times, to which it gives the offset of the configuration. */
+/* The same, or a timestamp in the unit of the configuration: "1582934400", and for
+ * date-times "1582978394.5". Every whole number is one, "20200229" too. For dates, where it has to be a midnight, and
+ * date-times, to which it gives the offset of the configuration. */
 #define SPEEDATE_OR_TIMESTAMP 1
 /* RFC 3339 and nothing else. It also refuses a second 60. For times and date-times. */
 #define SPEEDATE_STRICT 2
@@ -381,7 +382,7 @@ SPEEDATE_NODISCARD int speedate_date_to_text(SpeedateDate date, char *buffer, si
 
 /* How many digits after the second are printed, rounded down: 0, 3, 6, or this, for six, and none if they are 0. Any
  * other number fails with SPEEDATE_VALUE_OUT_OF_RANGE. */
-#define SPEEDATE_DIGITS_AUTO -1
+#define SPEEDATE_DIGITS_AUTO (-1)
 
 /* Prints a time: "12:13:14.500000+01:30", "12:13:14Z". With SPEEDATE_DIGITS_AUTO the text parses as the time if the
  * offset is absent or whole minutes; the seconds of any other offset are not printed. */
@@ -409,11 +410,12 @@ SPEEDATE_NODISCARD int speedate_date_from_days(int32_t days, SpeedateDate *out);
  * offset is taken to be in UTC. */
 SPEEDATE_NODISCARD int speedate_datetime_unix_microseconds(SpeedateDateTime value, int64_t *out);
 
-/* The date-time `microsecond` microseconds after a timestamp in the unit of the configuration, with the offset of the
- * configuration: 1970-01-01T00:00:01.000002 for 1 second and 2 microseconds. With SPEEDATE_UNIT_MICROSECOND and an
- * offset of 0 it leads back from Unix time. It fails with SPEEDATE_TIME_TOO_LARGE if `microsecond` and the microseconds
- * of the timestamp beyond its seconds are together over 4,294,967,295, or the second does not fit 64 bits,
- * SPEEDATE_DATE_TOO_SMALL before the year 0000, and SPEEDATE_DATE_TOO_LARGE after the year 9999. */
+/* The date-time `microsecond` microseconds after a timestamp in the unit of the configuration, with the offset of
+ * the configuration: 1970-01-01T00:00:01.000002 for 1 second and 2 microseconds. With SPEEDATE_UNIT_MICROSECOND and
+ * an offset of 0 it inverts speedate_datetime_unix_microseconds. It fails with SPEEDATE_TIME_TOO_LARGE if
+ * `microsecond` and the microseconds of the timestamp beyond its seconds are together over 4,294,967,295, or the
+ * second does not fit 64 bits, SPEEDATE_DATE_TOO_SMALL before the year 0000, and SPEEDATE_DATE_TOO_LARGE after the
+ * year 9999. */
 SPEEDATE_NODISCARD int speedate_datetime_from_timestamp(int64_t timestamp, uint32_t microsecond,
                                                         const SpeedateConfig *config, SpeedateDateTime *out);
 

@@ -225,7 +225,8 @@ template <class T, class C, class Call> Result<T> written(Call call) {
 }
 
 /* The value that a parser writes, and its size, or the part that it refuses. */
-template <class T, class C, class Call> Result<T> parsed(Call call, std::string_view text, Form form, const Config &config) {
+template <class T, class C, class Call>
+Result<T> parsed(Call call, std::string_view text, Form form, const Config &config) {
     C out;
     SpeedatePart part;
     const SpeedateConfig of = config.c();
@@ -654,8 +655,8 @@ namespace detail {
 /* A call on columns, of which each below is one: date_column(text, out), or date_column(text, out, errors). */
 template <class Number> class Column {
   public:
-    using Call = int (*)(const char *, std::size_t, const std::int32_t *, int, const SpeedateConfig *, unsigned, Number *,
-                         std::uint8_t *, std::size_t, SpeedateProgress *);
+    using Call = int (*)(const char *, std::size_t, const std::int32_t *, int, const SpeedateConfig *, unsigned,
+                         Number *, std::uint8_t *, std::size_t, SpeedateProgress *);
     explicit constexpr Column(Call call) noexcept : call_(call) {}
 
     template <class Numbers>
@@ -663,7 +664,8 @@ template <class Number> class Column {
         return read(texts, std::data(out), nullptr, std::size(out), column);
     }
     template <class Numbers, class Codes, class = decltype(std::data(std::declval<Codes &>()))>
-    Result<Progress> operator()(const Texts &texts, Numbers &&out, Codes &&errors, const ColumnConfig &column = {}) const {
+    Result<Progress> operator()(const Texts &texts, Numbers &&out, Codes &&errors,
+                                const ColumnConfig &column = {}) const {
         return read(texts, std::data(out), std::data(errors), std::min(std::size(out), std::size(errors)), column);
     }
 
@@ -725,7 +727,8 @@ inline constexpr detail::Column<SpeedateDateTimeFront> datetime_front_column(det
 inline constexpr detail::PrintColumn<std::int32_t> date_print_column(speedate_date_print_column);
 inline constexpr detail::PrintColumn<std::int64_t> time_print_column(speedate_time_print_column);
 inline constexpr detail::PrintColumn<std::int64_t> datetime_print_column(speedate_datetime_print_column);
-inline constexpr detail::PrintColumn<std::int64_t> datetime_clock_print_column(speedate_datetime_print_column, SPEEDATE_CLOCK);
+inline constexpr detail::PrintColumn<std::int64_t> datetime_clock_print_column(speedate_datetime_print_column,
+                                                                               SPEEDATE_CLOCK);
 inline constexpr detail::PrintColumn<std::int64_t> duration_print_column(speedate_duration_print_column);
 
 /* ---- The version ---- */
