@@ -10,17 +10,36 @@ static SpeedateConfig chosen(const SpeedateConfig *config) {
     return config ? *config : standard;
 }
 
-#define PARSE(NAME, TYPE)                                                                                              \
+/* Without a part the parser of the form is faster, if there is one. The calls are the last step of each way, so that none
+ * needs a frame. */
+#define PARSE(NAME, TYPE, ALONE)                                                                                       \
+    static int NAME##_alone(const char *text, size_t size, int form, SpeedateConfig config, TYPE *out) {               \
+        SpeedatePart part;                                                                                             \
+        return speedate_##NAME##_parse_or_part(text, size, form, config, out, &part);                                  \
+    }                                                                                                                  \
     int speedate_##NAME##_parse(const char *text, size_t size, int form, const SpeedateConfig *config, TYPE *out,      \
                                 SpeedatePart *part) {                                                                  \
-        return part ? speedate_##NAME##_parse_or_part(text, size, form, chosen(config), out, part)                     \
-                    : speedate_##NAME##_parse_value(text, size, form, chosen(config), out);                            \
+        if (part)                                                                                                      \
+            return speedate_##NAME##_parse_or_part(text, size, form, chosen(config), out, part);                       \
+        switch (form) { ALONE }                                                                                        \
+        return NAME##_alone(text, size, form, chosen(config), out);                                                    \
     }
+#define BY(FORM, PARSER)                                                                                               \
+    case FORM:                                                                                                         \
+        return PARSER(text, size, chosen(config), out);
 
-PARSE(date, SpeedateDate)
-PARSE(time, SpeedateTime)
-PARSE(datetime, SpeedateDateTime)
-PARSE(duration, SpeedateDuration)
+/* The parser of dates in texts has no configuration, which may be out of range. */
+PARSE(date, SpeedateDate,
+      case SPEEDATE_TEXT:
+          if (!config)
+              return speedate_date_parse_text(text, size, out);
+          break;
+      BY(SPEEDATE_OR_TIMESTAMP, speedate_date_parse_or_timestamp))
+PARSE(time, SpeedateTime, BY(SPEEDATE_TEXT, speedate_time_parse_text) BY(SPEEDATE_STRICT, speedate_time_parse_strict))
+PARSE(datetime, SpeedateDateTime,
+      BY(SPEEDATE_TEXT, speedate_datetime_parse_text) BY(SPEEDATE_OR_TIMESTAMP, speedate_datetime_parse_or_timestamp)
+      BY(SPEEDATE_STRICT, speedate_datetime_parse_strict))
+PARSE(duration, SpeedateDuration, BY(SPEEDATE_TEXT, speedate_duration_parse_text))
 
 int speedate_datetime_from_timestamp(int64_t timestamp, uint32_t microsecond, const SpeedateConfig *config,
                                      SpeedateDateTime *out) {

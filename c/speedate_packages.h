@@ -27,21 +27,30 @@ SPEEDATE_NODISCARD int speedate_code_documentation(int code, char *buffer, size_
 SPEEDATE_NODISCARD int speedate_code_part_end(int code, const char *text, size_t size, size_t place, size_t *end);
 SPEEDATE_NODISCARD int speedate_int_parse(const char *text, size_t size, int64_t *out);
 
-/* Parsers without a part, and with one that is written. */
-SPEEDATE_NODISCARD int speedate_date_parse_value(const char *text, size_t size, int form, SpeedateConfig config,
-                                                 SpeedateDate *out);
+/* Parsers without a part. */
+SPEEDATE_NODISCARD int speedate_date_parse_text(const char *text, size_t size, SpeedateDate *out);
+SPEEDATE_NODISCARD int speedate_date_parse_or_timestamp(const char *text, size_t size, SpeedateConfig config,
+                                                        SpeedateDate *out);
+SPEEDATE_NODISCARD int speedate_time_parse_text(const char *text, size_t size, SpeedateConfig config,
+                                                SpeedateTime *out);
+SPEEDATE_NODISCARD int speedate_time_parse_strict(const char *text, size_t size, SpeedateConfig config,
+                                                  SpeedateTime *out);
+SPEEDATE_NODISCARD int speedate_datetime_parse_text(const char *text, size_t size, SpeedateConfig config,
+                                                    SpeedateDateTime *out);
+SPEEDATE_NODISCARD int speedate_datetime_parse_or_timestamp(const char *text, size_t size, SpeedateConfig config,
+                                                            SpeedateDateTime *out);
+SPEEDATE_NODISCARD int speedate_datetime_parse_strict(const char *text, size_t size, SpeedateConfig config,
+                                                      SpeedateDateTime *out);
+SPEEDATE_NODISCARD int speedate_duration_parse_text(const char *text, size_t size, SpeedateConfig config,
+                                                    SpeedateDuration *out);
+
+/* Parsers with one, in a form. */
 SPEEDATE_NODISCARD int speedate_date_parse_or_part(const char *text, size_t size, int form, SpeedateConfig config,
                                                    SpeedateDate *out, SpeedatePart *part);
-SPEEDATE_NODISCARD int speedate_time_parse_value(const char *text, size_t size, int form, SpeedateConfig config,
-                                                 SpeedateTime *out);
 SPEEDATE_NODISCARD int speedate_time_parse_or_part(const char *text, size_t size, int form, SpeedateConfig config,
                                                    SpeedateTime *out, SpeedatePart *part);
-SPEEDATE_NODISCARD int speedate_datetime_parse_value(const char *text, size_t size, int form, SpeedateConfig config,
-                                                     SpeedateDateTime *out);
 SPEEDATE_NODISCARD int speedate_datetime_parse_or_part(const char *text, size_t size, int form, SpeedateConfig config,
                                                        SpeedateDateTime *out, SpeedatePart *part);
-SPEEDATE_NODISCARD int speedate_duration_parse_value(const char *text, size_t size, int form, SpeedateConfig config,
-                                                     SpeedateDuration *out);
 SPEEDATE_NODISCARD int speedate_duration_parse_or_part(const char *text, size_t size, int form, SpeedateConfig config,
                                                        SpeedateDuration *out, SpeedatePart *part);
 

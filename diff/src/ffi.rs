@@ -118,14 +118,12 @@ macro_rules! values {
 }
 
 #[inline]
-pub fn speedate_duration_parse_value(text: &[u8], form: c_int, config: Config, out: &mut Duration) -> Code {
+pub fn speedate_duration_parse_text(text: &[u8], config: Config, out: &mut Duration) -> Code {
     unsafe extern "C" {
-        fn speedate_duration_parse_value(
-            text: *const c_char, size: usize, form: c_int, config: Config, out: *mut Duration,
-        ) -> Code;
+        fn speedate_duration_parse_text(text: *const c_char, size: usize, config: Config, out: *mut Duration) -> Code;
     }
     // SAFETY: the address and the size are those of the text, and `out` is a variable of its type.
-    unsafe { speedate_duration_parse_value(text.as_ptr().cast(), text.len(), form, config, out) }
+    unsafe { speedate_duration_parse_text(text.as_ptr().cast(), text.len(), config, out) }
 }
 
 values! {

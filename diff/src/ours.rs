@@ -51,7 +51,7 @@ const FIRST_DAY: i64 = 719_528;
 fn by_c(call: &Call) -> Result<Value, Code> {
     match call {
         Call::ReadInOrder { text, config } => {
-            written(|out| ffi::speedate_duration_parse_value(text, 0, *config, out)).map(Value::Duration)
+            written(|out| ffi::speedate_duration_parse_text(text, *config, out)).map(Value::Duration)
         }
         Call::CompareDates(first, second) => {
             let order = written(|out| ffi::speedate_date_compare(*first, *second, out))?;

@@ -30,7 +30,7 @@ value! {
     /// assert_eq!(Date::parse_str("2020-02-29"), Date::parse_str("1582934400"));
     /// assert_eq!(Date::parse_str("2021-02-29"), Err(ParseError::OutOfRangeDay));
     /// ```
-    Date by speedate_date_parse_value in OR_TIMESTAMP under DateConfig, speedate_date_to_text
+    Date by speedate_date_parse_or_timestamp under DateConfig, speedate_date_to_text
 }
 
 impl Value for Date {
@@ -64,7 +64,7 @@ impl Date {
     ///
     /// Why the text is refused.
     pub fn parse_bytes_rfc3339(bytes: &[u8]) -> Result<Self, ParseError> {
-        Ok(ffi::speedate_date_parse_value(bytes, ffi::TEXT, Config::default())?)
+        Ok(ffi::speedate_date_parse_text(bytes)?)
     }
 
     /// The date at the front of an input, whatever follows it, and its size in bytes. A timestamp is refused.

@@ -39,7 +39,7 @@ value! {
     /// assert_eq!(DateTime::parse_str("2020-02-29 12:13:14.5"), DateTime::parse_str("1582978394.5"));
     /// assert_eq!(DateTime::parse_str("2020-02-29"), Err(ParseError::InvalidCharDateTimeSep));
     /// ```
-    DateTime by speedate_datetime_parse_value in OR_TIMESTAMP under DateTimeConfig, speedate_datetime_to_text with digits
+    DateTime by speedate_datetime_parse_or_timestamp under DateTimeConfig, speedate_datetime_to_text with digits
 }
 
 impl Value for DateTime {
@@ -99,7 +99,7 @@ impl DateTime {
     ///
     /// Why the text is refused.
     pub fn parse_bytes_rfc3339_with_config(bytes: &[u8], config: &TimeConfig) -> Result<Self, ParseError> {
-        Ok(ffi::speedate_datetime_parse_value(bytes, ffi::TEXT, config)?)
+        Ok(ffi::speedate_datetime_parse_text(bytes, config)?)
     }
 
     /// The date-time of a strict input of RFC 3339, without a second 60.
@@ -111,7 +111,7 @@ impl DateTime {
         bytes: &[u8],
         behavior: MicrosecondsPrecisionOverflowBehavior,
     ) -> Result<Self, ParseError> {
-        Ok(ffi::speedate_datetime_parse_value(bytes, ffi::STRICT, Config::default().behavior(behavior))?)
+        Ok(ffi::speedate_datetime_parse_strict(bytes, Config::default().behavior(behavior))?)
     }
 
     /// The date-time at the front of an input, whatever follows it, and its size in bytes. A timestamp is refused, and so is

@@ -38,7 +38,7 @@ value! {
     /// assert_eq!(Duration::parse_str("2 days, 10:20"), Duration::parse_str("P2DT10H20M"));
     /// assert_eq!(Duration::parse_str("P1"), Err(ParseError::DurationInvalidDateUnit));
     /// ```
-    Duration by speedate_duration_parse_value in TEXT under TimeConfig, speedate_duration_to_text
+    Duration by speedate_duration_parse_text under TimeConfig, speedate_duration_to_text
 }
 
 impl Value for Duration {

@@ -440,20 +440,24 @@ macro_rules! printers {
 }
 
 calls! {
-    fn speedate_date_parse_value([text] form: c_int, config: Config) -> CDate;
+    fn speedate_date_parse_or_timestamp([text] config: Config) -> CDate;
+    fn speedate_date_parse_text([text]) -> CDate;
     fn speedate_date_from_timestamp(timestamp: i64, require_exact: u8, config: Config) -> CDate;
     fn speedate_date_timestamp(date: CDate) -> i64;
     fn speedate_date_timestamp_ms(date: CDate) -> i64;
     fn speedate_date_ordinal_day(date: CDate) -> u16;
     fn speedate_date_add_days(date: CDate, days: i32) -> CDate;
     fn speedate_date_days_between(earlier: CDate, later: CDate) -> i32;
-    fn speedate_time_parse_value([text] form: c_int, config: Config) -> CTime;
+    fn speedate_time_parse_text([text] config: Config) -> CTime;
+    fn speedate_time_parse_strict([text] config: Config) -> CTime;
     fn speedate_time_compare(first: CTime, second: CTime) -> i32;
     fn speedate_time_from_timestamp(second: u32, microsecond: u32, config: Config) -> CTime;
     fn speedate_time_total_seconds(time: CTime) -> u32;
     fn speedate_time_total_ms(time: CTime) -> u32;
     fn speedate_time_in_timezone(time: CTime, offset: i32) -> CTime;
-    fn speedate_datetime_parse_value([text] form: c_int, config: Config) -> CDateTime;
+    fn speedate_datetime_parse_or_timestamp([text] config: Config) -> CDateTime;
+    fn speedate_datetime_parse_text([text] config: Config) -> CDateTime;
+    fn speedate_datetime_parse_strict([text] config: Config) -> CDateTime;
     fn speedate_datetime_compare(first: CDateTime, second: CDateTime) -> i32;
     fn speedate_datetime_of_timestamp(timestamp: i64, microsecond: u32, config: Config) -> CDateTime;
     fn speedate_datetime_clock_seconds(value: CDateTime) -> i64;
@@ -462,7 +466,7 @@ calls! {
     fn speedate_datetime_unix_milliseconds(value: CDateTime) -> i64;
     fn speedate_datetime_unix_microseconds(value: CDateTime) -> i64;
     fn speedate_datetime_in_timezone(value: CDateTime, offset: i32) -> CDateTime;
-    fn speedate_duration_parse_value([text] form: c_int, config: Config) -> CDuration;
+    fn speedate_duration_parse_text([text] config: Config) -> CDuration;
     fn speedate_duration_normalize(numbers: CDuration) -> CDuration;
     fn speedate_duration_compare(first: CDuration, second: CDuration) -> i32;
     fn speedate_duration_signed_total_seconds(duration: CDuration) -> i64;

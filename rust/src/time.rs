@@ -41,7 +41,7 @@ value! {
     /// assert!(Time::parse_str("15:00Z").unwrap() > Time::parse_str("15:00+01:00").unwrap());
     /// assert_eq!(Time::parse_str("24:00"), Err(ParseError::OutOfRangeHour));
     /// ```
-    Time by speedate_time_parse_value in TEXT under TimeConfig, speedate_time_to_text with digits
+    Time by speedate_time_parse_text under TimeConfig, speedate_time_to_text with digits
 }
 
 impl Value for Time {
@@ -75,7 +75,7 @@ impl Time {
         bytes: &[u8],
         behavior: MicrosecondsPrecisionOverflowBehavior,
     ) -> Result<Self, ParseError> {
-        Ok(ffi::speedate_time_parse_value(bytes, ffi::STRICT, Config::default().behavior(behavior))?)
+        Ok(ffi::speedate_time_parse_strict(bytes, Config::default().behavior(behavior))?)
     }
 
     /// The time at the front of an input, whatever follows it, and its size in bytes.

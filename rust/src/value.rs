@@ -57,7 +57,7 @@ fn out_of_range<V: Value + ?Sized>(value: &V) -> ! {
 
 /// Defines how values of a type are parsed and printed, by its functions of C.
 macro_rules! value {
-    ($(#[$parse_str:meta])* $name:ident by $parse:ident in $form:ident under $config:ident, $to_text:ident $(with $digits:ident)?) => {
+    ($(#[$parse_str:meta])* $name:ident by $parse:ident under $config:ident, $to_text:ident $(with $digits:ident)?) => {
         /// Writes the text. It panics if the value is out of range.
         impl core::fmt::Display for $name {
             fn fmt(&self, f: &mut core::fmt::Formatter<'_>) -> core::fmt::Result {
@@ -107,7 +107,7 @@ macro_rules! value {
             /// Why the text, or a configured offset that it needs, is refused.
             #[inline]
             pub fn parse_bytes_with_config(bytes: &[u8], config: &$config) -> Result<Self, ParseError> {
-                Ok(ffi::$parse(bytes, ffi::$form, config)?)
+                Ok(ffi::$parse(bytes, config)?)
             }
         }
     };

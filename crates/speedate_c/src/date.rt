@@ -2,7 +2,7 @@
 
 ghost use Rattle.std.specs.Option.{option_map};
 ghost use Rattle.std.specs.Prelude.{◌≡◌, ◌≢◌, ◌≤◌, length};
-ghost use Rattle.speedate.specs.Date.{ymd, date_text, ◌gives◌};
+ghost use Rattle.speedate.specs.Date.{ymd, date_answer, date_or_timestamp, date_text, ◌gives◌};
 ghost use Rattle.speedate.specs.Calendar.{date_order, date_added};
 ghost use Rattle.speedate.specs.Calendar.{days_between, ordinal_day};
 ghost use Rattle.speedate.specs.Requirement.{result_map};
@@ -11,17 +11,15 @@ ghost use Rattle.speedate_c.specs.Written.{written_text, written_value, with_opt
 ghost use Rattle.speedate_c.specs.Code.{answer_code, buffer_too_small, config_out_of_range};
 ghost use Rattle.speedate_c.specs.Code.{order_number, success, value_out_of_range};
 ghost use Rattle.speedate_c.specs.Config.{choices_of};
-ghost use Rattle.speedate_c.specs.Date.{date_by_form, date_of, first_day, shown_date};
+ghost use Rattle.speedate_c.specs.Date.{date_of, first_day, shown_date};
 
 mod part;
 mod timestamp;
 
-use crate::code::{
-    CONFIG_OUT_OF_RANGE, FRONT, NO_SUCH_DATE, OR_TIMESTAMP, SUCCESS, TEXT, order_number,
-};
+use crate::code::{NO_SUCH_DATE, SUCCESS, order_number};
 use crate::config::SpeedateConfig;
 use crate::text::write_text;
-use speedate::{Date, DateConfig, ParseError};
+use speedate::{Date, ParseError};
 
 /// The day from which columns count.
 const FIRST_DAY: Date = Date {
@@ -95,33 +93,31 @@ fn print_date(date: &Date, buffer: &mut [u8], text_length: &mut usize) -> i32
     write_text(date.to_text().as_str(), buffer, text_length)
 }
 
-/// Parses a date in a form, under a configuration: 2020-02-29 from `2020-02-29`.
+/// Parses a date from a text, or from a timestamp in its place, in the unit of the configuration,
+/// as [`Date::parse_bytes_with_config`] does: 2020-02-29 from `2020-02-29`.
 ///
-/// `CONFIG_OUT_OF_RANGE`, also for a form that dates lack, comes before the errors of the text.
+/// The errors are that call's; `CONFIG_OUT_OF_RANGE` comes first.
 #[unsafe(no_mangle)]
-pub extern "C" fn speedate_date_parse_value(
+pub extern "C" fn speedate_date_parse_or_timestamp(
     text: &[u8],
-    form: i32,
     config: SpeedateConfig,
     out: &mut SpeedateDate,
 ) -> i32
     ensures answer { (result, out.new)
         ≡ with_option (choices_of config) (config_out_of_range, out.old)
-        (λ config. with_option (date_by_form form config text.now) (config_out_of_range, out.old)
-        (λ answer. written_answer shown_date out.old answer)) }
+        (λ config. written_answer shown_date out.old (date_or_timestamp config.unit text.now)) }
 {
-    let config = config_or_return!(config.to_config());
-    match form {
-        TEXT => write_date(Date::parse_bytes_rfc3339(text), out),
-        OR_TIMESTAMP => {
-            let config = DateConfig {
-                timestamp_unit: config.timestamp_unit,
-            };
-            write_date(Date::parse_bytes_with_config(text, &config), out)
-        }
-        FRONT => write_front!(Date::parse_front(text) => SpeedateDate, out),
-        _ => CONFIG_OUT_OF_RANGE,
-    }
+    let config = config_or_return!(config.to_date_config());
+    write_date(Date::parse_bytes_with_config(text, &config), out)
+}
+
+/// Parses a date from a text, and no timestamp, as [`Date::parse_bytes_rfc3339`] does: 2020-02-29
+/// from `2020-02-29`.
+#[unsafe(no_mangle)]
+pub extern "C" fn speedate_date_parse_text(text: &[u8], out: &mut SpeedateDate) -> i32
+    ensures answer { (result, out.new) ≡ written_answer shown_date out.old (date_answer text.now) }
+{
+    write_date(Date::parse_bytes_rfc3339(text), out)
 }
 
 /// Whether the numbers are a date, as [`Date::new`] says: `SUCCESS`, or the error of the first

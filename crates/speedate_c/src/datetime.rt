@@ -2,25 +2,24 @@
 
 ghost use Rattle.std.specs.Prelude.{◌≡◌, ◌≢◌, ◌≤◌, if◌then◌else◌, length};
 ghost use Rattle.std.specs.Ordering.{int_eq};
-ghost use Rattle.speedate.specs.DateTime.{date_and_time, date_time_text};
+ghost use Rattle.speedate.specs.DateTime.{date_and_time, date_time_answer, date_time_text};
+ghost use Rattle.speedate.specs.DateTime.{date_time_or_timestamp};
 ghost use Rattle.speedate.specs.DateTime.{date_time_instant_order, date_time_in_timezone, ◌gives◌};
 ghost use Rattle.speedate.specs.Requirement.{result_map};
+ghost use Rattle.speedate.specs.Strict.{strict_date_time_answer};
 ghost use Rattle.speedate_c.specs.Written.{written_answer, written_text};
 ghost use Rattle.speedate_c.specs.Written.{written_value, with_option, with_value};
 ghost use Rattle.speedate_c.specs.Code.{answer_code, buffer_too_small, config_out_of_range};
 ghost use Rattle.speedate_c.specs.Code.{order_number, success, value_out_of_range};
 ghost use Rattle.speedate_c.specs.Config.{choices_of};
 ghost use Rattle.speedate.specs.DateTime.{date_time_text_with};
-ghost use Rattle.speedate_c.specs.DateTime.{date_time_by_form, date_time_of, shown_date_time};
+ghost use Rattle.speedate_c.specs.DateTime.{date_time_of, shown_date_time};
 ghost use Rattle.speedate_c.specs.Time.{digits_auto, fraction_digits_of};
 
 mod part;
 mod timestamp;
 
-use crate::code::{
-    CONFIG_OUT_OF_RANGE, FRONT, OR_TIMESTAMP, STRICT, SUCCESS, TEXT, VALUE_OUT_OF_RANGE,
-    order_number,
-};
+use crate::code::{SUCCESS, VALUE_OUT_OF_RANGE, order_number};
 use crate::config::SpeedateConfig;
 use crate::date::SpeedateDate;
 use crate::text::write_text;
@@ -77,42 +76,62 @@ pub(crate) fn write_date_time(
     SUCCESS
 }
 
-/// Parses a date-time in a form, under a configuration: 12:13:14 on 29 February 2020 from
+/// Parses a date-time from a text, or from a timestamp in its place, as
+/// [`DateTime::parse_bytes_with_config`] does: 12:13:14 on 29 February 2020 from
 /// `2020-02-29T12:13:14`.
 ///
-/// `CONFIG_OUT_OF_RANGE`, also for a number that is no form, comes before the errors of the text.
+/// The errors are that call's; `CONFIG_OUT_OF_RANGE` comes first.
 #[unsafe(no_mangle)]
-pub extern "C" fn speedate_datetime_parse_value(
+pub extern "C" fn speedate_datetime_parse_or_timestamp(
     text: &[u8],
-    form: i32,
     config: SpeedateConfig,
     out: &mut SpeedateDateTime,
 ) -> i32
     ensures answer { (result, out.new)
         ≡ with_option (choices_of config) (config_out_of_range, out.old)
-        (λ config. with_option (date_time_by_form form config text.now)
-        (config_out_of_range, out.old)
-        (λ answer. written_answer shown_date_time out.old answer)) }
+        (λ config. written_answer shown_date_time out.old
+        (date_time_or_timestamp config.unit config.behavior config.offset text.now)) }
 {
     let config = config_or_return!(config.to_config());
-    match form {
-        TEXT => {
-            let answer = DateTime::parse_bytes_rfc3339_with_config(text, &config.time_config);
-            write_date_time(answer, out)
-        }
-        OR_TIMESTAMP => {
-            let value = answer_or_return!(DateTime::parse_bytes_with_config(text, &config));
-            *out = SpeedateDateTime::from_value(&value);
-            SUCCESS
-        }
-        STRICT => {
-            let behavior = config.time_config.microseconds_precision_overflow_behavior;
-            write_date_time(DateTime::parse_bytes_strict(text, behavior), out)
-        }
-        FRONT =>
-            write_front!(DateTime::parse_front(text, &config.time_config) => SpeedateDateTime, out),
-        _ => CONFIG_OUT_OF_RANGE,
-    }
+    write_date_time(DateTime::parse_bytes_with_config(text, &config), out)
+}
+
+/// Parses a date-time from a text, and no timestamp, as
+/// [`DateTime::parse_bytes_rfc3339_with_config`] does: 12:13 on 1 January 2020 from
+/// `2020-01-01_12:13`. `CONFIG_OUT_OF_RANGE` comes first.
+#[unsafe(no_mangle)]
+pub extern "C" fn speedate_datetime_parse_text(
+    text: &[u8],
+    config: SpeedateConfig,
+    out: &mut SpeedateDateTime,
+) -> i32
+    ensures answer { (result, out.new)
+        ≡ with_option (choices_of config) (config_out_of_range, out.old)
+        (λ config. written_answer shown_date_time out.old
+        (date_time_answer config.behavior text.now)) }
+{
+    let config = config_or_return!(config.to_config());
+    let answer = DateTime::parse_bytes_rfc3339_with_config(text, &config.time_config);
+    write_date_time(answer, out)
+}
+
+/// Parses a date-time from a text of RFC 3339, and no timestamp, as [`DateTime::parse_bytes_strict`]
+/// does by the behavior of a configuration: 12:13:14 on 29 February 2020 in UTC from
+/// `2020-02-29T12:13:14Z`. `CONFIG_OUT_OF_RANGE` comes first.
+#[unsafe(no_mangle)]
+pub extern "C" fn speedate_datetime_parse_strict(
+    text: &[u8],
+    config: SpeedateConfig,
+    out: &mut SpeedateDateTime,
+) -> i32
+    ensures answer { (result, out.new)
+        ≡ with_option (choices_of config) (config_out_of_range, out.old)
+        (λ config. written_answer shown_date_time out.old
+        (strict_date_time_answer config.behavior text.now)) }
+{
+    let config = config_or_return!(config.to_config());
+    let behavior = config.time_config.microseconds_precision_overflow_behavior;
+    write_date_time(DateTime::parse_bytes_strict(text, behavior), out)
 }
 
 /// Whether the numbers are a date-time: `SUCCESS`, or the error of a number that is out of range.

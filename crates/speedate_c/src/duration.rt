@@ -1,7 +1,7 @@
 //! Durations as C sees them.
 
 ghost use Rattle.std.specs.Prelude.{◌≡◌, ◌≢◌, ◌≤◌, ◌↔◌, IsOk, if◌then◌else◌, length, nat_le};
-ghost use Rattle.speedate.specs.Duration.{duration_numbers, duration_text};
+ghost use Rattle.speedate.specs.Duration.{duration_numbers, duration_answer, duration_text};
 ghost use Rattle.speedate.specs.Duration.{◌gives◌};
 ghost use Rattle.speedate.specs.DurationNumbers.{IsDuration, normal_form, signed_microsecond};
 ghost use Rattle.speedate.specs.DurationNumbers.{signed_milliseconds, signed_seconds};
@@ -12,11 +12,11 @@ ghost use Rattle.speedate_c.specs.Written.{with_option, with_value};
 ghost use Rattle.speedate_c.specs.Code.{answer_code, buffer_too_small, config_out_of_range};
 ghost use Rattle.speedate_c.specs.Code.{order_number, value_out_of_range};
 ghost use Rattle.speedate_c.specs.Config.{choices_of};
-ghost use Rattle.speedate_c.specs.Duration.{duration_by_form, duration_of, numbers_of, shown_duration};
+ghost use Rattle.speedate_c.specs.Duration.{duration_of, numbers_of, shown_duration};
 
 mod part;
 
-use crate::code::{CONFIG_OUT_OF_RANGE, SUCCESS, TEXT, VALUE_OUT_OF_RANGE, order_number};
+use crate::code::{SUCCESS, VALUE_OUT_OF_RANGE, order_number};
 use crate::config::SpeedateConfig;
 use crate::text::write_text;
 use arrayvec::ArrayString;
@@ -90,28 +90,24 @@ pub(crate) fn write_duration(
     SUCCESS
 }
 
-/// Parses a duration under a configuration, in the form 0, as [`Duration::parse_bytes_with_config`] does:
-/// an hour and a half from `PT90M`.
+/// Parses a duration from a text under a configuration, as [`Duration::parse_bytes_with_config`]
+/// does: an hour and a half from `PT90M`.
 ///
-/// `CONFIG_OUT_OF_RANGE`, also for another form, comes before the errors of the text.
+/// The errors are that call's; `CONFIG_OUT_OF_RANGE` comes first.
 #[unsafe(no_mangle)]
-pub extern "C" fn speedate_duration_parse_value(
+pub extern "C" fn speedate_duration_parse_text(
     text: &[u8],
-    form: i32,
     config: SpeedateConfig,
     out: &mut SpeedateDuration,
 ) -> i32
     ensures answer { (result, out.new)
         ≡ with_option (choices_of config) (config_out_of_range, out.old)
-        (λ config. with_option (duration_by_form form config text.now)
-        (config_out_of_range, out.old)
-        (λ answer. written_answer shown_duration out.old answer)) }
+        (λ config. written_answer shown_duration out.old
+        (duration_answer config.order config.behavior text.now)) }
 {
-    let config = config_or_return!(config.to_config()).time_config;
-    match form {
-        TEXT => write_duration(Duration::parse_bytes_with_config(text, &config), out),
-        _ => CONFIG_OUT_OF_RANGE,
-    }
+    let config = config_or_return!(config.to_config());
+    let answer = Duration::parse_bytes_with_config(text, &config.time_config);
+    write_duration(answer, out)
 }
 
 /// The duration of days, seconds and microseconds of any size, brought into their ranges,

@@ -67,15 +67,6 @@ macro_rules! write_or_part {
     }};
 }
 
-/// Writes the value at the front of a text, and gives the code.
-macro_rules! write_front {
-    ($answer:expr => $shown:ident, $out:expr) => {{
-        let (value, _) = answer_or_return!($answer);
-        *$out = $shown::from_value(&value);
-        $crate::code::SUCCESS
-    }};
-}
-
 /// The code of an answer.
 macro_rules! code_of {
     ($answer:expr) => {{

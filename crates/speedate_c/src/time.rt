@@ -5,24 +5,22 @@ ghost use Rattle.std.specs.Ordering.{int_eq};
 ghost use Rattle.std.specs.Option.{ForSome};
 ghost use Rattle.speedate.specs.Offset.{IsOffset};
 ghost use Rattle.speedate.specs.Requirement.{result_map};
-ghost use Rattle.speedate.specs.Time.{time_of_day, millisecond_of_day, second_of_day};
+ghost use Rattle.speedate.specs.Time.{time_of_day, millisecond_of_day, second_of_day, time_answer};
 ghost use Rattle.speedate.specs.Time.{time_text, ◌gives◌, time_instant_order};
 ghost use Rattle.speedate.specs.Time.{time_in_timezone};
+ghost use Rattle.speedate.specs.Strict.{strict_time_answer};
 ghost use Rattle.speedate_c.specs.Written.{written_answer, written_text};
 ghost use Rattle.speedate_c.specs.Written.{written_value, with_option, with_value};
 ghost use Rattle.speedate_c.specs.Code.{answer_code, buffer_too_small, config_out_of_range};
 ghost use Rattle.speedate_c.specs.Code.{order_number, success, value_out_of_range};
 ghost use Rattle.speedate_c.specs.Config.{choices_of};
 ghost use Rattle.speedate.specs.Time.{time_text_with};
-ghost use Rattle.speedate_c.specs.Time.{digits_auto, fraction_digits_of, shown_time, time_by_form};
-ghost use Rattle.speedate_c.specs.Time.{time_of};
+ghost use Rattle.speedate_c.specs.Time.{digits_auto, fraction_digits_of, shown_time, time_of};
 
 mod part;
 mod timestamp;
 
-use crate::code::{
-    CONFIG_OUT_OF_RANGE, FRONT, STRICT, SUCCESS, TEXT, VALUE_OUT_OF_RANGE, order_number,
-};
+use crate::code::{SUCCESS, VALUE_OUT_OF_RANGE, order_number};
 use crate::config::{SpeedateConfig, offset};
 use crate::text::write_text;
 use arrayvec::ArrayString;
@@ -91,30 +89,43 @@ fn write_time(answer: Result<Time, ParseError>, out: &mut SpeedateTime) -> i32
     SUCCESS
 }
 
-/// Parses a time in a form, under a configuration: 12:13:14.5, an hour east of UTC, from
-/// `12:13:14.5+01:00`.
+/// Parses a time from a text under a configuration, as [`Time::parse_bytes_with_config`] does:
+/// 12:13:14.5, an hour east of UTC, from `12:13:14.5+01:00`.
 ///
-/// `CONFIG_OUT_OF_RANGE`, also for a form that times lack, comes before the errors of the text.
+/// The errors are that call's; `CONFIG_OUT_OF_RANGE` comes first.
 #[unsafe(no_mangle)]
-pub extern "C" fn speedate_time_parse_value(
+pub extern "C" fn speedate_time_parse_text(
     text: &[u8],
-    form: i32,
     config: SpeedateConfig,
     out: &mut SpeedateTime,
 ) -> i32
     ensures answer { (result, out.new)
         ≡ with_option (choices_of config) (config_out_of_range, out.old)
-        (λ config. with_option (time_by_form form config text.now) (config_out_of_range, out.old)
-        (λ answer. written_answer shown_time out.old answer)) }
+        (λ config. written_answer shown_time out.old (time_answer config.behavior text.now)) }
 {
-    let config = config_or_return!(config.to_config()).time_config;
-    let behavior = config.microseconds_precision_overflow_behavior;
-    match form {
-        TEXT => write_time(Time::parse_bytes_with_config(text, &config), out),
-        STRICT => write_time(Time::parse_bytes_strict(text, behavior), out),
-        FRONT => write_front!(Time::parse_front(text, &config) => SpeedateTime, out),
-        _ => CONFIG_OUT_OF_RANGE,
-    }
+    let config = config_or_return!(config.to_config());
+    let time = Time::parse_bytes_with_config(text, &config.time_config);
+    write_time(time, out)
+}
+
+/// Parses a time from a text of RFC 3339, as [`Time::parse_bytes_strict`] does by the behavior of a
+/// configuration: 12:13:14.5, an hour east of UTC, from `12:13:14.5+01:00`.
+///
+/// The errors are that call's; `CONFIG_OUT_OF_RANGE` comes first.
+#[unsafe(no_mangle)]
+pub extern "C" fn speedate_time_parse_strict(
+    text: &[u8],
+    config: SpeedateConfig,
+    out: &mut SpeedateTime,
+) -> i32
+    ensures answer { (result, out.new)
+        ≡ with_option (choices_of config) (config_out_of_range, out.old)
+        (λ config. written_answer shown_time out.old
+        (strict_time_answer config.behavior text.now)) }
+{
+    let config = config_or_return!(config.to_config());
+    let behavior = config.time_config.microseconds_precision_overflow_behavior;
+    write_time(Time::parse_bytes_strict(text, behavior), out)
 }
 
 /// Whether the numbers are a time, as [`Time::new`] says: `SUCCESS`, or the error of the first

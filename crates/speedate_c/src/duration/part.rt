@@ -12,9 +12,9 @@ use crate::config::SpeedateConfig;
 use crate::part::{NO_PART, SpeedatePart};
 use speedate::{CallKind, Duration};
 
-/// Does what [`speedate_duration_parse_value`](super::speedate_duration_parse_value) does, and writes the
-/// part for which the text is refused: 4 to 5 for `P1D1Q`. The part of an accepted
-/// text is from 0 to the end of its value; for `CONFIG_OUT_OF_RANGE` there is none.
+/// Parses a duration in a form, under a configuration, and writes the part for which the text is refused:
+/// 4 to 5 for `P1D1Q`. The part of an accepted text is from 0 to the end of its value; there is none for
+/// `CONFIG_OUT_OF_RANGE`, also for a form that the type lacks, which comes first.
 #[unsafe(no_mangle)]
 pub extern "C" fn speedate_duration_parse_or_part(
     text: &[u8],
@@ -31,14 +31,19 @@ pub extern "C" fn speedate_duration_parse_or_part(
         (λ config. with_option (duration_reading form config text.now) no_part
         (λ reading. written_part result reading text.now)) }
 {
-    *part = NO_PART;
-    let config = config_or_return!(config.to_config());
+    let Some(config) = config.to_config() else {
+        *part = NO_PART;
+        return CONFIG_OUT_OF_RANGE;
+    };
     match form {
         TEXT => write_or_part!(
             Duration::parse_or_place(text, &config.time_config),
             CallKind::Duration,
             text => SpeedateDuration, out, part
         ),
-        _ => CONFIG_OUT_OF_RANGE,
+        _ => {
+            *part = NO_PART;
+            CONFIG_OUT_OF_RANGE
+        }
     }
 }

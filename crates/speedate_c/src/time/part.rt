@@ -12,9 +12,9 @@ use crate::config::SpeedateConfig;
 use crate::part::{NO_PART, SpeedatePart};
 use speedate::{CallKind, Time};
 
-/// Does what [`speedate_time_parse_value`](super::speedate_time_parse_value) does, and writes the
-/// part for which the text is refused: 6 to 8 for `12:13:60`. The part of an accepted
-/// text is from 0 to the end of its value; for `CONFIG_OUT_OF_RANGE` there is none.
+/// Parses a time in a form, under a configuration, and writes the part for which the text is refused:
+/// 6 to 8 for `12:13:60`. The part of an accepted text is from 0 to the end of its value; there is none for
+/// `CONFIG_OUT_OF_RANGE`, also for a form that the type lacks, which comes first.
 #[unsafe(no_mangle)]
 pub extern "C" fn speedate_time_parse_or_part(
     text: &[u8],
@@ -31,8 +31,10 @@ pub extern "C" fn speedate_time_parse_or_part(
         (λ config. with_option (time_reading form config text.now) no_part
         (λ reading. written_part result reading text.now)) }
 {
-    *part = NO_PART;
-    let config = config_or_return!(config.to_config());
+    let Some(config) = config.to_config() else {
+        *part = NO_PART;
+        return CONFIG_OUT_OF_RANGE;
+    };
     match form {
         TEXT => write_or_part!(
             Time::parse_or_place(text, &config.time_config),
@@ -52,6 +54,9 @@ pub extern "C" fn speedate_time_parse_or_part(
             CallKind::Time,
             text => SpeedateTime, out, part
         ),
-        _ => CONFIG_OUT_OF_RANGE,
+        _ => {
+            *part = NO_PART;
+            CONFIG_OUT_OF_RANGE
+        }
     }
 }
