@@ -8,7 +8,7 @@ use Rattle.speedate.specs.Date.{date_answer, date_answer_or, date_front, date_fr
 use Rattle.speedate.specs.Date.{date_or_timestamp, date_or_timestamp_or, new_date_answer}
 use Rattle.speedate.specs.Refused.{placed, refused_place}
 use Rattle.speedate_c.specs.Code.{front_form, or_timestamp_form, text_form}
-use Rattle.speedate_c.specs.Written.{Reading, front_size, without_size}
+use Rattle.speedate_c.specs.Written.{Reading, front, whole}
 use Rattle.speedate_c.specs.declared.date.SpeedateDate.{SpeedateDate}
 
 -- the date of its numbers, or the fault of the first that is out of range
@@ -23,36 +23,15 @@ shown_date date = record { year = date.year; month = date.month; day = date.day 
 abbrev pub first_day : Ymd
 first_day = record { year = 1970; month = 1; day = 1 }
 
--- the answer of a form to a text, where dates have that form
-abbrev pub date_by_form : ℤ → Choices → List ℕ → Option (Result Ymd ParseError)
-date_by_form form chosen text =
-    if int_eq form text_form
-    then Some (date_answer text)
-    else (if int_eq form or_timestamp_form
-    then Some (date_or_timestamp chosen.unit text)
-    else (if int_eq form front_form
-    then Some (without_size (date_front text))
-    else None))
-
--- how a form reads a text as a date
-abbrev pub date_reading : ℤ → Choices → List ℕ → Option Reading
+-- how a form reads a text, where dates have that form
+abbrev pub date_reading : ℤ → Choices → List ℕ → Option (Reading Ymd)
 date_reading form chosen text =
     if int_eq form text_form
-    then Some (record {
-      kind = CallKind.Date;
-      place = refused_place (date_answer_or placed text);
-      size = length text;
-    })
+    then Some (whole text CallKind.Date (date_answer text)
+    (refused_place (date_answer_or placed text)))
     else (if int_eq form or_timestamp_form
-    then Some (record {
-      kind = CallKind.DateOrTimestamp;
-      place = refused_place (date_or_timestamp_or placed chosen.unit text);
-      size = length text;
-    })
+    then Some (whole text CallKind.DateOrTimestamp (date_or_timestamp chosen.unit text)
+    (refused_place (date_or_timestamp_or placed chosen.unit text)))
     else (if int_eq form front_form
-    then Some (record {
-      kind = CallKind.Date;
-      place = refused_place (date_front_or placed text);
-      size = front_size (date_front text);
-    })
+    then Some (front CallKind.Date (date_front text) (refused_place (date_front_or placed text)))
     else None))

@@ -12,7 +12,7 @@ use Rattle.speedate.specs.Strict.{strict_date_time_answer, strict_date_time_answ
 use Rattle.speedate_c.specs.Code.{front_form, or_timestamp_form, strict_form, text_form}
 use Rattle.speedate_c.specs.Date.{date_of, shown_date}
 use Rattle.speedate_c.specs.Time.{time_of, shown_time}
-use Rattle.speedate_c.specs.Written.{Reading, front_size, without_size}
+use Rattle.speedate_c.specs.Written.{Reading, front, whole}
 use Rattle.speedate_c.specs.declared.datetime.SpeedateDateTime.{SpeedateDateTime}
 
 -- the date-time of its date and its time, or the fault of one that is out of range: the date is
@@ -26,44 +26,21 @@ date_time_of value =
 abbrev pub shown_date_time : DateAndTime → SpeedateDateTime
 shown_date_time value = record { date = shown_date value.date; time = shown_time value.time }
 
--- the answer of a form to a text, where date-times have that form
-abbrev pub date_time_by_form : ℤ → Choices → List ℕ → Option (Result DateAndTime ParseError)
-date_time_by_form form chosen text =
-    if int_eq form text_form
-    then Some (date_time_answer chosen.behavior text)
-    else (if int_eq form or_timestamp_form
-    then Some (date_time_or_timestamp chosen.unit chosen.behavior chosen.offset text)
-    else (if int_eq form strict_form
-    then Some (strict_date_time_answer chosen.behavior text)
-    else (if int_eq form front_form
-    then Some (without_size (date_time_front chosen.behavior text))
-    else None)))
-
--- how a form reads a text as a date-time
-abbrev pub date_time_reading : ℤ → Choices → List ℕ → Option Reading
+-- how a form reads a text, where date-times have that form
+abbrev pub date_time_reading : ℤ → Choices → List ℕ → Option (Reading DateAndTime)
 date_time_reading form chosen text =
     if int_eq form text_form
-    then Some (record {
-      kind = CallKind.DateTime;
-      place = refused_place (date_time_answer_or placed chosen.behavior text);
-      size = length text;
-    })
+    then Some (whole text CallKind.DateTime (date_time_answer chosen.behavior text)
+    (refused_place (date_time_answer_or placed chosen.behavior text)))
     else (if int_eq form or_timestamp_form
-    then Some (record {
-      kind = CallKind.DateTimeOrTimestamp;
-      place = refused_place (date_time_or_timestamp_or placed chosen.unit chosen.behavior chosen.offset text);
-      size = length text;
-    })
+    then Some (whole text CallKind.DateTimeOrTimestamp
+    (date_time_or_timestamp chosen.unit chosen.behavior chosen.offset text)
+    (refused_place
+    (date_time_or_timestamp_or placed chosen.unit chosen.behavior chosen.offset text)))
     else (if int_eq form strict_form
-    then Some (record {
-      kind = CallKind.DateTimeStrict;
-      place = refused_place (strict_date_time_answer_or placed chosen.behavior text);
-      size = length text;
-    })
+    then Some (whole text CallKind.DateTimeStrict (strict_date_time_answer chosen.behavior text)
+    (refused_place (strict_date_time_answer_or placed chosen.behavior text)))
     else (if int_eq form front_form
-    then Some (record {
-      kind = CallKind.DateTime;
-      place = refused_place (date_time_front_or placed chosen.behavior text);
-      size = front_size (date_time_front chosen.behavior text);
-    })
+    then Some (front CallKind.DateTime (date_time_front chosen.behavior text)
+    (refused_place (date_time_front_or placed chosen.behavior text)))
     else None)))

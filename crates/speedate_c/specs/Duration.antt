@@ -9,7 +9,7 @@ use Rattle.speedate_c.specs.Code.{text_form}
 use Rattle.speedate.specs.DurationNumbers.{DurationNumbers}
 use Rattle.speedate.specs.Timestamp.{seconds_per_day}
 use Rattle.speedate.specs.Requirement.{NumberRow, ◌else_fault◌, first_fault_or}
-use Rattle.speedate_c.specs.Written.{Reading, with_value}
+use Rattle.speedate_c.specs.Written.{Reading, whole, with_value}
 use Rattle.speedate_c.specs.declared.duration.SpeedateDuration.{SpeedateDuration}
 
 -- the numbers of a duration from outside, whatever they are
@@ -56,20 +56,10 @@ sum_after sum (duration ∷ durations) =
     with_value (duration_of duration) None
     (λ numbers. sum_after (sum +ℤ signed_amount numbers) durations)
 
--- the answer of a form to a text, where durations have that form
-abbrev pub duration_by_form : ℤ → Choices → List ℕ → Option (Result DurationNumbers ParseError)
-duration_by_form form chosen text =
-    if int_eq form text_form
-    then Some (duration_answer chosen.order chosen.behavior text)
-    else None
-
--- how a form reads a text as a duration
-abbrev pub duration_reading : ℤ → Choices → List ℕ → Option Reading
+-- how a form reads a text, where durations have that form
+abbrev pub duration_reading : ℤ → Choices → List ℕ → Option (Reading DurationNumbers)
 duration_reading form chosen text =
     if int_eq form text_form
-    then Some (record {
-      kind = CallKind.Duration;
-      place = refused_place (duration_answer_or placed chosen.order chosen.behavior text);
-      size = length text;
-    })
+    then Some (whole text CallKind.Duration (duration_answer chosen.order chosen.behavior text)
+    (refused_place (duration_answer_or placed chosen.order chosen.behavior text)))
     else None

@@ -11,7 +11,7 @@ use Rattle.speedate.specs.declared.FractionDigits.{FractionDigits}
 use Rattle.speedate.specs.Requirement.{result_and_then, result_map}
 use Rattle.speedate_c.specs.Code.{front_form, strict_form, text_form}
 use Rattle.speedate_c.specs.Config.{offset_answer}
-use Rattle.speedate_c.specs.Written.{Reading, front_size, without_size}
+use Rattle.speedate_c.specs.Written.{Reading, front, whole}
 use Rattle.speedate_c.specs.declared.time.SpeedateTime.{SpeedateTime}
 
 -- the time of its numbers, or the fault of the first that is out of range; the offset is looked at
@@ -51,36 +51,16 @@ fraction_digits_of number =
     then Some FractionDigits.Three
     else (if int_eq number (pos 6) then Some FractionDigits.Six else None))
 
--- the answer of a form to a text, where times have that form
-abbrev pub time_by_form : ℤ → Choices → List ℕ → Option (Result TimeOfDay ParseError)
-time_by_form form chosen text =
-    if int_eq form text_form
-    then Some (time_answer chosen.behavior text)
-    else (if int_eq form strict_form
-    then Some (strict_time_answer chosen.behavior text)
-    else (if int_eq form front_form
-    then Some (without_size (time_front chosen.behavior text))
-    else None))
-
--- how a form reads a text as a time
-abbrev pub time_reading : ℤ → Choices → List ℕ → Option Reading
+-- how a form reads a text, where times have that form
+abbrev pub time_reading : ℤ → Choices → List ℕ → Option (Reading TimeOfDay)
 time_reading form chosen text =
     if int_eq form text_form
-    then Some (record {
-      kind = CallKind.Time;
-      place = refused_place (time_answer_or placed chosen.behavior text);
-      size = length text;
-    })
+    then Some (whole text CallKind.Time (time_answer chosen.behavior text)
+    (refused_place (time_answer_or placed chosen.behavior text)))
     else (if int_eq form strict_form
-    then Some (record {
-      kind = CallKind.TimeStrict;
-      place = refused_place (strict_time_answer_or placed chosen.behavior text);
-      size = length text;
-    })
+    then Some (whole text CallKind.TimeStrict (strict_time_answer chosen.behavior text)
+    (refused_place (strict_time_answer_or placed chosen.behavior text)))
     else (if int_eq form front_form
-    then Some (record {
-      kind = CallKind.Time;
-      place = refused_place (time_front_or placed chosen.behavior text);
-      size = front_size (time_front chosen.behavior text);
-    })
+    then Some (front CallKind.Time (time_front chosen.behavior text)
+    (refused_place (time_front_or placed chosen.behavior text)))
     else None))

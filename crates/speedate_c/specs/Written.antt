@@ -4,6 +4,7 @@ use Rattle.std.specs.Prelude.{ℕ, ◌+◌, ℤ, pos, List, ◌∷◌, ◌++◌,
 use Rattle.speedate.specs.Base.{CallKind, ParseError}
 use Rattle.speedate.specs.declared.LineError.{LineError}
 use Rattle.speedate.specs.Part.{part_end}
+use Rattle.speedate.specs.Requirement.{result_map}
 use Rattle.speedate_c.specs.Code.{buffer_too_small, fault_code, fault_of, kind_number}
 use Rattle.speedate_c.specs.Code.{line_error_code, no_such_date, success}
 use Rattle.speedate_c.specs.declared.part.SpeedatePart.{SpeedatePart}
@@ -51,18 +52,31 @@ abbrev pub front_size : {A : Type 0} → Result (A × ℕ) ParseError → ℕ
 front_size (Ok front) = front.1
 front_size (Err fault) = 0
 
--- how a form reads a text: the kind of calls that read as it does, the place for which it refuses the
--- text, and how many bytes its value takes
-pub record Reading : Type 0 where
+-- how a form reads a text: its answer with the size of the value, the kind of calls that read as it
+-- does, and the place for which it refuses the text
+pub record Reading (A : Type 0) : Type 0 where
+  pub answer : Result (A × ℕ) ParseError
   pub kind : CallKind
   pub place : Option ℕ
-  pub size : ℕ
+
+-- how a form reads a text that is a value as a whole
+abbrev pub whole : {A : Type 0} → List ℕ → CallKind → Result A ParseError → Option ℕ → Reading A
+whole text kind answer place = record {
+  answer = result_map (λ value. (value, length text)) answer;
+  kind = kind;
+  place = place;
+}
+
+-- how a form reads a value at the front of a text
+abbrev pub front : {A : Type 0} → CallKind → Result (A × ℕ) ParseError → Option ℕ → Reading A
+front kind answer place = record { answer = answer; kind = kind; place = place }
 
 -- written of a code that a form gave for a text: if it is that of a fault, the part that the fault is
 -- about, which begins at its place, and otherwise where the value ends
-abbrev pub written_part : ℤ → Reading → List ℕ → SpeedatePart
+abbrev pub written_part : {A : Type 0} → ℤ → Reading A → List ℕ → SpeedatePart
 written_part code reading text =
-    with_option (fault_of code) (record { start = 0; end = reading.size; kind = pos 0 })
+    with_option (fault_of code)
+    (record { start = 0; end = front_size reading.answer; kind = pos 0 })
     (λ fault. with_option reading.place no_part (part_at fault reading.kind text))
 
 -- written of a date, where there is one

@@ -3,8 +3,9 @@
 ghost use Rattle.std.specs.Prelude.{◌≡◌};
 ghost use Rattle.speedate_c.specs.Code.{config_out_of_range};
 ghost use Rattle.speedate_c.specs.Config.{choices_of};
-ghost use Rattle.speedate_c.specs.Duration.{duration_by_form, duration_reading, shown_duration};
-ghost use Rattle.speedate_c.specs.Written.{no_part, with_option, written_answer, written_part};
+ghost use Rattle.speedate_c.specs.Duration.{duration_reading, shown_duration};
+ghost use Rattle.speedate_c.specs.Written.{no_part, with_option, without_size};
+ghost use Rattle.speedate_c.specs.Written.{written_answer, written_part};
 
 use super::SpeedateDuration;
 use crate::code::{CONFIG_OUT_OF_RANGE, TEXT};
@@ -25,8 +26,8 @@ pub extern "C" fn speedate_duration_parse_or_part(
 ) -> i32
     ensures answer { (result, out.new)
         ≡ with_option (choices_of config) (config_out_of_range, out.old)
-        (λ config. with_option (duration_by_form form config text.now) (config_out_of_range, out.old)
-        (λ answer. written_answer shown_duration out.old answer)) }
+        (λ config. with_option (duration_reading form config text.now) (config_out_of_range, out.old)
+        (λ reading. written_answer shown_duration out.old (without_size reading.answer))) }
     ensures part { part.new ≡ with_option (choices_of config) no_part
         (λ config. with_option (duration_reading form config text.now) no_part
         (λ reading. written_part result reading text.now)) }

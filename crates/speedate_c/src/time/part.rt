@@ -3,8 +3,9 @@
 ghost use Rattle.std.specs.Prelude.{◌≡◌};
 ghost use Rattle.speedate_c.specs.Code.{config_out_of_range};
 ghost use Rattle.speedate_c.specs.Config.{choices_of};
-ghost use Rattle.speedate_c.specs.Time.{shown_time, time_by_form, time_reading};
-ghost use Rattle.speedate_c.specs.Written.{no_part, with_option, written_answer, written_part};
+ghost use Rattle.speedate_c.specs.Time.{shown_time, time_reading};
+ghost use Rattle.speedate_c.specs.Written.{no_part, with_option, without_size};
+ghost use Rattle.speedate_c.specs.Written.{written_answer, written_part};
 
 use super::SpeedateTime;
 use crate::code::{CONFIG_OUT_OF_RANGE, FRONT, STRICT, TEXT};
@@ -25,8 +26,8 @@ pub extern "C" fn speedate_time_parse_or_part(
 ) -> i32
     ensures answer { (result, out.new)
         ≡ with_option (choices_of config) (config_out_of_range, out.old)
-        (λ config. with_option (time_by_form form config text.now) (config_out_of_range, out.old)
-        (λ answer. written_answer shown_time out.old answer)) }
+        (λ config. with_option (time_reading form config text.now) (config_out_of_range, out.old)
+        (λ reading. written_answer shown_time out.old (without_size reading.answer))) }
     ensures part { part.new ≡ with_option (choices_of config) no_part
         (λ config. with_option (time_reading form config text.now) no_part
         (λ reading. written_part result reading text.now)) }
