@@ -14,7 +14,7 @@ export SPEEDATE_DIR="$root/out/prefix"
 build_library() {
     library=$SPEEDATE_DIR/lib/libspeedate.a
     newer=$(find "$root/crates/speedate_base/src" "$root/crates/speedate_civil/src" "$root/crates/speedate/src" \
-        "$root/crates/speedate_c/src" "$root/c/speedate.h" -newer "$library" 2>/dev/null)
+        "$root/crates/speedate_c/src" "$root/c/speedate.h" "$root/c/speedate.c" -newer "$library" 2>/dev/null)
     if [ ! -f "$library" ] || [ -n "$newer" ]; then
         "$root/bin/build_c" --prefix "$SPEEDATE_DIR" >&2 || fail 'the library could not be built'
     fi
