@@ -1,7 +1,7 @@
 // SPDX-License-Identifier: MIT
 // Columns, which bin/build_js appends to speedate.js for the entry `speedate/columns`.
 
-NEEDED_CALLS.push("date_column");
+NEEDED_CALLS.push("date_lines");
 /** A call gets so many lines, and so many bytes, of a column at once. It gets a longer line whole. */
 const LINES_AT_ONCE = 2 ** 12;
 const BLOCK_SIZE = 2 ** 16;
@@ -70,13 +70,13 @@ const OF_COLUMNS = ["refused", "maxRefusals", "maxLineBytes"];
 const optionsOf = ({ forms, names }, ...more) => ({ forms, names: [...names, ...more, ...OF_COLUMNS] });
 const PARTS = { ...OPTIONS_OF.dateTime, names: ["timestampUnit", "overflow"] };
 const COLUMNS = {
-  date: { call: "date_column", options: optionsOf(OPTIONS_OF.date), kinds: KINDS.date },
-  dateTime: { call: "datetime_column", options: optionsOf({ ...OPTIONS_OF.dateTime, forms: Object.keys(FORM) }, "unit"), kinds: KINDS.instant },
+  date: { call: "date_lines", options: optionsOf(OPTIONS_OF.date), kinds: KINDS.date },
+  dateTime: { call: "datetime_lines", options: optionsOf({ ...OPTIONS_OF.dateTime, forms: Object.keys(FORM) }, "unit"), kinds: KINDS.instant },
   dateTimeClock: { call: "datetime_clock_column", options: optionsOf(PARTS, "unit"), kinds: KINDS.dateTime },
   dateTimeOffset: { call: "datetime_offset_column", options: optionsOf(PARTS), kinds: KINDS.instant },
-  time: { call: "time_column", options: optionsOf(OPTIONS_OF.time, "unit"), kinds: KINDS.time },
+  time: { call: "time_lines", options: optionsOf(OPTIONS_OF.time, "unit"), kinds: KINDS.time },
   timeOffset: { call: "time_offset_column", options: optionsOf(OPTIONS_OF.time), kinds: KINDS.offset },
-  duration: { call: "duration_column", options: optionsOf(OPTIONS_OF.duration, "unit"), kinds: KINDS.duration },
+  duration: { call: "duration_lines", options: optionsOf(OPTIONS_OF.duration, "unit"), kinds: KINDS.duration },
 };
 
 /** A column that comes in pieces. The first `size` bytes of `unfinished` are a line that has not ended, and `half` is half a pair that
@@ -92,7 +92,7 @@ function newColumn(name, options) {
   const kinds = missingOffset === MISSING.utc ? KINDS.dateTime : usual;
   const returned = its.names.includes("unit") ? UNITS_OF_COLUMNS[unit] : INTEGERS;
   return {
-    call: isFront ? "datetime_front_column" : call, kind: kinds[isFront ? FORM.text : form], ...(isFront ? asFronts : asNumbers)(returned),
+    call: isFront ? "datetime_front_lines" : call, kind: kinds[isFront ? FORM.text : form], ...(isFront ? asFronts : asNumbers)(returned),
     numbers, refused, parser: isFront ? FORM.text : form, lines: 0, refusedCount: 0, unfinished: new Uint8Array(0), size: 0, half: "", hasEnded: false,
   };
 }
@@ -245,9 +245,11 @@ export function columnReader(kind, options) {
 // ---- Columns in print ----
 
 const PRINTERS = {
-  date: "date_print_column", time: "time_print_column", dateTime: "datetime_print_column", dateTimeClock: "datetime_clock_print_column",
+  date: "date_print_column", time: "time_print_column", dateTime: "datetime_print_column", dateTimeClock: "datetime_print_column",
   duration: "duration_print_column",
 };
+/** The flag for date-times as clocks show them. */
+const CLOCK = 0x10;
 /** The most bytes of a printed line, with its end. */
 const LINE_SIZE = 33;
 
@@ -271,13 +273,13 @@ function putMilliseconds(view, at, milliseconds) {
 const PUT = { Int32Array: putDays, Float64Array: putMilliseconds, BigInt64Array: putMicroseconds };
 
 /** Prints numbers of an array from an index on, at most LINES_AT_ONCE. */
-function printLines(numbers, from, { put, call, inC: { BYTES_PER_ELEMENT } }) {
+function printLines(numbers, from, { put, call, flags, inC: { BYTES_PER_ELEMENT } }) {
   const { start, bytes, view } = kept;
   const most = Math.min(byteCount.call(numbers) - from, LINES_AT_ONCE);
   let count = 0;
   while (count < most && put(view, COLUMN.numbers + count * BYTES_PER_ELEMENT, numbers[from + count])) count++;
   const [given, room, progress] = [COLUMN.numbers, COLUMN.text, COLUMN.progress].map((place) => BigInt(start + place));
-  accept(call(given, BigInt(count), room, BigInt(LINES_AT_ONCE * LINE_SIZE), progress));
+  accept(call(given, BigInt(count), flags, room, BigInt(LINES_AT_ONCE * LINE_SIZE), progress));
   const error = view.getInt32(COLUMN.progress + 16, true) || (count < most ? NUMBER_TOO_LARGE : 0);
   if (error !== 0) throw Object.assign(new SpeedateError(reasonOf(error, NONE)), { index: from + view.getUint32(COLUMN.progress, true) });
   return asciiOf(bytes.subarray(COLUMN.text, COLUMN.text + view.getUint32(COLUMN.progress + 8, true)));
@@ -297,7 +299,7 @@ export function printColumn(numbers, kind) {
   if (!types.includes(type)) throw new TypeError(`numbers has to be a ${types.join(" or a ")}`);
   start();
   kept.reserve(COLUMN.text - PLACE.text + LINES_AT_ONCE * LINE_SIZE);
-  const printer = { put: PUT[type], call: calls[`speedate_${PRINTERS[kind]}`], inC: kind === "date" ? Int32Array : BigInt64Array };
+  const printer = { put: PUT[type], call: calls[`speedate_${PRINTERS[kind]}`], flags: kind === "dateTimeClock" ? CLOCK : 0, inC: kind === "date" ? Int32Array : BigInt64Array };
   let text = "";
   for (let from = 0; from < byteCount.call(numbers); from += LINES_AT_ONCE) text += printLines(numbers, from, printer);
   return text;

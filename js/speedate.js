@@ -351,7 +351,7 @@ const DATE = {
 const TIME = {
   name: "time",
   calls: undefined,
-  inC: { check: "time_check", print: "time_to_text", printDigits: "time_to_text_with_digits", compare: "time_compare", withOffset: "time_in_timezone" },
+  inC: { check: "time_check", print: "time_to_text", compare: "time_compare", withOffset: "time_in_timezone" },
   fields: ["hour", "minute", "second", "millisecond", "microsecond", "offsetSeconds"],
   other: "year",
   read({ view }) {
@@ -380,8 +380,8 @@ const DATE_TIME = {
   name: "datetime",
   calls: undefined,
   inC: {
-    check: "datetime_check", print: "datetime_to_text", printDigits: "datetime_to_text_with_digits", compare: "datetime_compare",
-    until: "duration_between", add: "duration_after", subtract: "duration_before", withOffset: "datetime_in_timezone",
+    check: "datetime_check", print: "datetime_to_text", compare: "datetime_compare",
+    until: "duration_between", add: "datetime_add", subtract: "duration_before", withOffset: "datetime_in_timezone",
   },
   fields: [...DATE.fields, ...TIME.fields],
   other: undefined,
@@ -505,18 +505,13 @@ const OPTIONS_OF = {
 
 // Each writes the value, or the part for which the text is refused.
 function callDate(library, size, it) {
-  const { speedate_date_parse_or_part: all, speedate_date_parse_or_part_text: lax } = library.calls;
-  if (it.form === FORM.text) return lax(address.text, size, address.out, address.part);
-  return all(address.text, size, putConfig(library, it), address.out, address.part);
+  return library.calls.speedate_date_parse_or_part(address.text, size, it.form, putConfig(library, it), address.out, address.part);
 }
 function callTime(library, size, it) {
-  const { speedate_time_parse_or_part: lax, speedate_time_parse_or_part_strict: strict } = library.calls;
-  return (it.form === FORM.strict ? strict : lax)(address.text, size, putConfig(library, it), address.out, address.part);
+  return library.calls.speedate_time_parse_or_part(address.text, size, it.form, putConfig(library, it), address.out, address.part);
 }
 function callDateTime(library, size, it) {
-  const { calls: inC } = library;
-  const parse = [inC.speedate_datetime_parse_or_part_text, inC.speedate_datetime_parse_or_part, inC.speedate_datetime_parse_or_part_strict][it.form];
-  const code = parse(address.text, size, putConfig(library, it), address.out, address.part);
+  const code = library.calls.speedate_datetime_parse_or_part(address.text, size, it.form, putConfig(library, it), address.out, address.part);
   if (it.missingOffset === undefined) return code;
   if (it.missingOffset === MISSING.error) library.view.setInt32(PART.kind, KINDS.instant[it.form], true);
   return code === 0 ? offsetOrUtc(library, size, it) : code;
@@ -535,33 +530,33 @@ function offsetOrUtc({ view }, size, { missingOffset }) {
   return 0;
 }
 const callDuration = (library, size, it) =>
-  library.calls.speedate_duration_parse_or_part(address.text, size, putConfig(library, it), address.out, address.part);
+  library.calls.speedate_duration_parse_or_part(address.text, size, FORM.text, putConfig(library, it), address.out, address.part);
 const callDateFront = ({ calls }, size) =>
-  calls.speedate_date_parse_or_part_front(address.text, size, address.out, address.taken, address.part);
+  calls.speedate_date_parse_or_part(address.text, size, FORM.front, address.defaultConfig, address.out, address.part);
 const callTimeFront = (library, size, it) =>
-  library.calls.speedate_time_parse_or_part_front(address.text, size, putConfig(library, it), address.out, address.taken, address.part);
+  library.calls.speedate_time_parse_or_part(address.text, size, FORM.front, putConfig(library, it), address.out, address.part);
 const callDateTimeFront = (library, size, it) =>
-  library.calls.speedate_datetime_parse_or_part_front(address.text, size, putConfig(library, it), address.out, address.taken, address.part);
+  library.calls.speedate_datetime_parse_or_part(address.text, size, FORM.front, putConfig(library, it), address.out, address.part);
 
 // Options come first, since a getter among them may call this too.
 function codeOfDate(text, options) {
   const size = options === undefined ? putShort(text) : undefined;
-  if (size !== undefined) return calls.speedate_date_parse_or_part_text(address.text, size, address.out, address.part);
+  if (size !== undefined) return calls.speedate_date_parse_or_part(address.text, size, FORM.text, address.defaultConfig, address.out, address.part);
   return read(text, false, numbersOf(options, OPTIONS_OF.date), callDate);
 }
 function codeOfTime(text, options) {
   const size = options === undefined ? putShort(text) : undefined;
-  if (size !== undefined) return calls.speedate_time_parse_or_part(address.text, size, address.defaultConfig, address.out, address.part);
+  if (size !== undefined) return calls.speedate_time_parse_or_part(address.text, size, FORM.text, address.defaultConfig, address.out, address.part);
   return read(text, false, numbersOf(options, OPTIONS_OF.time), callTime);
 }
 function codeOfDateTime(text, options) {
   const size = options === undefined ? putShort(text) : undefined;
-  if (size !== undefined) return calls.speedate_datetime_parse_or_part_text(address.text, size, address.defaultConfig, address.out, address.part);
+  if (size !== undefined) return calls.speedate_datetime_parse_or_part(address.text, size, FORM.text, address.defaultConfig, address.out, address.part);
   return read(text, false, numbersOf(options, OPTIONS_OF.dateTime), callDateTime);
 }
 function codeOfDuration(text, options) {
   const size = options === undefined ? putShort(text) : undefined;
-  if (size !== undefined) return calls.speedate_duration_parse_or_part(address.text, size, address.defaultConfig, address.out, address.part);
+  if (size !== undefined) return calls.speedate_duration_parse_or_part(address.text, size, FORM.text, address.defaultConfig, address.out, address.part);
   return read(text, false, numbersOf(options, OPTIONS_OF.duration), callDuration);
 }
 const codeOfDateFront = (text, options) => read(frontOf(text), true, numbersOf(options, OPTIONS_OF.dateFront), callDateFront);
@@ -645,7 +640,7 @@ export function safeParseDuration(text, options) {
 }
 
 function frontAnswer(value, text) {
-  const size = takenSize();
+  const size = kept.view.getUint32(PART.end, true);
   return typeof text === "string" ? { value, size, length: unitsOf(text, size) } : { value, size };
 }
 
@@ -710,7 +705,7 @@ export function dateTimeFromTimestamp(timestamp, unit) {
   const number = integer64(timestamp, "timestamp");
   start();
   const config = putConfig(kept, { form: FORM.orTimestamp, timestampUnit, overflow: 0, isoOrder: 0 });
-  accept(calls.speedate_datetime_from_timestamp(number, 0, config, address.out));
+  accept(calls.speedate_datetime_of_timestamp(number, 0, config, address.out));
   return DATE_TIME.read(kept);
 }
 
@@ -733,9 +728,9 @@ export function fromDate(date) {
 export function format(value, options) {
   const { digits } = numbersOf(options, OPTIONS_OF.format);
   const it = given(value, "value", digits === undefined ? ALL_KINDS : HAS_OFFSET);
-  const { print, printDigits } = it.kind.calls;
-  const room = [address.buffer, BUFFER_SIZE, address.taken];
-  acceptOf(digits === undefined ? print(putFirst(it), ...room) : printDigits(putFirst(it), digits, ...room), it);
+  // C counts -1 as no choice of digits.
+  const chosen = HAS_OFFSET.includes(it.kind) ? [digits ?? -1] : [];
+  acceptOf(it.kind.calls.print(putFirst(it), ...chosen, address.buffer, BUFFER_SIZE, address.taken), it);
   if (it.offsetSeconds % 60) throw new RangeError("offsetSeconds has to be whole minutes in print");
   return printed();
 }
@@ -757,7 +752,8 @@ export function daysBetween(earlier, later) {
 export function add(start, duration) {
   const it = given(start, "start", WITH_DATE);
   const by = given(duration, "duration", JUST.duration);
-  acceptOf(it.kind.calls.add(putFirst(by), putSecond(it), address.out), by, it);
+  const [first, second] = it.kind === DATE ? [by, it] : [it, by];
+  acceptOf(it.kind.calls.add(putFirst(first), putSecond(second), address.out), first, second);
   return it.kind.read(kept);
 }
 
@@ -778,7 +774,7 @@ export function until(start, end) {
 export function durationFromMicroseconds(microseconds) {
   const number = integer64(microseconds, "microseconds");
   start();
-  accept(calls.speedate_duration_from_signed_microseconds(number, address.out));
+  accept(calls.speedate_duration_from_microseconds(number, address.out));
   return DURATION.read(kept);
 }
 
@@ -798,7 +794,7 @@ export function sum(durations) {
 
 export function totalMicroseconds(duration) {
   const it = given(duration, "duration", JUST.duration);
-  acceptOf(calls.speedate_duration_signed_total_microseconds(putFirst(it), address.out), it);
+  acceptOf(calls.speedate_duration_microseconds(putFirst(it), address.out), it);
   return kept.view.getBigInt64(PLACE.out, true);
 }
 

@@ -440,7 +440,8 @@ assert.deepEqual([ofLine.index, ofLine.code, ofLine.start, ofLine.end, String(of
 // Readers answer as the functions of C do. Of a long line one of fronts gets no more than it can look at, and C all of it.
 const { memory, __heap_base: base, ...inC } = new WebAssembly.Instance(wasm).exports;
 memory.grow(1);
-const [OUT, TAKEN, CONFIG, PART, TEXT] = [0, 16, 24, 32, 56].map((it) => Number(base.value) + it);
+const FORMS_IN_C = { _text: 0, _strict: 2, _front: 3 };
+const [OUT, CONFIG, PART, TEXT] = [0, 24, 32, 56].map((it) => Number(base.value) + it);
 const UNITS = ["infer", "s", "ms", "us"];
 /** The code that C gives of a text, and in bytes the size of a front, or the place of the error. */
 function answerInC(kind, how, bytes, { timestampUnit = "infer", overflow = "error", isoOrder = "lax" }) {
@@ -449,12 +450,10 @@ function answerInC(kind, how, bytes, { timestampUnit = "infer", overflow = "erro
   view.setUint8(CONFIG + 5, UNITS.indexOf(timestampUnit));
   view.setUint8(CONFIG + 6, overflow === "truncate" ? 1 : 0);
   view.setUint8(CONFIG + 7, isoOrder === "strict" ? 1 : 0);
-  const config = kind === "date" && how !== "" ? [] : [BigInt(CONFIG)];
-  const given = [BigInt(TEXT), BigInt(bytes.length), ...config];
-  const taken = how === "_front" ? [BigInt(TAKEN)] : [];
-  const code = inC[`speedate_${kind}_parse_or_part${how}`](...given, BigInt(OUT), ...taken, BigInt(PART));
+  const form = FORMS_IN_C[how] ?? (kind.startsWith("date") ? 1 : 0);
+  const code = inC[`speedate_${kind}_parse_or_part`](BigInt(TEXT), BigInt(bytes.length), form, BigInt(CONFIG), BigInt(OUT), BigInt(PART));
   if (code !== 0) return [code, view.getUint32(PART, true)];
-  return [code, how === "_front" ? view.getUint32(TAKEN, true) : undefined];
+  return [code, how === "_front" ? view.getUint32(PART + 8, true) : undefined];
 }
 /** How many units of a string end at a byte of its UTF-8 or before. */
 function unitsAt(text, byte) {

@@ -19,10 +19,10 @@ typedef int ReadLines(const Text *text, SpeedateConfig config, SpeedateColumnCon
                     size_t room, SpeedateProgress *progress) { \
         return call(BYTES, config, column, numbers, room, NULL, 0, progress); \
     }
-READ_LINES(read_datetimes, speedate_datetime_column, int64_t)
+READ_LINES(read_datetimes, speedate_datetime_lines, int64_t)
 READ_LINES(read_clocks, speedate_datetime_clock_column, int64_t)
-READ_LINES(read_times, speedate_time_column, int64_t)
-READ_LINES(read_durations, speedate_duration_column, int64_t)
+READ_LINES(read_times, speedate_time_lines, int64_t)
+READ_LINES(read_durations, speedate_duration_lines, int64_t)
 
 /* Days and offsets have 32 bits in C, and 64 in NumPy. They are written to the later half of their places, and move
  * forward. */
@@ -44,7 +44,7 @@ static void move_forward(int64_t *numbers, const int32_t *short_numbers, size_t 
         numbers[i] = number == INT32_MIN ? NOT_A_TIME : number;
     }
 }
-READ_SHORT_LINES(read_dates, speedate_date_column)
+READ_SHORT_LINES(read_dates, speedate_date_lines)
 READ_SHORT_LINES(read_offsets, speedate_datetime_offset_column)
 
 /* How the texts of a column become numbers: lines at once, and a text of a list by its value. */
@@ -99,7 +99,7 @@ static int number_of_time(const ColumnReader *reader, const Value *value, int64_
 
 static int number_of_duration(const ColumnReader *reader, const Value *value, int64_t *number) {
     (void)reader;
-    return speedate_duration_signed_total_microseconds(value->duration, number);
+    return speedate_duration_microseconds(value->duration, number);
 }
 
 /* The number of a text, or its code, with NOT_A_TIME. */
@@ -130,7 +130,7 @@ static int clock_of_timestamp(const ColumnReader *reader, int64_t timestamp, int
 
 static int offset_of_timestamp(const ColumnReader *reader, int64_t timestamp, int64_t *number) {
     Value value;
-    int code = speedate_datetime_from_timestamp(timestamp, 0, reader->config, &value.datetime);
+    int code = speedate_datetime_of_timestamp(timestamp, 0, reader->config, &value.datetime);
     return code == SPEEDATE_OK ? reader->number_of(reader, &value, number) : code;
 }
 
@@ -727,7 +727,7 @@ typedef struct {
     ReadLines *read;
     NumberOf *number_of;
     OfTimestamp *of_timestamp;
-    int parser[SPEEDATE_PARSER_STRICT + 1];
+    int parser[SPEEDATE_STRICT + 1];
     const char *kind;
 } ColumnCall;
 
@@ -758,7 +758,7 @@ static PyObject *read_column(const ColumnCall *call, GIVEN) {
     reader->lines = (SpeedateColumnConfig){.drops_returns = 1, .parser = (uint8_t)form, .assumes_utc = assumes_utc};
     reader->read = call->read;
     reader->number_of = call->number_of;
-    reader->of_timestamp = form == SPEEDATE_PARSER_OR_TIMESTAMP ? call->of_timestamp : NULL;
+    reader->of_timestamp = form == SPEEDATE_OR_TIMESTAMP ? call->of_timestamp : NULL;
     reader->parser = call->parser[form];
     return column_of(&column, bound[TEXTS], call->kind);
 }

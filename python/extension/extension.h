@@ -11,7 +11,7 @@
 #include <stdbool.h>
 #include <string.h>
 
-#include "speedate.h"
+#include "speedate_packages.h"
 
 /* The pointer of datetime.h, which stays NULL, would be one for all interpreters. */
 static PyDateTime_CAPI *PyDateTimeAPI __attribute__((unused));

@@ -137,9 +137,9 @@ int take_form(PyObject *timestamps, PyObject *strict, int *out) {
     bool reads_timestamps = false, is_strict = false;
     if (take_flag("timestamps", timestamps, &reads_timestamps) < 0 || take_flag("strict", strict, &is_strict) < 0)
         return -1;
-    *out = is_strict          ? SPEEDATE_PARSER_STRICT
-           : reads_timestamps ? SPEEDATE_PARSER_OR_TIMESTAMP
-                              : SPEEDATE_PARSER_TEXT;
+    *out = is_strict          ? SPEEDATE_STRICT
+           : reads_timestamps ? SPEEDATE_OR_TIMESTAMP
+                              : SPEEDATE_TEXT;
     if (!is_strict || !reads_timestamps)
         return 0;
     return PyErr_SetString(PyExc_ValueError, "strict and timestamps exclude each other"), -1;
@@ -165,7 +165,7 @@ int take_config(const State *state, PyObject *config, int form, SpeedateConfig *
         return wrong_type("config", "Config", config);
     if (take_numbers(state, config, out) < 0)
         return -1;
-    const char *unread = form == SPEEDATE_PARSER_OR_TIMESTAMP           ? NULL
+    const char *unread = form == SPEEDATE_OR_TIMESTAMP           ? NULL
                          : out->timestamp_unit != SPEEDATE_UNIT_INFER ? "timestamp_unit"
                          : out->has_timestamp_offset                  ? "timestamp_offset"
                                                                       : NULL;
@@ -254,39 +254,43 @@ static PyObject *make_duration(const State *state, const Value *value, int *code
 
 /* ---- Reading ---- */
 
+/* A parser with the part. At a front it writes the size too. */
+#define PARSE_OR_PART(name, type, form, field) \
+    static int name##_or_part(const Text *text, SpeedateConfig config, Value *out, size_t *taken, SpeedatePart *part) { \
+        int code = speedate_##type##_parse_or_part(BYTES, form, config, &out->field, part); \
+        if (form == SPEEDATE_FRONT && code == SPEEDATE_OK) \
+            *taken = part->end; \
+        return code; \
+    }
+PARSE_OR_PART(parse_date, date, SPEEDATE_TEXT, date)
+PARSE_OR_PART(parse_date_or_timestamp, date, SPEEDATE_OR_TIMESTAMP, date)
+PARSE_OR_PART(parse_date_front, date, SPEEDATE_FRONT, date)
+PARSE_OR_PART(parse_time, time, SPEEDATE_TEXT, time)
+PARSE_OR_PART(parse_time_strict, time, SPEEDATE_STRICT, time)
+PARSE_OR_PART(parse_time_front, time, SPEEDATE_FRONT, time)
+PARSE_OR_PART(parse_datetime, datetime, SPEEDATE_TEXT, datetime)
+PARSE_OR_PART(parse_datetime_or_timestamp, datetime, SPEEDATE_OR_TIMESTAMP, datetime)
+PARSE_OR_PART(parse_datetime_strict, datetime, SPEEDATE_STRICT, datetime)
+PARSE_OR_PART(parse_datetime_front, datetime, SPEEDATE_FRONT, datetime)
+PARSE_OR_PART(parse_duration, duration, SPEEDATE_TEXT, duration)
+
 #define PARSE(name, call) \
     static int name(const Text *text, SpeedateConfig config, Value *out, size_t *taken) { \
-        (void)config, (void)taken; \
+        SpeedatePart part; \
+        (void)config, (void)taken, (void)part; \
         return call; \
     }
 PARSE(parse_date, speedate_date_parse_text(BYTES, &out->date))
-PARSE(parse_date_or_timestamp, speedate_date_parse(BYTES, config, &out->date))
-PARSE(parse_date_front, speedate_date_parse_front(BYTES, &out->date, taken))
-PARSE(parse_time, speedate_time_parse(BYTES, config, &out->time))
+PARSE(parse_date_or_timestamp, speedate_date_parse_or_timestamp(BYTES, config, &out->date))
+PARSE(parse_date_front, parse_date_front_or_part(text, config, out, taken, &part))
+PARSE(parse_time, speedate_time_parse_text(BYTES, config, &out->time))
 PARSE(parse_time_strict, speedate_time_parse_strict(BYTES, config, &out->time))
-PARSE(parse_time_front, speedate_time_parse_front(BYTES, config, &out->time, taken))
+PARSE(parse_time_front, parse_time_front_or_part(text, config, out, taken, &part))
 PARSE(parse_datetime, speedate_datetime_parse_text(BYTES, config, &out->datetime))
-PARSE(parse_datetime_or_timestamp, speedate_datetime_parse(BYTES, config, &out->datetime))
+PARSE(parse_datetime_or_timestamp, speedate_datetime_parse_or_timestamp(BYTES, config, &out->datetime))
 PARSE(parse_datetime_strict, speedate_datetime_parse_strict(BYTES, config, &out->datetime))
-PARSE(parse_datetime_front, speedate_datetime_parse_front(BYTES, config, &out->datetime, taken))
-PARSE(parse_duration, speedate_duration_parse(BYTES, config, &out->duration))
-
-#define PARSE_OR_PART(name, call) \
-    static int name##_or_part(const Text *text, SpeedateConfig config, Value *out, size_t *taken, SpeedatePart *part) { \
-        (void)config, (void)taken; \
-        return call; \
-    }
-PARSE_OR_PART(parse_date, speedate_date_parse_or_part_text(BYTES, &out->date, part))
-PARSE_OR_PART(parse_date_or_timestamp, speedate_date_parse_or_part(BYTES, config, &out->date, part))
-PARSE_OR_PART(parse_date_front, speedate_date_parse_or_part_front(BYTES, &out->date, taken, part))
-PARSE_OR_PART(parse_time, speedate_time_parse_or_part(BYTES, config, &out->time, part))
-PARSE_OR_PART(parse_time_strict, speedate_time_parse_or_part_strict(BYTES, config, &out->time, part))
-PARSE_OR_PART(parse_time_front, speedate_time_parse_or_part_front(BYTES, config, &out->time, taken, part))
-PARSE_OR_PART(parse_datetime, speedate_datetime_parse_or_part_text(BYTES, config, &out->datetime, part))
-PARSE_OR_PART(parse_datetime_or_timestamp, speedate_datetime_parse_or_part(BYTES, config, &out->datetime, part))
-PARSE_OR_PART(parse_datetime_strict, speedate_datetime_parse_or_part_strict(BYTES, config, &out->datetime, part))
-PARSE_OR_PART(parse_datetime_front, speedate_datetime_parse_or_part_front(BYTES, config, &out->datetime, taken, part))
-PARSE_OR_PART(parse_duration, speedate_duration_parse_or_part(BYTES, config, &out->duration, part))
+PARSE(parse_datetime_front, parse_datetime_front_or_part(text, config, out, taken, &part))
+PARSE(parse_duration, speedate_duration_parse_text(BYTES, config, &out->duration))
 
 const Parser parsers[ALL_PARSERS] = {
 #define PARSER(name, kind) {name, name##_or_part, SPEEDATE_KIND_##kind}
@@ -309,7 +313,7 @@ const Parser parsers[ALL_PARSERS] = {
 typedef struct {
     Signature signature;
     PyObject *(*make)(const State *state, const Value *value, int *code);
-    int parser[SPEEDATE_PARSER_STRICT + 1]; /* by their forms in C */
+    int parser[SPEEDATE_STRICT + 1]; /* by their forms in C */
     int timestamps, strict;                 /* the places of these parameters, or 0 */
     int (*of_timestamp)(int64_t timestamp, SpeedateConfig config, Value *out);
 } Reader;
@@ -338,7 +342,7 @@ static int date_of_timestamp(int64_t timestamp, SpeedateConfig config, Value *ou
 }
 
 static int datetime_of_timestamp(int64_t timestamp, SpeedateConfig config, Value *out) {
-    return speedate_datetime_from_timestamp(timestamp, 0, config, &out->datetime);
+    return speedate_datetime_of_timestamp(timestamp, 0, config, &out->datetime);
 }
 
 static PyObject *read_integer(const State *state, const Reader *reader, PyObject *integer, SpeedateConfig config) {
@@ -348,14 +352,14 @@ static PyObject *read_integer(const State *state, const Reader *reader, PyObject
         return NULL;
     int code = timestamp.fits ? reader->of_timestamp(timestamp.number, config, &value) : SPEEDATE_NUMBER_TOO_LARGE;
     PyObject *made = code == SPEEDATE_OK ? reader->make(state, &value, &code) : NULL;
-    int parser = reader->parser[SPEEDATE_PARSER_OR_TIMESTAMP];
+    int parser = reader->parser[SPEEDATE_OR_TIMESTAMP];
     return code == SPEEDATE_OK ? made : refuse(state, code, integer, NULL, parser, config);
 }
 
 static inline PyObject *read_text(const Reader *reader, GIVEN) {
     const State *state = PyModule_GetState(module);
     PyObject *bound[4] = {NULL}, *made = NULL;
-    int form = SPEEDATE_PARSER_TEXT;
+    int form = SPEEDATE_TEXT;
     SpeedateConfig config;
     Text text;
     Value value;
@@ -369,8 +373,8 @@ static inline PyObject *read_text(const Reader *reader, GIVEN) {
         return NULL;
     int parser = reader->parser[form];
     if (!is_text(bound[0])) {
-        if (form != SPEEDATE_PARSER_OR_TIMESTAMP || !PyIndex_Check(bound[0]))
-            return raise_error(call_on_item(state, WRONG_TEXT, -1, bound[0], reader->parser[SPEEDATE_PARSER_TEXT]));
+        if (form != SPEEDATE_OR_TIMESTAMP || !PyIndex_Check(bound[0]))
+            return raise_error(call_on_item(state, WRONG_TEXT, -1, bound[0], reader->parser[SPEEDATE_TEXT]));
         if (take_config(state, bound[1], form, &config) < 0)
             return NULL;
         return read_integer(state, reader, bound[0], config);
@@ -445,7 +449,7 @@ static Py_ssize_t size_in(PyObject *object, const Text *text, size_t taken) {
 static inline PyObject *read_front(const Reader *reader, GIVEN) {
     const State *state = PyModule_GetState(module);
     PyObject *bound[2] = {NULL}, *made = NULL;
-    int parser = reader->parser[SPEEDATE_PARSER_TEXT], code;
+    int parser = reader->parser[SPEEDATE_TEXT], code;
     SpeedateConfig config;
     Text text;
     Value value;
@@ -454,7 +458,7 @@ static inline PyObject *read_front(const Reader *reader, GIVEN) {
         bound[0] = arguments[0];
     else if (bind(&reader->signature, arguments, count, keywords, bound) < 0)
         return NULL;
-    if (take_config(state, bound[1], SPEEDATE_PARSER_TEXT, &config) < 0)
+    if (take_config(state, bound[1], SPEEDATE_TEXT, &config) < 0)
         return NULL;
     if (is_long(bound[0])) {
         if (parse_long_front(parser, bound[0], config, &text, &value, &taken, &code) < 0)
@@ -532,7 +536,7 @@ static bool is_accepted(const Call *call, const Text *text) {
     if (call->of_column && reads_datetimes(call))
         return call->assumes_utc || value.datetime.time.has_offset;
     return !call->of_column || call->parser != DURATION ||
-           speedate_duration_signed_total_microseconds(value.duration, &number) == SPEEDATE_OK;
+           speedate_duration_microseconds(value.duration, &number) == SPEEDATE_OK;
 }
 
 /* The one thing for which a text is refused. A line ending is looked for in an item that may not have one. */
@@ -590,10 +594,10 @@ static PyObject *found_of(const State *state, const Call *call, PyObject *object
     if (!expected)
         return NULL;
     if (PyUnicode_Check(object))
-        while (part.place > 0 && part.place < text->size && ((unsigned char)text->bytes[part.place] & 0xc0) == 0x80)
-            part.place--;
+        while (part.start > 0 && part.start < text->size && ((unsigned char)text->bytes[part.start] & 0xc0) == 0x80)
+            part.start--;
     int hint = hint_of(call, object, text);
-    return Py_BuildValue("nnNO", size_in(object, text, part.place), size_in(object, text, part.end), expected,
+    return Py_BuildValue("nnNO", size_in(object, text, part.start), size_in(object, text, part.end), expected,
                          hint == NO_HINT ? Py_None : state->held[HINTS + hint]);
 }
 

@@ -24,10 +24,10 @@ static PyObject *text_of(int code, const Printed *printed) {
     return text_of(code, &printed)
 
 /* The same of a value with a second, with just as many digits of it unless these are SHORTEST. */
-#define SHORTEST -1
+#define SHORTEST SPEEDATE_DIGITS_AUTO
 #define PRINTED_WITH_DIGITS(call, value, digits) \
     Printed printed; \
-    int code = digits == SHORTEST ? call(value, ROOM) : call##_with_digits(value, digits, ROOM); \
+    int code = call(value, digits, ROOM); \
     return text_of(code, &printed)
 
 static int take_size(PyObject *size, SpeedateTime *time) {
@@ -167,14 +167,14 @@ PyObject *call_text(GIVEN) {
 /* How the library prints numbers as lines. It may change the numbers. */
 typedef int PrintLines(int64_t *numbers, size_t count, char *lines, size_t size, SpeedateProgress *progress);
 
-#define PRINT_LINES(name, call) \
+#define PRINT_LINES(name, call, flags) \
     static int name(int64_t *numbers, size_t count, char *lines, size_t size, SpeedateProgress *progress) { \
-        return call(numbers, count, lines, size, progress); \
+        return call(numbers, count, flags, lines, size, progress); \
     }
-PRINT_LINES(print_times, speedate_time_print_column)
-PRINT_LINES(print_datetimes, speedate_datetime_print_column)
-PRINT_LINES(print_clocks, speedate_datetime_clock_print_column)
-PRINT_LINES(print_durations, speedate_duration_print_column)
+PRINT_LINES(print_times, speedate_time_print_column, 0)
+PRINT_LINES(print_datetimes, speedate_datetime_print_column, 0)
+PRINT_LINES(print_clocks, speedate_datetime_print_column, SPEEDATE_CLOCK)
+PRINT_LINES(print_durations, speedate_duration_print_column, 0)
 
 /* Days have 64 bits in NumPy, and 32 in C, which all of these fit. They move forward in their places. */
 static int print_dates(int64_t *numbers, size_t count, char *lines, size_t size, SpeedateProgress *progress) {
@@ -182,7 +182,7 @@ static int print_dates(int64_t *numbers, size_t count, char *lines, size_t size,
         int32_t day = numbers[i] == NOT_A_TIME ? INT32_MIN : (int32_t)numbers[i];
         memcpy((char *)numbers + i * sizeof day, &day, sizeof day);
     }
-    return speedate_date_print_column((const int32_t *)numbers, count, lines, size, progress);
+    return speedate_date_print_column((const int32_t *)numbers, count, 0, lines, size, progress);
 }
 
 /* The kinds of columns that can be printed, in the order of _PRINTED in _types.py, and the largest number that C can take.

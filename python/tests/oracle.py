@@ -136,45 +136,56 @@ _PRINTED = [ctypes.POINTER(ctypes.c_char), ctypes.c_size_t, _SIZE]
 
 
 class _Part(ctypes.Structure):
-    _fields_ = [("place", ctypes.c_size_t), ("end", ctypes.c_size_t), ("kind", ctypes.c_int32)]
+    _fields_ = [("start", ctypes.c_size_t), ("end", ctypes.c_size_t), ("kind", ctypes.c_int32)]
 
 
-_TO_DATE, _TO_TIME, _TO_DATE_TIME, _TO_DURATION = map(ctypes.POINTER, (_Date, _Time, _DateTime, _Duration))
+_TYPES = {"date": _Date, "time": _Time, "datetime": _DateTime, "duration": _Duration}
+# The numbers of the forms, by the names of the calls here; a call without one parses timestamps too, where there are any.
+_FORMS = {"_text": 0, "_strict": 2, "_front": 3}
 _CALLS = {
-    "code_name": [ctypes.c_int, *_PRINTED],
-    "date_parse": [*_TEXT, _Config, _TO_DATE],
-    "date_parse_text": [*_TEXT, _TO_DATE],
-    "date_parse_front": [*_TEXT, _TO_DATE, _SIZE],
-    "date_day_number": [_Date, ctypes.POINTER(ctypes.c_uint32)],
-    "date_from_timestamp": [ctypes.c_int64, ctypes.c_uint8, _Config, _TO_DATE],
+    "date_days": [_Date, ctypes.POINTER(ctypes.c_int32)],
+    "datetime_from_timestamp": [ctypes.c_int64, ctypes.c_uint32, ctypes.POINTER(_Config), ctypes.POINTER(_DateTime)],
+    "datetime_unix_microseconds": [_DateTime, ctypes.POINTER(ctypes.c_int64)],
     "date_to_text": [_Date, *_PRINTED],
-    "time_parse": [*_TEXT, _Config, _TO_TIME],
-    "time_parse_strict": [*_TEXT, _Config, _TO_TIME],
-    "time_parse_front": [*_TEXT, _Config, _TO_TIME, _SIZE],
-    "time_from_timestamp": [ctypes.c_uint32, ctypes.c_uint32, _Config, _TO_TIME],
-    "time_to_text": [_Time, *_PRINTED],
-    "time_to_text_with_digits": [_Time, ctypes.c_int, *_PRINTED],
-    "datetime_parse": [*_TEXT, _Config, _TO_DATE_TIME],
-    "datetime_parse_text": [*_TEXT, _Config, _TO_DATE_TIME],
-    "datetime_parse_strict": [*_TEXT, _Config, _TO_DATE_TIME],
-    "datetime_parse_front": [*_TEXT, _Config, _TO_DATE_TIME, _SIZE],
-    "datetime_from_timestamp": [ctypes.c_int64, ctypes.c_uint32, _Config, _TO_DATE_TIME],
-    "datetime_unix_seconds": [_DateTime, ctypes.POINTER(ctypes.c_int64)],
-    "datetime_to_text": [_DateTime, *_PRINTED],
-    "datetime_to_text_with_digits": [_DateTime, ctypes.c_int, *_PRINTED],
-    "duration_parse": [*_TEXT, _Config, _TO_DURATION],
+    "time_to_text": [_Time, ctypes.c_int, *_PRINTED],
+    "datetime_to_text": [_DateTime, ctypes.c_int, *_PRINTED],
     "duration_to_text": [_Duration, *_PRINTED],
+    "code_expected": [ctypes.c_int, ctypes.POINTER(_Part), *_PRINTED],
 }
-_CALLS["code_expected"] = [ctypes.c_int, ctypes.POINTER(_Part), *_PRINTED]
-_PARTS = {name.replace("_parse", "_parse_or_part"): [*types, ctypes.POINTER(_Part)] for name, types in _CALLS.items() if "_parse" in name}
+
+
+class _Parser:
+    """A parser in a form."""
+
+    def __init__(self, library, kind, ending):
+        self.__name__, self.type = f"speedate_{kind}_parse{ending}", _TYPES[kind]
+        self.form = _FORMS.get(ending, int(kind.startswith("date")))
+        self.call = getattr(library, f"speedate_{kind}_parse")
+        self.call.argtypes = [*_TEXT, ctypes.c_int, ctypes.POINTER(_Config), ctypes.POINTER(self.type), ctypes.POINTER(_Part)]
+
+    def __call__(self, text, size, *arguments, part=None):
+        """The arguments are the configuration, if there is one, the value, and at a front the size."""
+        config = arguments[0] if isinstance(arguments[0], _Config) else None
+        out, *taken = arguments[config is not None:]
+        part = _Part() if taken and part is None else part
+        code = self.call(text, size, self.form, config, out, part)
+        if taken and code == 0:
+            taken[0].value = part.end
+        return code
 
 
 def _load(path):
     """The library, with the types of its calls."""
     library = ctypes.PyDLL(str(path))
-    for name, types in {**_CALLS, **_PARTS}.items():
+    for name, types in _CALLS.items():
         call = getattr(library, f"speedate_{name}")
         call.argtypes, call.restype = types, ctypes.c_int
+    library.speedate_code_string.restype = ctypes.c_char_p
+    for kind, endings in {"date": ["_text", "", "_front"], "time": ["", "_strict", "_front"],
+                          "datetime": ["_text", "", "_strict", "_front"], "duration": [""]}.items():
+        parsers = [_Parser(library, kind, ending) for ending in endings]
+        for it in parsers:
+            setattr(library, it.__name__, it)
     return library
 
 
@@ -193,7 +204,7 @@ def _printed(call, value, *digits):
 
 @functools.lru_cache(maxsize=None)
 def _name(number):
-    return _printed(_library.speedate_code_name, number)
+    return _library.speedate_code_string(number).decode("ascii")
 
 
 @functools.lru_cache(maxsize=None)
@@ -280,16 +291,10 @@ def _end(text, end):
     return len(_bytes(text)[:end].decode("utf-8", "surrogatepass")) if isinstance(text, str) else end
 
 
-def _outs(call):
-    """What a parser writes to."""
-    return [it._type_() for it in call.argtypes if hasattr(it, "_type_") and it not in _TEXT]
-
-
 def _parsed_or_part(call, whole, *numbers):
-    """The code for which a text is refused, and the part, which another call gives than the parser."""
-    part = _Part()
-    other = getattr(_library, call.__name__.replace("_parse", "_parse_or_part"))
-    return other(whole, len(whole), *numbers, *_outs(call), part), part
+    """The code for which a text is refused, and the part."""
+    part, taken = _Part(), [ctypes.c_size_t()] * (call.form == 3)
+    return call(whole, len(whole), *numbers, call.type(), *taken, part=part), part
 
 
 def _error(call, code, text, *numbers):
@@ -298,9 +303,9 @@ def _error(call, code, text, *numbers):
     told, part = _parsed_or_part(call, whole, *numbers)
     assert told == code
     if whole.startswith(MARK):
-        if call(whole[3:], len(whole) - 3, *numbers, *_outs(call)) == 0:
+        if _parsed_or_part(call, whole[3:], *numbers)[0] == 0:
             hint = MARK_WORDS[isinstance(text, str)]
-    return ParseError(code).of(_kept(text), _counted(text, part.place), _end(text, part.end), _expected(code, part.kind), hint)
+    return ParseError(code).of(_kept(text), _counted(text, part.start), _end(text, part.end), _expected(code, part.kind), hint)
 
 
 def _value_of_text(out, text, size):
@@ -342,6 +347,12 @@ def _expected_of_integer(code, kind):
     return "a number that fits 64 bits" if code == NUMBER_TOO_LARGE else _expected(code, kind)
 
 
+def _date_of_timestamp(timestamp, numbers, out):
+    """The date of a timestamp, which is parsed as its digits are."""
+    digits = str(timestamp).encode()
+    return _library.speedate_date_parse(digits, len(digits), numbers, out)
+
+
 def _is_text(value):
     return isinstance(value, (str, bytes, bytearray, memoryview))
 
@@ -365,7 +376,7 @@ def date(value, *, config=None, timestamps=False):
     _is_text(value) and _bytes(value)
     numbers = _configured(config, _OF_TIMESTAMPS if timestamps else ())
     if not _is_text(value):
-        return _read_integer(lambda it, numbers, out: _library.speedate_date_from_timestamp(it, 1, numbers, out), _Date(), 2, value, numbers)
+        return _read_integer(_date_of_timestamp, _Date(), 2, value, numbers)
     return _read_text(getattr(_library, f"speedate_date_parse{form}"), _Date(), value, *[numbers] * timestamps)
 
 
@@ -515,7 +526,7 @@ def _part_in_column(call, whole, number, *numbers):
     """The part of an error in bytes, and what was expected. A column itself refuses what lacks an offset, or is too large."""
     code, part = _parsed_or_part(call, whole, *numbers)
     words = _expected(code or number, KINDS[call.__name__])
-    return (part.place, part.end, words) if code else (len(whole) * (number == TZ_REQUIRED), len(whole), words)
+    return (part.start, part.end, words) if code else (len(whole) * (number == TZ_REQUIRED), len(whole), words)
 
 
 # The kind of each call that parses texts of columns, by the numbers of the header.
@@ -564,9 +575,9 @@ def datetime_offset_column(texts, *, config=None, timestamps=False, strict=False
 
 
 def _second_in_utc(out):
-    second = ctypes.c_int64()
-    _check(_library.speedate_datetime_unix_seconds(out, second))
-    return second.value
+    micros = ctypes.c_int64()
+    _check(_library.speedate_datetime_unix_microseconds(out, micros))
+    return micros.value // 1_000_000
 
 
 def _datetimes(kind, number_of, texts, config, strict, timestamps, refused, empty, lines):
@@ -603,13 +614,13 @@ def date_column(texts, *, config=None, timestamps=False, refused="stop", empty="
 
     def read_integer(timestamp):
         out = _Date()
-        _check(_library.speedate_date_from_timestamp(timestamp, 1, numbers, out))
+        _check(_date_of_timestamp(timestamp, numbers, out))
         return number_of(out)
 
     def number_of(out):
-        day = ctypes.c_uint32()
-        _check(_library.speedate_date_day_number(out, day))
-        return day.value - 719_528  # from 0000-01-01 to 1970-01-01
+        days = ctypes.c_int32()
+        _check(_library.speedate_date_days(out, days))
+        return days.value
 
     def part_of(text, number):
         return _part_in_column(getattr(_library, name), text, number, *[numbers] * timestamps)
@@ -653,17 +664,17 @@ def _line(number, kind):
     """The text of a number of a column, by the calls that make the value of a number and print it."""
     micros, out = _Config(0, kind == "datetime", 3), {"date": _Date, "time": _Time, "duration": _Duration}.get(kind, _DateTime)()
     if kind == "date":
-        _check(_library.speedate_date_from_timestamp(number * 86_400, 1, _Config(0, 0, 1), out))
+        _check(_date_of_timestamp(number * 86_400, _Config(0, 0, 1), out))
         return _printed(_library.speedate_date_to_text, out)
     if kind == "time":
         _check(40 * (not 0 <= number < 86_400_000_000))  # time_too_large
-        _check(_library.speedate_time_from_timestamp(*divmod(number, 1_000_000), micros, out))
-        return _printed(_library.speedate_time_to_text, out)
+        seconds, micro = divmod(number, 1_000_000)
+        return _printed(_library.speedate_time_to_text, _Time(seconds // 3600, seconds // 60 % 60, seconds % 60, 0, micro), -1)
     if kind == "duration":
         seconds, micro = divmod(abs(number), 1_000_000)
         return _printed(_library.speedate_duration_to_text, _Duration(number < 0, *divmod(seconds, 86_400), micro))
     _check(_library.speedate_datetime_from_timestamp(number, 0, micros, out))
-    return _printed(_library.speedate_datetime_to_text, out)
+    return _printed(_library.speedate_datetime_to_text, out, -1)
 
 
 PRINTED = "date", "time", "datetime", "datetime_clock", "duration"
@@ -720,9 +731,7 @@ def text(value, *, digits=None):
     if isinstance(value, (_datetime.datetime, _datetime.time)):
         is_time = isinstance(value, _datetime.time)
         name, numbers = ("time", _Time(*_clock(value))) if is_time else ("datetime", _DateTime(value.year, value.month, value.day, *_clock(value)))
-        if digits is None:
-            return _printed(getattr(_library, f"speedate_{name}_to_text"), numbers)
-        return _printed(getattr(_library, f"speedate_{name}_to_text_with_digits"), numbers, digits)
+        return _printed(getattr(_library, f"speedate_{name}_to_text"), numbers, -1 if digits is None else digits)
     if digits is not None:
         raise TypeError(f"value has to be datetime or time if there are digits, not {type(value).__name__}")
     if isinstance(value, _datetime.date):
