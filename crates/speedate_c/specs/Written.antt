@@ -71,8 +71,8 @@ whole text kind answer place = record {
 abbrev pub front : {A : Type 0} → CallKind → Result (A × ℕ) ParseError → Option ℕ → Reading A
 front kind answer place = record { answer = answer; kind = kind; place = place }
 
--- written of a code that a form gave for a text: if it is that of a fault, the part that the fault is
--- about, which begins at its place, and otherwise where the value ends
+-- written of a code that a form gave for a text: if it is that of a fault, the part that the fault
+-- is about, which begins at its place, and otherwise where the value ends
 abbrev pub written_part : {A : Type 0} → ℤ → Reading A → List ℕ → SpeedatePart
 written_part code reading text =
     with_option (fault_of code)
