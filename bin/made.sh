@@ -20,7 +20,7 @@ crate_of() {
 # own_libraries PROGRAM: prints the other libraries that a program needs, lowest first.
 own_libraries() {
     case $1 in
-    speedate) echo speedate_stream speedate_scan speedate_commands speedate_sort speedate_options ;;
+    speedate) echo speedate_stream speedate_scan speedate_commands speedate_sort ;;
     *) echo speedate_stream ;;
     esac
 }

@@ -15,9 +15,9 @@
  * - A text is printed into a buffer of yours, with a zero byte after it, and its length without that byte is written to
  *   *length. A buffer of the size that is named beside the type is always large enough; no call returns the size that
  *   a text needs. Bytes after the zero byte keep their values.
- * - `config`, `part`, `offsets` and `errors` may be NULL. `out`, `length` and `progress` may not. What a call writes
- *   does not overlap what it reads, but values are passed by value, so `out` may point to the variable that is passed:
- *   speedate_datetime_in_timezone(value, 0, &value).
+ * - `config`, `offsets`, `errors` and the `part` of a parser may be NULL. `out`, `length`, `progress` and the `part` of
+ *   speedate_code_expected may not. What a call writes does not overlap what it reads, but values are passed by value,
+ *   so `out` may point to the variable that is passed: speedate_datetime_in_timezone(value, 0, &value).
  * - No call allocates memory or keeps anything for the next one. Any thread may make any call at any time.
  *
  * GRAMMAR.md lists the texts and their faults, and C.md shows how to build the library and to call it. Both are
@@ -457,8 +457,8 @@ SPEEDATE_NODISCARD int speedate_duration_sum(const SpeedateDuration *durations, 
 /* A column is the numbers of texts: microseconds since 1970-01-01T00:00:00 in UTC for date-times, days since 1970-01-01
  * for dates, microseconds after midnight, whatever the offset, for times, and microseconds with a sign for durations.
  *
- * The texts are the lines of one text, if `offsets` is NULL. A line is ended by a line feed, or by the end of the text.
- * An empty line is a line. "Columns" in GRAMMAR.md has the rules.
+ * The texts are the lines of one text, if `offsets` is NULL. A line is ended by a line feed, or, with
+ * SPEEDATE_AT_END, by the end of the text. An empty line is a line. "Columns" in GRAMMAR.md has the rules.
  *
  * Otherwise they are parts of it, as in a string array of Arrow: the text i begins at offsets[i] and ends at
  * offsets[i + 1], so there are `room` texts and room + 1 offsets. A text needs no line feed, and a line feed is part of
@@ -494,7 +494,7 @@ typedef struct SpeedateProgress {
  * If progress->error is SPEEDATE_OK and there is room left, the bytes after progress->bytes have no whole line.
  *
  * If a text ends the column, progress->part is the part that the error is about, as a parser writes it. A missing
- * offset is missing at the end of the text. A duration that is too large is the whole text.
+ * offset is missing at the end of the value. A duration that is too large is the whole text.
  *
  * `errors` is NULL, or has `room` places too. Then the code of each text goes to its place there, 0 if it is accepted,
  * and the column goes on as with SPEEDATE_GO_ON.

@@ -8,10 +8,10 @@
 use std::error::Error;
 use std::io::{stdin, Read};
 
-use speedate::{read_column, DateTimeParser, DateTimeReader, LineConfig, TimeConfig};
+use speedate::{read_column, DateTimeReader, LineConfig};
 
 fn main() -> Result<(), Box<dyn Error>> {
-    let reader = DateTimeReader { parser: DateTimeParser::Text(TimeConfig::default()), assumes_utc: false };
+    let reader = DateTimeReader::default();
     let (mut block, mut microseconds) = (vec![0; 65_536], [0; 1_000]);
     let (mut kept, mut lines, mut latest) = (0, 0, None);
     loop {
@@ -20,12 +20,12 @@ fn main() -> Result<(), Box<dyn Error>> {
         let text = &block[..kept + size];
         let mut done = 0;
         loop {
-            let progress = read_column(&text[done..], config, &reader, &mut microseconds)?;
+            let progress = read_column(&text[done..], config, &reader, &mut microseconds, None)?;
             latest = latest.max(microseconds[..progress.lines].iter().copied().max());
             lines += progress.lines;
             done += progress.bytes;
-            if let Some(error) = progress.error {
-                return Err(format!("line {}: {error}", lines + 1).into());
+            if let Some(refused) = progress.error {
+                return Err(format!("line {}: {refused}", lines + 1).into());
             }
             if progress.lines < microseconds.len() {
                 break;

@@ -8,7 +8,7 @@
 use std::error::Error;
 use std::io::{stdin, BufRead};
 
-use speedate::{DateTime, Duration, MicrosecondsPrecisionOverflowBehavior::Truncate, ParseError, TimeConfig};
+use speedate::{DateTime, DateTimeConfig, Duration, Form, MicrosecondsPrecisionOverflowBehavior::Truncate, TimeConfig};
 
 fn main() -> Result<(), Box<dyn Error>> {
     let mut moments = Vec::new();
@@ -18,7 +18,7 @@ fn main() -> Result<(), Box<dyn Error>> {
                 println!("{moment}{rest}");
                 moments.push(moment);
             }
-            Err(error) => eprintln!("line {}: {error}: {}", place + 1, error.get_documentation().unwrap_or_default()),
+            Err(error) => eprintln!("line {}: {error}", place + 1),
         }
     }
     if let [first, .., last] = &moments[..] {
@@ -29,8 +29,9 @@ fn main() -> Result<(), Box<dyn Error>> {
 
 /// The date-time of a line in UTC, and what follows it. Of nine digits of a second, which Go, Docker and Kubernetes print, those
 /// after the sixth are dropped; by default they are refused.
-fn entry(line: &[u8]) -> Result<(DateTime, String), ParseError> {
-    let config = TimeConfig::builder().microseconds_precision_overflow_behavior(Truncate).build();
-    let (moment, size) = DateTime::parse_front(line, &config)?;
+fn entry(line: &[u8]) -> Result<(DateTime, String), Box<dyn Error>> {
+    let time_config = TimeConfig::builder().microseconds_precision_overflow_behavior(Truncate).build();
+    let config = DateTimeConfig { time_config, ..Default::default() };
+    let (moment, size) = DateTime::parse_or_place(line, Form::Front, &config)?;
     Ok((moment.in_timezone(0)?, String::from_utf8_lossy(&line[size..]).into_owned()))
 }

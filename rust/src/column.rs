@@ -1,9 +1,9 @@
-use core::error::Error;
-use core::fmt;
-
 use crate::ffi::{self, Code, ColumnConfig, Config};
 use crate::value::Value;
-use crate::{DateConfig, DateTimeConfig, Duration, MicrosecondsPrecisionOverflowBehavior, ParseError, TimeConfig};
+use crate::{
+    DateConfig, DateTimeConfig, Duration, Fault, Form, MicrosecondsPrecisionOverflowBehavior, ParseError, Refused,
+    TimeConfig,
+};
 
 /// How a text is cut into lines.
 ///
@@ -12,8 +12,8 @@ use crate::{DateConfig, DateTimeConfig, Duration, MicrosecondsPrecisionOverflowB
 ///
 /// let text = b"1970-01-02\r\n1970-01-03";
 /// let lines = |at_end| LineConfig { at_end, drops_returns: true };
-/// assert_eq!(read_column(text, lines(true), &DateReader::Text, &mut [0; 8]).unwrap().lines, 2);
-/// assert_eq!(read_column(text, lines(false), &DateReader::Text, &mut [0; 8]).unwrap().lines, 1);
+/// assert_eq!(read_column(text, lines(true), &DateReader::Text, &mut [0; 8], None).unwrap().lines, 2);
+/// assert_eq!(read_column(text, lines(false), &DateReader::Text, &mut [0; 8], None).unwrap().lines, 1);
 /// ```
 #[derive(Debug, PartialEq, Eq, Clone, Copy)]
 pub struct LineConfig {
@@ -24,55 +24,6 @@ pub struct LineConfig {
     pub drops_returns: bool,
 }
 
-/// Why a line is refused.
-///
-/// ```
-/// use speedate::{LineError, ParseError};
-///
-/// let error = LineError::Parse(ParseError::OutOfRangeDay);
-/// assert_eq!((error.number(), error.to_string()), (22, "out_of_range_day".to_owned()));
-/// assert_eq!([0, 22, 97].map(LineError::numbered), [None, Some(error), Some(LineError::NumberTooLarge)]);
-/// ```
-#[derive(Debug, PartialEq, Eq, Clone)]
-pub enum LineError {
-    /// The text is refused, or lacks an offset that the reader needs: then with
-    /// [`TzRequired`](ParseError::TzRequired).
-    Parse(ParseError),
-    /// The number of the value does not fit, such as `P999999999D` in microseconds.
-    NumberTooLarge,
-}
-
-impl LineError {
-    /// The number of the error, from the [`ParseError`](ParseError::number), and 97 for
-    /// [`NumberTooLarge`](Self::NumberTooLarge).
-    #[must_use]
-    pub fn number(&self) -> u8 {
-        match self {
-            Self::Parse(error) => error.number(),
-            Self::NumberTooLarge => ffi::NUMBER_TOO_LARGE,
-        }
-    }
-
-    /// The error of a number that [`read_column_with_errors`] has written. It is `None` for 0; [`ParseError`] says which one
-    /// is used for a number that the package does not know.
-    #[must_use]
-    pub fn numbered(number: u8) -> Option<Self> {
-        Code::from(number).into()
-    }
-}
-
-/// Writes the name of the error: `too_short`.
-impl fmt::Display for LineError {
-    fn fmt(&self, f: &mut fmt::Formatter<'_>) -> fmt::Result {
-        match self {
-            Self::Parse(error) => error.fmt(f),
-            Self::NumberTooLarge => f.pad("number_too_large"),
-        }
-    }
-}
-
-impl Error for LineError {}
-
 /// How far a column has come. [`read_column`] has an example.
 #[derive(Debug, PartialEq, Eq, Clone)]
 pub struct Progress {
@@ -80,13 +31,8 @@ pub struct Progress {
     pub lines: usize,
     /// How many bytes of the text these lines take, with their ends.
     pub bytes: usize,
-    /// The error of the next line, if it ends the column.
-    pub error: Option<LineError>,
-    /// The byte of that line at which the part begins that the error is about, or would begin if it is missing. It is 0 if
-    /// no line ends the column, and for a column that is printed.
-    pub place: usize,
-    /// The byte of that line at which the part ends: at its place if it is missing.
-    pub end: usize,
+    /// Why the next line is refused, if that ends the column. Its bytes are counted from the beginning of the line.
+    pub error: Option<Refused>,
 }
 
 /// How texts are cut that are not lines, which C does not use.
@@ -100,16 +46,16 @@ mod sealed {
 /// Reads a line as a number. The readers of this crate do, and no other type can.
 ///
 /// ```
-/// use speedate::{read_column, DateReader, DurationReader, LineConfig, LineReader, TimeConfig};
+/// use speedate::{read_column, DateReader, DurationReader, LineConfig, LineReader};
 ///
 /// fn first<R: LineReader<Number: Default>>(text: &str, reader: &R) -> R::Number {
 ///     let (config, mut out) = (LineConfig { at_end: true, drops_returns: false }, [R::Number::default()]);
-///     read_column(text.as_bytes(), config, reader, &mut out).unwrap();
+///     read_column(text.as_bytes(), config, reader, &mut out, None).unwrap();
 ///     out[0]
 /// }
 ///
 /// assert_eq!(first("1970-01-02", &DateReader::Text), 1);
-/// assert_eq!(first("PT1.5S", &DurationReader { config: TimeConfig::default() }), 1_500_000);
+/// assert_eq!(first("PT1.5S", &DurationReader::default()), 1_500_000);
 /// ```
 pub trait LineReader: sealed::Sealed {
     /// What a line is read as.
@@ -127,81 +73,68 @@ pub trait LineReader: sealed::Sealed {
 
 /// Reads the whole lines of a text as numbers, in order, as many as `out` has room for, and returns how far it came.
 ///
-/// A line is ended by a line feed, or by the end of the text if `config` says so. An empty line is a line. One that is
-/// refused ends the column, and the progress has its error, with the part of the line that it is about. What follows the
-/// bytes that the progress counts is left for a further call. The other places of `out` stay as they are.
+/// A line is ended by a line feed, or by the end of the text if `config` says so. An empty line is a line. What follows
+/// the bytes that the progress counts is left for a further call. The other places of `out` stay as they are.
+///
+/// A line that is refused ends the column, and the progress has its error. With `errors` it does not: it gets the smallest
+/// number, which no other line has, and `errors` the [number](Fault::number) of each line's fault, or 0. Then as many
+/// lines are read as both slices have room for. To learn more about one of these faults, read its line without `errors`.
 ///
 /// ```
-/// use speedate::{read_column, DateReader, LineConfig, LineError, ParseError, Progress};
+/// use speedate::{read_column, DateReader, Fault, LineConfig, ParseError};
 ///
 /// let (config, mut out) = (LineConfig { at_end: true, drops_returns: false }, [0; 8]);
-/// let progress = read_column(b"1970-01-02\n1969-12-31\n2021-02-29\n", config, &DateReader::Text, &mut out)?;
-/// let error = Some(LineError::Parse(ParseError::OutOfRangeDay));
-/// assert_eq!(progress, Progress { lines: 2, bytes: 22, error, place: 8, end: 10 });
-/// assert_eq!(out[..progress.lines], [1, -1]);
+/// let text = b"1970-01-02\n1969-12-31\n2021-02-29\n";
+/// let progress = read_column(text, config, &DateReader::Text, &mut out, None)?;
+/// assert_eq!((progress.lines, progress.bytes, &out[..progress.lines]), (2, 22, &[1, -1][..]));
+/// let refused = progress.error.unwrap();
+/// assert_eq!((refused.start, refused.end), (8, 10));
+/// assert_eq!(refused.expected().to_string(), "a day that the month has");
+///
+/// let mut errors = [0; 8];
+/// let progress = read_column(text, config, &DateReader::Text, &mut out, Some(&mut errors))?;
+/// assert_eq!((progress.lines, &out[..3]), (3, &[1, -1, i32::MIN][..]));
+/// assert_eq!(Fault::numbered(errors[2]), Some(Fault::Parse(ParseError::OutOfRangeDay)));
 /// # Ok::<(), ParseError>(())
 /// ```
 ///
 /// # Errors
 ///
 /// [`OutOfRangeTz`](ParseError::OutOfRangeTz) if the reader takes timestamps and their configured offset is a day or more.
-/// `out` then stays as it is. A line that is refused does not make the call fail.
+/// The slices then stay as they are. A line that is refused does not make the call fail.
 #[inline]
 pub fn read_column<R: LineReader>(
     text: &[u8],
     config: LineConfig,
     reader: &R,
     out: &mut [R::Number],
+    errors: Option<&mut [u8]>,
 ) -> Result<Progress, ParseError> {
-    reader.column(text, config, out, &mut [])
+    let (out, errors) = places(out, errors);
+    reader.column(text, config, out, errors)
 }
 
-/// Reads the whole lines of a text as numbers, as [`read_column`] does, and writes the number of the error of each line
-/// too, by [`LineError::number`], or 0 for none.
-///
-/// It reads as many lines as both slices have room for. A refused line gets the smallest number, which no other line has,
-/// and none ends the column.
-///
-/// ```
-/// use speedate::{read_column_with_errors, DateReader, LineConfig, LineError, ParseError};
-///
-/// let config = LineConfig { at_end: true, drops_returns: false };
-/// let (mut out, mut errors) = ([0; 2], [0; 2]);
-/// read_column_with_errors(b"1970-01-02\nnever-ever\n", config, &DateReader::Text, &mut out, &mut errors)?;
-/// assert_eq!(out, [1, i32::MIN]);
-/// assert_eq!(errors.map(LineError::numbered), [None, Some(LineError::Parse(ParseError::InvalidCharYear))]);
-/// # Ok::<(), ParseError>(())
-/// ```
-///
-/// # Errors
-///
-/// Those of [`read_column`].
-#[inline]
-pub fn read_column_with_errors<R: LineReader>(
-    text: &[u8],
-    config: LineConfig,
-    reader: &R,
-    out: &mut [R::Number],
-    errors: &mut [u8],
-) -> Result<Progress, ParseError> {
-    // Without places for errors C would read a column of only numbers.
-    let room = if errors.is_empty() { 0 } else { out.len() };
-    reader.column(text, config, &mut out[..room], errors)
+/// The places that C is given: without places for errors it reads a column of only numbers.
+fn places<'a, N>(out: &'a mut [N], errors: Option<&'a mut [u8]>) -> (&'a mut [N], &'a mut [u8]) {
+    match errors {
+        Some(errors) if errors.is_empty() => (&mut [], errors),
+        errors => (out, errors.unwrap_or_default()),
+    }
 }
 
 /// Reads texts that are not lines. The readers of dates, date-times, times and durations do, and no other type can.
 ///
 /// ```
-/// use speedate::{read_texts, DateReader, DurationReader, TextReader, TimeConfig};
+/// use speedate::{read_texts, DateReader, DurationReader, TextReader};
 ///
 /// fn first<R: TextReader<Number: Default>>(text: &str, reader: &R) -> R::Number {
 ///     let mut out = [R::Number::default()];
-///     read_texts(text.as_bytes(), &[0, text.len() as i32], reader, &mut out).unwrap();
+///     read_texts(text.as_bytes(), &[0, text.len() as i32], reader, &mut out, None).unwrap();
 ///     out[0]
 /// }
 ///
 /// assert_eq!(first("1970-01-02", &DateReader::Text), 1);
-/// assert_eq!(first("PT1.5S", &DurationReader { config: TimeConfig::default() }), 1_500_000);
+/// assert_eq!(first("PT1.5S", &DurationReader::default()), 1_500_000);
 /// ```
 pub trait TextReader: LineReader {
     #[doc(hidden)]
@@ -218,19 +151,22 @@ pub trait TextReader: LineReader {
 /// came.
 ///
 /// Each text begins at its offset and ends at the next one, as in a string array of Arrow, so there is one offset more than
-/// texts. A text that is refused ends the column, and the progress has its error. The progress counts the texts as `lines`,
-/// and its `bytes` is the offset at which the last of them ends. The other places of `out` stay as they are.
+/// texts. The progress counts the texts as `lines`, and its `bytes` is the offset at which the last of them ends. Texts
+/// that are refused, and `errors`, are as in [`read_column`].
 ///
-/// It is `None`, and `out` stays as it is, if an offset is negative, less than the one before it, or beyond the bytes.
+/// It is `None`, and the slices stay as they are, if an offset is negative, less than the one before it, or beyond the
+/// bytes.
 ///
 /// ```
-/// use speedate::{read_texts, DateReader, ParseError, Progress};
+/// use speedate::{read_texts, DateReader, ParseError};
 ///
-/// let mut out = [0; 8];
-/// let progress = read_texts(b"1970-01-021969-12-31", &[0, 10, 20], &DateReader::Text, &mut out)?.unwrap();
+/// let (mut out, mut errors) = ([0; 2], [0; 2]);
+/// let progress = read_texts(b"1970-01-021969-12-31", &[0, 10, 20], &DateReader::Text, &mut out, None)?.unwrap();
 /// assert_eq!((progress.lines, progress.bytes, progress.error), (2, 20, None));
-/// assert_eq!(out[..2], [1, -1]);
-/// assert_eq!(read_texts(b"1970-01-02", &[0, 11], &DateReader::Text, &mut out)?, None);
+/// assert_eq!(out, [1, -1]);
+/// read_texts(b"1970-01-02x", &[0, 10, 11], &DateReader::Text, &mut out, Some(&mut errors))?;
+/// assert_eq!((out, errors), ([1, i32::MIN], [0, ParseError::TooShort.number()]));
+/// assert_eq!(read_texts(b"1970-01-02", &[0, 11], &DateReader::Text, &mut out, None)?, None);
 /// # Ok::<(), ParseError>(())
 /// ```
 ///
@@ -243,36 +179,10 @@ pub fn read_texts<R: TextReader>(
     offsets: &[i32],
     reader: &R,
     out: &mut [R::Number],
+    errors: Option<&mut [u8]>,
 ) -> Result<Option<Progress>, ParseError> {
-    reader.texts(bytes, offsets, out, &mut [])
-}
-
-/// Reads texts as numbers, as [`read_texts`] does, and writes the number of the error of each text too, as
-/// [`read_column_with_errors`] does for lines.
-///
-/// ```
-/// use speedate::{read_texts_with_errors, DateReader, ParseError};
-///
-/// let (mut out, mut errors) = ([0; 2], [0; 2]);
-/// read_texts_with_errors(b"1970-01-02x", &[0, 10, 11], &DateReader::Text, &mut out, &mut errors)?;
-/// assert_eq!((out, errors), ([1, i32::MIN], [0, ParseError::TooShort.number()]));
-/// # Ok::<(), ParseError>(())
-/// ```
-///
-/// # Errors
-///
-/// Those of [`read_column`].
-#[inline]
-pub fn read_texts_with_errors<R: TextReader>(
-    bytes: &[u8],
-    offsets: &[i32],
-    reader: &R,
-    out: &mut [R::Number],
-    errors: &mut [u8],
-) -> Result<Option<Progress>, ParseError> {
-    // Without places for errors C would read a column of only numbers.
-    let room = if errors.is_empty() { 0 } else { out.len() };
-    reader.texts(bytes, offsets, &mut out[..room], errors)
+    let (out, errors) = places(out, errors);
+    reader.texts(bytes, offsets, out, errors)
 }
 
 /// Defines what a reader reads, by its function of C for lines, and that for texts if there is one.
@@ -322,12 +232,13 @@ macro_rules! reader {
 /// use speedate::{read_column, DateConfig, DateReader, LineConfig};
 ///
 /// let (config, mut out) = (LineConfig { at_end: true, drops_returns: false }, [0; 2]);
-/// read_column(b"86400\n1970-01-02", config, &DateReader::OrTimestamp(DateConfig::default()), &mut out).unwrap();
+/// read_column(b"86400\n1970-01-02", config, &DateReader::OrTimestamp(DateConfig::default()), &mut out, None).unwrap();
 /// assert_eq!(out, [1, 1]);
 /// ```
-#[derive(Debug, Clone, PartialEq)]
+#[derive(Debug, Clone, Default, PartialEq)]
 pub enum DateReader {
     /// Parses only dates, as [`Date::parse_bytes_rfc3339`](crate::Date::parse_bytes_rfc3339) does.
+    #[default]
     Text,
     /// Parses timestamps too, as [`Date::parse_bytes_with_config`](crate::Date::parse_bytes_with_config) does.
     OrTimestamp(DateConfig),
@@ -339,7 +250,7 @@ impl From<&DateReader> for (Config, ColumnConfig) {
     fn from(reader: &DateReader) -> Self {
         match reader {
             DateReader::Text => Self::default(),
-            DateReader::OrTimestamp(config) => (config.into(), ColumnConfig::default().timestamps()),
+            DateReader::OrTimestamp(config) => (config.into(), ColumnConfig::default().form(Form::OrTimestamp)),
         }
     }
 }
@@ -356,18 +267,26 @@ pub enum DateTimeParser {
     Strict(MicrosecondsPrecisionOverflowBehavior),
 }
 
+/// [`Text`](Self::Text), with the default configuration.
+impl Default for DateTimeParser {
+    fn default() -> Self {
+        Self::Text(TimeConfig::default())
+    }
+}
+
 /// Reads a line as a date-time, and counts its microseconds from 1970-01-01T00:00:00 in UTC, as
 /// [`DateTime::timestamp_tz_us`](crate::DateTime::timestamp_tz_us) does.
 ///
 /// ```
 /// use speedate::{read_column, DateTimeParser, DateTimeReader, LineConfig, TimeConfig};
 ///
-/// let reader = DateTimeReader { parser: DateTimeParser::Text(TimeConfig::default()), assumes_utc: true };
+/// let reader = DateTimeReader { assumes_utc: true, ..Default::default() };
+/// assert_eq!(reader.parser, DateTimeParser::Text(TimeConfig::default()));
 /// let (config, mut out) = (LineConfig { at_end: true, drops_returns: false }, [0; 2]);
-/// read_column(b"1970-01-01T00:00:01\n1970-01-01T01:00+01:00\n", config, &reader, &mut out).unwrap();
+/// read_column(b"1970-01-01T00:00:01\n1970-01-01T01:00+01:00\n", config, &reader, &mut out, None).unwrap();
 /// assert_eq!(out, [1_000_000, 0]);
 /// ```
-#[derive(Debug, Clone, PartialEq)]
+#[derive(Debug, Clone, Default, PartialEq)]
 pub struct DateTimeReader {
     /// How a line is parsed.
     pub parser: DateTimeParser,
@@ -390,8 +309,8 @@ impl From<&DateTimeParser> for (Config, ColumnConfig) {
         let column = ColumnConfig::default();
         match parser {
             DateTimeParser::Text(config) => (config.into(), column),
-            DateTimeParser::OrTimestamp(config) => (config.into(), column.timestamps()),
-            DateTimeParser::Strict(behavior) => (Config::default().behavior(*behavior), column.strict()),
+            DateTimeParser::OrTimestamp(config) => (config.into(), column.form(Form::OrTimestamp)),
+            DateTimeParser::Strict(behavior) => (Config::default().behavior(*behavior), column.form(Form::Strict)),
         }
     }
 }
@@ -413,14 +332,14 @@ macro_rules! configured {
 /// the instant.
 ///
 /// ```
-/// use speedate::{read_column, DateTimeClockReader, DateTimeParser, LineConfig, TimeConfig};
+/// use speedate::{read_column, DateTimeClockReader, LineConfig};
 ///
-/// let reader = DateTimeClockReader { parser: DateTimeParser::Text(TimeConfig::default()) };
+/// let reader = DateTimeClockReader::default();
 /// let (config, mut out) = (LineConfig { at_end: true, drops_returns: false }, [0; 2]);
-/// read_column(b"1970-01-01T00:00:01\n1970-01-01T01:00+01:00\n", config, &reader, &mut out).unwrap();
+/// read_column(b"1970-01-01T00:00:01\n1970-01-01T01:00+01:00\n", config, &reader, &mut out, None).unwrap();
 /// assert_eq!(out, [1_000_000, 3_600_000_000]);
 /// ```
-#[derive(Debug, Clone, PartialEq)]
+#[derive(Debug, Clone, Default, PartialEq)]
 pub struct DateTimeClockReader {
     /// How a line is parsed.
     pub parser: DateTimeParser,
@@ -434,14 +353,14 @@ reader!(DateTimeClockReader by speedate_datetime_clock_column -> i64);
 /// configuration.
 ///
 /// ```
-/// use speedate::{read_column, DateTimeOffsetReader, DateTimeParser, LineConfig, TimeConfig};
+/// use speedate::{read_column, DateTimeOffsetReader, LineConfig};
 ///
-/// let reader = DateTimeOffsetReader { parser: DateTimeParser::Text(TimeConfig::default()) };
+/// let reader = DateTimeOffsetReader::default();
 /// let (config, mut out) = (LineConfig { at_end: true, drops_returns: false }, [7; 2]);
-/// read_column(b"1970-01-01T00:00:01Z\n1970-01-01T01:00+01:00\n", config, &reader, &mut out).unwrap();
+/// read_column(b"1970-01-01T00:00:01Z\n1970-01-01T01:00+01:00\n", config, &reader, &mut out, None).unwrap();
 /// assert_eq!(out, [0, 3_600]);
 /// ```
-#[derive(Debug, Clone, PartialEq)]
+#[derive(Debug, Clone, Default, PartialEq)]
 pub struct DateTimeOffsetReader {
     /// How a line is parsed.
     pub parser: DateTimeParser,
@@ -458,12 +377,19 @@ pub enum TimeParser {
     Strict(MicrosecondsPrecisionOverflowBehavior),
 }
 
+/// [`Text`](Self::Text), with the default configuration.
+impl Default for TimeParser {
+    fn default() -> Self {
+        Self::Text(TimeConfig::default())
+    }
+}
+
 impl From<&TimeParser> for (Config, ColumnConfig) {
     fn from(parser: &TimeParser) -> Self {
         let column = ColumnConfig::default();
         match parser {
             TimeParser::Text(config) => (config.into(), column),
-            TimeParser::Strict(behavior) => (Config::default().behavior(*behavior), column.strict()),
+            TimeParser::Strict(behavior) => (Config::default().behavior(*behavior), column.form(Form::Strict)),
         }
     }
 }
@@ -471,14 +397,13 @@ impl From<&TimeParser> for (Config, ColumnConfig) {
 /// Reads a line as a time, and counts the microseconds after midnight that its clock shows, whatever the offset.
 ///
 /// ```
-/// use speedate::{read_column, LineConfig, TimeConfig, TimeParser, TimeReader};
+/// use speedate::{read_column, LineConfig, TimeReader};
 ///
-/// let reader = TimeReader { parser: TimeParser::Text(TimeConfig::default()) };
 /// let (config, mut out) = (LineConfig { at_end: true, drops_returns: false }, [7; 2]);
-/// read_column(b"12:13:14.5\n00:00+01:00\n", config, &reader, &mut out).unwrap();
+/// read_column(b"12:13:14.5\n00:00+01:00\n", config, &TimeReader::default(), &mut out, None).unwrap();
 /// assert_eq!(out, [43_994_500_000, 0]);
 /// ```
-#[derive(Debug, Clone, PartialEq)]
+#[derive(Debug, Clone, Default, PartialEq)]
 pub struct TimeReader {
     /// How a line is parsed.
     pub parser: TimeParser,
@@ -491,14 +416,13 @@ reader!(TimeReader by speedate_time_lines and speedate_time_texts -> i64);
 /// A time without an offset is refused, with [`TzRequired`](ParseError::TzRequired).
 ///
 /// ```
-/// use speedate::{read_column, LineConfig, TimeConfig, TimeOffsetReader, TimeParser};
+/// use speedate::{read_column, LineConfig, TimeOffsetReader};
 ///
-/// let reader = TimeOffsetReader { parser: TimeParser::Text(TimeConfig::default()) };
 /// let (config, mut out) = (LineConfig { at_end: true, drops_returns: false }, [7; 2]);
-/// read_column(b"12:13Z\n12:13+01:00\n", config, &reader, &mut out).unwrap();
+/// read_column(b"12:13Z\n12:13+01:00\n", config, &TimeOffsetReader::default(), &mut out, None).unwrap();
 /// assert_eq!(out, [0, 3_600]);
 /// ```
-#[derive(Debug, Clone, PartialEq)]
+#[derive(Debug, Clone, Default, PartialEq)]
 pub struct TimeOffsetReader {
     /// How a line is parsed.
     pub parser: TimeParser,
@@ -512,17 +436,17 @@ configured!(DateTimeClockReader, DateTimeOffsetReader, TimeReader, TimeOffsetRea
 /// counts its microseconds, with the sign.
 ///
 /// One of 2^63 microseconds or more, which is over 106,751,991 days, is refused, with
-/// [`NumberTooLarge`](LineError::NumberTooLarge).
+/// [`NumberTooLarge`](Fault::NumberTooLarge).
 ///
 /// ```
-/// use speedate::{read_column, DurationReader, LineConfig, LineError, TimeConfig};
+/// use speedate::{read_column, DurationReader, Fault, LineConfig};
 ///
 /// let (config, mut out) = (LineConfig { at_end: true, drops_returns: false }, [0; 8]);
-/// let reader = DurationReader { config: TimeConfig::default() };
-/// let progress = read_column(b"-PT1.5S\n106751992 days\n", config, &reader, &mut out).unwrap();
-/// assert_eq!((out[0], progress.error), (-1_500_000, Some(LineError::NumberTooLarge)));
+/// let reader = DurationReader::default();
+/// let progress = read_column(b"-PT1.5S\n106751992 days\n", config, &reader, &mut out, None).unwrap();
+/// assert_eq!((out[0], progress.error.unwrap().fault), (-1_500_000, Fault::NumberTooLarge));
 /// ```
-#[derive(Debug, Clone, PartialEq)]
+#[derive(Debug, Clone, Default, PartialEq)]
 pub struct DurationReader {
     /// How a line is parsed.
     pub config: TimeConfig,
@@ -546,11 +470,11 @@ impl From<&DurationReader> for (Config, ColumnConfig) {
 ///
 /// # Errors
 ///
-/// [`NumberTooLarge`](LineError::NumberTooLarge) if they are 2^63 or more without the sign, which is over 106,751,991 days;
+/// [`NumberTooLarge`](Fault::NumberTooLarge) if they are 2^63 or more without the sign, which is over 106,751,991 days;
 /// the error of the first field that is out of range.
-pub fn duration_microseconds(duration: &Duration) -> Result<i64, LineError> {
-    duration.check().map_err(LineError::Parse)?;
-    ffi::speedate_duration_microseconds(duration).map_err(|_| LineError::NumberTooLarge)
+pub fn duration_microseconds(duration: &Duration) -> Result<i64, Fault> {
+    duration.check().map_err(Fault::Parse)?;
+    ffi::speedate_duration_microseconds(duration).map_err(|_| Fault::NumberTooLarge)
 }
 
 /// How many bytes the longest line of a printer has, without its line feed.
@@ -618,22 +542,4 @@ printers! {
     TimePrinter by speedate_time_print_column of i64, 0;
     /// Prints microseconds as durations: -1,500,000 as `-PT1.5S`.
     DurationPrinter by speedate_duration_print_column of i64, 0;
-}
-
-#[cfg(test)]
-mod tests {
-    use super::*;
-    use crate::ffi::Buffer;
-
-    #[test]
-    fn numbers_and_names_are_those_of_c() {
-        let errors: Vec<_> = (1..=40).chain([97]).map(|number| LineError::numbered(number).unwrap()).collect();
-        for error in &errors {
-            let number = error.number();
-            assert_eq!(Buffer::new().speedate_code_name(i32::from(number)), Ok(&*error.to_string()));
-            assert_eq!(LineError::numbered(number).as_ref(), Some(error));
-        }
-        assert_eq!(errors.last(), Some(&LineError::NumberTooLarge));
-        assert_eq!(LineError::numbered(0), None);
-    }
 }

@@ -2,6 +2,32 @@ use core::str::FromStr;
 
 use crate::{ConfigError, MicrosecondsPrecisionOverflowBehavior};
 
+/// The form: how the parsers that are called `parse_or_place` read an input.
+///
+/// ```
+/// use speedate::{DateTime, DateTimeConfig, Form};
+///
+/// let takes = |text: &str, form| DateTime::parse_or_place(text.as_bytes(), form, &DateTimeConfig::default()).is_ok();
+/// let by_each = |text| [Form::Text, Form::OrTimestamp, Form::Strict, Form::Front].map(|form| takes(text, form));
+/// assert_eq!(by_each("2020-02-29 12:13"), [true, true, false, true]);
+/// assert_eq!(by_each("1582978394.5"), [false, true, false, false]);
+/// assert_eq!(by_each("2020-02-29T12:13:14Z GET /"), [false, false, false, true]);
+/// ```
+#[derive(Debug, Clone, Copy, Default, PartialEq, Eq, Hash)]
+#[non_exhaustive]
+pub enum Form {
+    /// The whole input is the text of a value, and no number is a timestamp. All types have it.
+    #[default]
+    Text,
+    /// The same, or a timestamp. Every whole number is one, `20200229` too. For dates and date-times.
+    OrTimestamp,
+    /// A text of RFC 3339 and nothing else, without a second 60. For times and date-times.
+    Strict,
+    /// The input begins with the text of a value. What follows is up to you: a date-time whose offset comes after a space,
+    /// `2026-11-01 08:00:00 -0500`, is read without the offset, and ends at byte 19. For dates, times and date-times.
+    Front,
+}
+
 /// The unit of timestamps.
 ///
 /// ```
@@ -118,7 +144,8 @@ config! {
             as Option<MicrosecondsPrecisionOverflowBehavior>,
         /// The offset that the value of a timestamp gets, in seconds: `Some(0)` for Unix time. It is attached, and shifts
         /// nothing. One of a day or more fails with [`OutOfRangeTz`](crate::ParseError::OutOfRangeTz) in a call that takes
-        /// timestamps, and is not looked at by any other.
+        /// timestamps, and with [`ConfigOutOfRange`](crate::Fault::ConfigOutOfRange) in `parse_or_place` of a
+        /// [`DateTime`](crate::DateTime), in any form. No other call looks at it.
         unix_timestamp_offset: Option<i32> as Option<i32>,
     }
 }

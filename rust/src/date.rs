@@ -1,6 +1,6 @@
 use crate::ffi::{self, Config};
 use crate::value::{value, Value};
-use crate::{DateConfig, ParseError, Refused};
+use crate::{DateConfig, Form, ParseError, Refused};
 
 /// A day of the Gregorian calendar, from 0000-01-01 to 9999-12-31. Its text is `YYYY-MM-DD`.
 ///
@@ -78,49 +78,29 @@ impl Date {
     ///
     /// Why no date is at the front.
     pub fn parse_front(bytes: &[u8]) -> Result<(Self, usize), ParseError> {
-        Ok(Self::parse_or_place_front(bytes)?)
+        Self::parse_or_place(bytes, Form::Front, &DateConfig::default()).map_err(Refused::error)
     }
 
-    /// What [`parse_bytes_with_config`](Self::parse_bytes_with_config) gives, with the part for which an input is refused.
+    /// The date of an input in a form, and its size in bytes, which only with [`Form::Front`] is not that of the input.
     ///
     /// ```
-    /// let refused = speedate::Date::parse_or_place(b"2020-13-01", &Default::default()).unwrap_err();
-    /// assert_eq!((refused.place, refused.end), (5, 7));
+    /// use speedate::{Date, DateConfig, Form};
+    ///
+    /// let (config, date) = (DateConfig::default(), Date { year: 2020, month: 2, day: 29 });
+    /// assert_eq!(Date::parse_or_place(b"2020-02-29", Form::Text, &config), Ok((date, 10)));
+    /// assert_eq!(Date::parse_or_place(b"1582934400", Form::OrTimestamp, &config), Ok((date, 10)));
+    /// assert_eq!(Date::parse_or_place(b"2020-02-29 rent", Form::Front, &config), Ok((date, 10)));
+    ///
+    /// let refused = Date::parse_or_place(b"2020-02-3", Form::Front, &config).unwrap_err();
+    /// assert_eq!(refused.to_string(), "too_short at byte 9: expected a date: YYYY-MM-DD");
     /// ```
     ///
     /// # Errors
     ///
-    /// Those of that method.
-    pub fn parse_or_place(bytes: &[u8], config: &DateConfig) -> Result<Self, Refused> {
-        ffi::speedate_date_parse_or_part(bytes, ffi::OR_TIMESTAMP, config).map(|(value, _)| value)
-    }
-
-    /// What [`parse_bytes_rfc3339`](Self::parse_bytes_rfc3339) gives, with the part for which an input is refused.
-    ///
-    /// ```
-    /// let refused = speedate::Date::parse_or_place_rfc3339(b"2020-01-01T12:13").unwrap_err();
-    /// assert_eq!((refused.place, refused.end), (10, 16));
-    /// ```
-    ///
-    /// # Errors
-    ///
-    /// Those of that method.
-    pub fn parse_or_place_rfc3339(bytes: &[u8]) -> Result<Self, Refused> {
-        ffi::speedate_date_parse_or_part(bytes, ffi::TEXT, Config::default()).map(|(value, _)| value)
-    }
-
-    /// What [`parse_front`](Self::parse_front) gives, with the part for which an input is refused.
-    ///
-    /// ```
-    /// let refused = speedate::Date::parse_or_place_front(b"2026-11-2").unwrap_err();
-    /// assert_eq!((refused.place, refused.end), (9, 9));
-    /// ```
-    ///
-    /// # Errors
-    ///
-    /// Those of that method.
-    pub fn parse_or_place_front(bytes: &[u8]) -> Result<(Self, usize), Refused> {
-        ffi::speedate_date_parse_or_part(bytes, ffi::FRONT, Config::default())
+    /// Why and where the input is refused; [`ConfigOutOfRange`](crate::Fault::ConfigOutOfRange) if the form is
+    /// [`Form::Strict`], which dates do not have.
+    pub fn parse_or_place(bytes: &[u8], form: Form, config: &DateConfig) -> Result<(Self, usize), Refused> {
+        ffi::speedate_date_parse_or_part(bytes, form, config)
     }
 
     /// The date of a timestamp in the unit of the configuration, which has to be a midnight if `require_exact`.

@@ -5,7 +5,8 @@ use std::time::SystemTime;
 use crate::ffi::{self, Config};
 use crate::value::{value, Value};
 use crate::{
-    Date, DateTimeConfig, MicrosecondsPrecisionOverflowBehavior, ParseError, Refused, Time, TimeConfig, TimestampUnit,
+    Date, DateTimeConfig, Form, MicrosecondsPrecisionOverflowBehavior, ParseError, Refused, Time, TimeConfig,
+    TimestampUnit,
 };
 
 /// A date and a time of day, as a clock at the offset of the time shows them. It is printed as the [`Date`], `T` and
@@ -127,69 +128,29 @@ impl DateTime {
     ///
     /// Why no date-time is at the front.
     pub fn parse_front(bytes: &[u8], config: &TimeConfig) -> Result<(Self, usize), ParseError> {
-        Ok(Self::parse_or_place_front(bytes, config)?)
+        ffi::speedate_datetime_parse_or_part(bytes, Form::Front, config).map_err(Refused::error)
     }
 
-    /// What [`parse_bytes_with_config`](Self::parse_bytes_with_config) gives, with the part for which an input is refused.
+    /// The date-time of an input in a form, and its size in bytes, which only with [`Form::Front`] is not that of the input.
     ///
     /// ```
-    /// let refused = speedate::DateTime::parse_or_place(b"2020-02-29T12:13:60", &Default::default()).unwrap_err();
-    /// assert_eq!((refused.place, refused.end), (17, 19));
+    /// use speedate::{DateTime, DateTimeConfig, Form};
+    ///
+    /// let config = DateTimeConfig::default();
+    /// let (value, size) = DateTime::parse_or_place(b"2026-11-22T12:13:14Z GET /", Form::Front, &config).unwrap();
+    /// assert_eq!((value.to_string().as_str(), size), ("2026-11-22T12:13:14Z", 20));
+    ///
+    /// let refused = DateTime::parse_or_place(b"20200229", Form::Text, &config).unwrap_err();
+    /// assert_eq!((refused.start, refused.end), (8, 8));
+    /// assert_eq!(refused.expected().to_string(), "a date-time: YYYY-MM-DDTHH:MM or YYYY-MM-DDTHH:MM:SS");
     /// ```
     ///
     /// # Errors
     ///
-    /// Those of that method.
-    pub fn parse_or_place(bytes: &[u8], config: &DateTimeConfig) -> Result<Self, Refused> {
-        ffi::speedate_datetime_parse_or_part(bytes, ffi::OR_TIMESTAMP, config).map(|(value, _)| value)
-    }
-
-    /// What [`parse_bytes_rfc3339_with_config`](Self::parse_bytes_rfc3339_with_config) gives, with the part for which an input is refused.
-    ///
-    /// ```
-    /// let refused = speedate::DateTime::parse_or_place_rfc3339(b"2020-02-29", &Default::default()).unwrap_err();
-    /// assert_eq!((refused.place, refused.end), (10, 10));
-    /// ```
-    ///
-    /// # Errors
-    ///
-    /// Those of that method.
-    pub fn parse_or_place_rfc3339(bytes: &[u8], config: &TimeConfig) -> Result<Self, Refused> {
-        ffi::speedate_datetime_parse_or_part(bytes, ffi::TEXT, config).map(|(value, _)| value)
-    }
-
-    /// What [`parse_bytes_strict`](Self::parse_bytes_strict) gives, with the part for which an input is refused.
-    ///
-    /// ```
-    /// use speedate::{MicrosecondsPrecisionOverflowBehavior::Error, DateTime};
-    ///
-    /// let refused = DateTime::parse_or_place_strict(b"2020-02-29 12:13:14Z", Error).unwrap_err();
-    /// assert_eq!((refused.place, refused.end), (10, 11));
-    /// ```
-    ///
-    /// # Errors
-    ///
-    /// Those of that method.
-    pub fn parse_or_place_strict(
-        bytes: &[u8],
-        behavior: MicrosecondsPrecisionOverflowBehavior,
-    ) -> Result<Self, Refused> {
-        let config = Config::default().behavior(behavior);
-        ffi::speedate_datetime_parse_or_part(bytes, ffi::STRICT, config).map(|(value, _)| value)
-    }
-
-    /// What [`parse_front`](Self::parse_front) gives, with the part for which an input is refused.
-    ///
-    /// ```
-    /// let refused = speedate::DateTime::parse_or_place_front(b"2026-11-22T12:00:00-ERROR", &Default::default()).unwrap_err();
-    /// assert_eq!((refused.place, refused.end), (20, 22));
-    /// ```
-    ///
-    /// # Errors
-    ///
-    /// Those of that method.
-    pub fn parse_or_place_front(bytes: &[u8], config: &TimeConfig) -> Result<(Self, usize), Refused> {
-        ffi::speedate_datetime_parse_or_part(bytes, ffi::FRONT, config)
+    /// Why and where the input is refused; [`ConfigOutOfRange`](crate::Fault::ConfigOutOfRange) if the configured offset
+    /// is a day or more, in any form. Date-times have all forms.
+    pub fn parse_or_place(bytes: &[u8], form: Form, config: &DateTimeConfig) -> Result<(Self, usize), Refused> {
+        ffi::speedate_datetime_parse_or_part(bytes, form, config)
     }
 
     /// [`from_timestamp`](Self::from_timestamp), in the unit and with the offset of a configuration.

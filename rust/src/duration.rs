@@ -2,7 +2,7 @@ use core::cmp::Ordering;
 
 use crate::ffi;
 use crate::value::{value, Value};
-use crate::{DateTime, ParseError, Refused, TimeConfig};
+use crate::{Date, DateTime, Form, ParseError, Refused, TimeConfig};
 
 /// A length of time, with a sign, which zero has too.
 ///
@@ -134,18 +134,26 @@ impl Duration {
         Ok(sum)
     }
 
-    /// What [`parse_bytes_with_config`](Self::parse_bytes_with_config) gives, with the part for which an input is refused.
+    /// The duration of an input in a form, and its size in bytes, which is that of the input.
     ///
     /// ```
-    /// let refused = speedate::Duration::parse_or_place(b"P1D1Q", &Default::default()).unwrap_err();
-    /// assert_eq!((refused.place, refused.end), (4, 5));
+    /// use speedate::{Duration, Form, TimeConfig};
+    ///
+    /// let config = TimeConfig::default();
+    /// let (duration, size) = Duration::parse_or_place(b"PT90M", Form::Text, &config).unwrap();
+    /// assert_eq!((duration.second, size), (5_400, 5));
+    ///
+    /// let refused = Duration::parse_or_place(b"P1D1Q", Form::Text, &config).unwrap_err();
+    /// assert_eq!((refused.start, refused.end), (4, 5));
+    /// assert_eq!(refused.expected().to_string(), "Y, M, W or D; H, M or S after a T");
     /// ```
     ///
     /// # Errors
     ///
-    /// Those of that method.
-    pub fn parse_or_place(bytes: &[u8], config: &TimeConfig) -> Result<Self, Refused> {
-        ffi::speedate_duration_parse_or_part(bytes, ffi::TEXT, config).map(|(value, _)| value)
+    /// Why and where the input is refused; [`ConfigOutOfRange`](crate::Fault::ConfigOutOfRange) if the form is not
+    /// [`Form::Text`], the only one that durations have.
+    pub fn parse_or_place(bytes: &[u8], form: Form, config: &TimeConfig) -> Result<(Self, usize), Refused> {
+        ffi::speedate_duration_parse_or_part(bytes, form, config)
     }
 
     /// The duration from one date-time to another, by their instants, which is negative if the other is the earlier one. A
@@ -185,6 +193,46 @@ impl Duration {
     /// after the year 9999.
     pub fn before(&self, start: &DateTime) -> Result<DateTime, ParseError> {
         (self, start).checked(ffi::speedate_duration_before(self, start))
+    }
+
+    /// The duration from one date to another, in whole days, which is negative if the other is the earlier one. It panics if
+    /// one is out of range.
+    ///
+    /// ```
+    /// use speedate::{Date, Duration};
+    ///
+    /// let [start, end] = ["2020-02-28", "2020-03-01"].map(|text| Date::parse_str(text).unwrap());
+    /// let days = Duration::between_dates(&start, &end);
+    /// assert_eq!(days.to_string(), "P2D");
+    /// assert_eq!((days.after_date(&start), days.before_date(&end)), (Ok(end), Ok(start)));
+    /// ```
+    #[must_use]
+    #[track_caller]
+    pub fn between_dates(earlier: &Date, later: &Date) -> Self {
+        (earlier, later).total(ffi::speedate_duration_between_dates(earlier, later))
+    }
+
+    /// The date that is this duration after another, or before it if the duration is negative.
+    /// [`between_dates`](Self::between_dates) has an example.
+    ///
+    /// # Errors
+    ///
+    /// The error of the first field that is out of range, first of the duration;
+    /// [`DateNotExact`](ParseError::DateNotExact) if the duration is not whole days,
+    /// [`DateTooSmall`](ParseError::DateTooSmall) before the year 0000, [`DateTooLarge`](ParseError::DateTooLarge)
+    /// after the year 9999.
+    pub fn after_date(&self, start: &Date) -> Result<Date, ParseError> {
+        (self, start).checked(ffi::speedate_duration_after_date(self, start))
+    }
+
+    /// The date that is this duration before another, or after it if the duration is negative.
+    /// [`between_dates`](Self::between_dates) has an example.
+    ///
+    /// # Errors
+    ///
+    /// Those of [`after_date`](Self::after_date).
+    pub fn before_date(&self, start: &Date) -> Result<Date, ParseError> {
+        (self, start).checked(ffi::speedate_duration_before_date(self, start))
     }
 
     fn cmp_fields(&self, other: &Self) -> Ordering {

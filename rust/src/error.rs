@@ -1,7 +1,7 @@
 use core::error::Error;
 use core::fmt;
 
-use crate::ffi::{speedate_code_part_end, Buffer};
+use crate::ffi::{Buffer, Code};
 
 /// Defines [`ParseError`]: of each variant the number in C, the name and the documentation text, each once.
 macro_rules! parse_errors {
@@ -38,32 +38,6 @@ macro_rules! parse_errors {
                 match self {
                     $(Self::$variant => $number,)*
                 }
-            }
-
-            /// What a call of this kind expected where the input, or the value, is refused: a phrase for people, of at
-            /// most 63 bytes. In an input that is its error's place.
-            ///
-            /// ```
-            /// use speedate::{CallKind, Date, ParseError};
-            ///
-            /// let error = Date::parse_str("2020-13-01").unwrap_err();
-            /// assert_eq!(error.expected(CallKind::DateOrTimestamp).to_string(), "month, 01 to 12");
-            /// ```
-            #[must_use]
-            pub fn expected(&self, kind: CallKind) -> impl fmt::Display + fmt::Debug {
-                Expected { number: self.number(), kind }
-            }
-
-            /// Where the part of the input ends that the error is about, which begins at its place: so these bytes are
-            /// what a form underlines. A [`Refused`] has it as `end`. It is at most the length of the input if the place is,
-            /// and the place if the part is missing.
-            ///
-            /// ```
-            /// assert_eq!(speedate::ParseError::OutOfRangeMonth.part_end(b"2020-13-01", 5), 7);
-            /// ```
-            #[must_use]
-            pub fn part_end(&self, input: &[u8], place: usize) -> usize {
-                speedate_code_part_end(self.number(), input, place)
             }
 
             pub(crate) fn name(&self) -> &'static str {
@@ -132,42 +106,6 @@ parse_errors! {
     TimeTooLarge = 40, "time_too_large", "numeric times may not exceed 86,399 seconds";
 }
 
-/// The kind of a call, on which it depends what the call expects. That of a column is the kind of its lines.
-#[derive(Clone, Copy, Debug, PartialEq, Eq)]
-pub enum CallKind {
-    /// It takes values or numbers, and no text.
-    Values,
-    /// It parses dates, at the front of an input too.
-    Date,
-    /// It parses dates and timestamps.
-    DateOrTimestamp,
-    /// It parses times, at the front of an input too.
-    Time,
-    /// It parses only times of RFC 3339.
-    TimeStrict,
-    /// It parses date-times, at the front of an input too.
-    DateTime,
-    /// It parses date-times and timestamps.
-    DateTimeOrTimestamp,
-    /// It parses only date-times of RFC 3339.
-    DateTimeStrict,
-    /// It parses durations.
-    Duration,
-}
-
-/// What is printed once it is asked for: the texts are in the library.
-#[derive(Debug)]
-struct Expected {
-    number: u8,
-    kind: CallKind,
-}
-
-impl fmt::Display for Expected {
-    fn fmt(&self, f: &mut fmt::Formatter<'_>) -> fmt::Result {
-        f.pad(Buffer::new().speedate_code_expected(self.number, self.kind).map_err(|_| fmt::Error)?)
-    }
-}
-
 /// Writes the name of the error: `too_short`.
 impl fmt::Display for ParseError {
     fn fmt(&self, f: &mut fmt::Formatter<'_>) -> fmt::Result {
@@ -177,40 +115,142 @@ impl fmt::Display for ParseError {
 
 impl Error for ParseError {}
 
-/// Why an input is refused, and the part of it: the bytes from `place` on that come before `end`.
+/// Why an input is refused, or a line of a column. Each fault has the name and the number that it has in C.
 ///
 /// ```
-/// use speedate::{Date, ParseError, Refused};
+/// use speedate::{Fault, ParseError};
 ///
-/// let refused = Date::parse_or_place_rfc3339(b"2020-13-01").unwrap_err();
-/// assert_eq!(refused, Refused { fault: ParseError::OutOfRangeMonth, place: 5, end: 7 });
-/// assert_eq!(refused.to_string(), "out_of_range_month at byte 5");
+/// let fault = Fault::Parse(ParseError::OutOfRangeDay);
+/// assert_eq!((fault.number(), fault.to_string()), (22, "out_of_range_day".to_owned()));
+/// assert_eq!([0, 22, 97].map(Fault::numbered), [None, Some(fault), Some(Fault::NumberTooLarge)]);
+/// ```
+#[derive(Debug, PartialEq, Eq, Clone)]
+#[non_exhaustive]
+pub enum Fault {
+    /// The input is wrong, or lacks an offset that the reader of a column needs: then with
+    /// [`TzRequired`](ParseError::TzRequired).
+    Parse(ParseError),
+    /// A column has no number for the value, such as `P999999999D` in microseconds.
+    NumberTooLarge,
+    /// The type does not have the [`Form`](crate::Form), or the configured offset of timestamps is a day or more.
+    ConfigOutOfRange,
+}
+
+impl Fault {
+    /// The number of the fault, from the [`ParseError`](ParseError::number), 97 for
+    /// [`NumberTooLarge`](Self::NumberTooLarge), and 102 for [`ConfigOutOfRange`](Self::ConfigOutOfRange).
+    #[must_use]
+    pub fn number(&self) -> u8 {
+        match self {
+            Self::Parse(error) => error.number(),
+            Self::NumberTooLarge => Code::NUMBER_TOO_LARGE.number(),
+            Self::ConfigOutOfRange => Code::CONFIG_OUT_OF_RANGE.number(),
+        }
+    }
+
+    /// The fault of a number that a column has written for a line. It is `None` for 0, which is a line without a fault;
+    /// [`ParseError`] says which error is used for a number that the package does not know.
+    #[must_use]
+    pub fn numbered(number: u8) -> Option<Self> {
+        (number != 0).then(|| Code::from(number).into())
+    }
+
+    fn name(&self) -> &'static str {
+        match self {
+            Self::Parse(error) => error.name(),
+            Self::NumberTooLarge => "number_too_large",
+            Self::ConfigOutOfRange => "config_out_of_range",
+        }
+    }
+}
+
+/// Writes the name of the fault: `too_short`.
+impl fmt::Display for Fault {
+    fn fmt(&self, f: &mut fmt::Formatter<'_>) -> fmt::Result {
+        f.pad(self.name())
+    }
+}
+
+impl Error for Fault {}
+
+/// Why and where an input is refused, or a line of a column: the fault, and the bytes from `start` on that come before
+/// `end`.
+///
+/// ```
+/// use speedate::{Date, Fault, Form, ParseError};
+///
+/// let refused = Date::parse_or_place(b"2020-13-01", Form::Text, &Default::default()).unwrap_err();
+/// assert_eq!(refused.fault, Fault::Parse(ParseError::OutOfRangeMonth));
+/// assert_eq!((refused.start, refused.end), (5, 7));
+/// assert_eq!(refused.expected().to_string(), "month, 01 to 12");
+/// assert_eq!(refused.to_string(), "out_of_range_month at byte 5: expected month, 01 to 12");
 /// ```
 #[derive(Debug, PartialEq, Eq, Clone)]
 pub struct Refused {
-    /// The error.
-    pub fault: ParseError,
-    /// Where the part begins that the error is about, or would begin if it is missing. If the configuration is out of
-    /// range, and not the input, this and the end are 0.
-    pub place: usize,
-    /// Where the part ends: at its place if it is missing.
+    /// The fault.
+    pub fault: Fault,
+    /// Where the part begins that the fault is about, or would begin if it is missing: at most the size of the input.
+    /// This and the end are 0 if the fault is not about an input: if the configuration is out of range, or a number is
+    /// not printed.
+    pub start: usize,
+    /// Where the part ends: at its start if it is missing.
     pub end: usize,
+    pub(crate) expected: Expected,
 }
 
-/// Writes the name of the error, and the place: `too_short at byte 4`.
+impl Refused {
+    /// What was expected in place of these bytes: a phrase for people, of at most 63 bytes. It depends on the form too.
+    ///
+    /// ```
+    /// use speedate::{Form, Time};
+    ///
+    /// let expected = |text: &str, form| {
+    ///     let refused = Time::parse_or_place(text.as_bytes(), form, &Default::default()).unwrap_err();
+    ///     refused.expected().to_string()
+    /// };
+    /// assert_eq!(expected("12:60", Form::Text), "minute, 00 to 59");
+    /// assert_eq!(expected("1:30", Form::Text), "a time: HH:MM or HH:MM:SS");
+    /// assert_eq!(expected("1:30", Form::Strict), "a time with an offset: HH:MM:SSZ or HH:MM:SS+01:00");
+    /// ```
+    #[must_use]
+    pub fn expected(&self) -> impl fmt::Display + fmt::Debug {
+        self.expected
+    }
+
+    /// The error with which a call of the crate refuses the input.
+    pub(crate) fn error(self) -> ParseError {
+        self.expected.code.into()
+    }
+}
+
+/// What is printed once it is asked for: the texts are in the library.
+#[derive(Debug, PartialEq, Eq, Clone, Copy)]
+pub(crate) struct Expected {
+    /// The code of the fault, which may be one of a later library.
+    pub(crate) code: Code,
+    /// What C read the input as: 0 if there is none.
+    pub(crate) kind: i32,
+}
+
+impl fmt::Display for Expected {
+    fn fmt(&self, f: &mut fmt::Formatter<'_>) -> fmt::Result {
+        f.pad(Buffer::new().speedate_code_expected(self.code, self.kind).map_err(|_| fmt::Error)?)
+    }
+}
+
+/// Writes the fault, where the part begins, and what was expected: `out_of_range_month at byte 5: expected month, 01 to 12`.
+/// A fault that is not about an input has no byte.
 impl fmt::Display for Refused {
     fn fmt(&self, f: &mut fmt::Formatter<'_>) -> fmt::Result {
-        write!(f, "{} at byte {}", self.fault.name(), self.place)
+        f.write_str(self.fault.name())?;
+        if self.expected.kind != 0 {
+            write!(f, " at byte {}", self.start)?;
+        }
+        write!(f, ": expected {}", self.expected)
     }
 }
 
 impl Error for Refused {}
-
-impl From<Refused> for ParseError {
-    fn from(refused: Refused) -> Self {
-        refused.fault
-    }
-}
 
 /// Why the name of a choice is refused.
 #[derive(Debug, PartialEq, Eq, Clone)]
@@ -248,12 +288,20 @@ mod tests {
     use super::*;
 
     #[test]
-    fn names_and_texts_are_those_of_c() {
+    fn numbers_names_and_texts_are_those_of_c() {
         for number in 1..=40 {
             let error = ParseError::numbered(number).unwrap();
             assert_eq!(i32::from(error.number()), number);
-            assert_eq!(Buffer::new().speedate_code_name(number), Ok(error.name()));
             assert_eq!(Buffer::new().speedate_code_documentation(number).ok(), error.get_documentation());
         }
+        for number in (1..=40).chain([97, 102]) {
+            let fault = Fault::numbered(number).unwrap();
+            assert_eq!(fault.number(), number);
+            assert_eq!(Buffer::new().speedate_code_name(i32::from(number)), Ok(&*fault.to_string()));
+        }
+        assert_eq!(
+            [0, 97, 102].map(Fault::numbered),
+            [None, Some(Fault::NumberTooLarge), Some(Fault::ConfigOutOfRange)]
+        );
     }
 }

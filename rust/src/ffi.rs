@@ -7,9 +7,10 @@ use core::ptr::read_volatile;
 use core::slice::from_raw_parts;
 use core::str::from_utf8_unchecked;
 
+use crate::error::Expected;
 use crate::{
-    CallKind, Date, DateTime, Duration, LineConfig, LineError, MicrosecondsPrecisionOverflowBehavior, ParseError,
-    Progress, Refused, Time, TimestampUnit,
+    Date, DateTime, Duration, Fault, Form, LineConfig, MicrosecondsPrecisionOverflowBehavior, ParseError, Progress,
+    Refused, Time, TimestampUnit,
 };
 
 /// Why a call fails.
@@ -18,21 +19,18 @@ pub(crate) struct Code(c_int);
 
 impl Code {
     const OK: Self = Self(0);
+    pub(crate) const NUMBER_TOO_LARGE: Self = Self(97);
     pub(crate) const VALUE_OUT_OF_RANGE: Self = Self(101);
-    const CONFIG_OUT_OF_RANGE: Self = Self(102);
-}
+    pub(crate) const CONFIG_OUT_OF_RANGE: Self = Self(102);
 
-/// The forms in which a text is read.
-pub(crate) const TEXT: c_int = 0;
-pub(crate) const OR_TIMESTAMP: c_int = 1;
-pub(crate) const STRICT: c_int = 2;
-pub(crate) const FRONT: c_int = 3;
+    /// The number of one of these.
+    pub(crate) fn number(self) -> u8 {
+        self.0 as u8
+    }
+}
 
 /// The digits of a second that are printed if nobody asks for others.
 pub(crate) const DIGITS_AUTO: c_int = -1;
-
-/// The number of an error that a line has, and no text.
-pub(crate) const NUMBER_TOO_LARGE: u8 = 97;
 
 impl From<u8> for Code {
     fn from(number: u8) -> Self {
@@ -40,13 +38,12 @@ impl From<u8> for Code {
     }
 }
 
-/// The error of a line, if it has one.
-impl From<Code> for Option<LineError> {
+impl From<Code> for Fault {
     fn from(code: Code) -> Self {
         match code {
-            Code::OK => None,
-            code if code == NUMBER_TOO_LARGE.into() => Some(LineError::NumberTooLarge),
-            code => Some(LineError::Parse(code.into())),
+            Code::NUMBER_TOO_LARGE => Self::NumberTooLarge,
+            Code::CONFIG_OUT_OF_RANGE => Self::ConfigOutOfRange,
+            code => Self::Parse(code.into()),
         }
     }
 }
@@ -148,12 +145,8 @@ impl Config {
 
 /// The default has 0 in each field; each call sets the lines.
 impl ColumnConfig {
-    pub(crate) fn timestamps(self) -> Self {
-        Self { parser: 1, ..self }
-    }
-
-    pub(crate) fn strict(self) -> Self {
-        Self { parser: 2, ..self }
+    pub(crate) fn form(self, form: Form) -> Self {
+        Self { parser: form as u8, ..self }
     }
 
     pub(crate) fn assumes_utc(self, assumes_utc: bool) -> Self {
@@ -223,13 +216,15 @@ impl CPart {
     /// Why a text is refused, by the code of the call that has written the part.
     #[cold]
     fn refused(self, code: Code) -> Refused {
-        Refused { fault: code.into(), place: self.start, end: self.end }
+        let Self { start, end, kind } = self;
+        Refused { fault: code.into(), start, end, expected: Expected { code, kind } }
     }
 }
 
 impl From<CProgress> for Progress {
     fn from(CProgress { lines, bytes, error, part }: CProgress) -> Self {
-        Self { lines, bytes, error: Code(error).into(), place: part.start, end: part.end }
+        let code = Code(error);
+        Self { lines, bytes, error: (code != Code::OK).then(|| part.refused(code)) }
     }
 }
 
@@ -271,7 +266,7 @@ macro_rules! calls_or_part {
     ($(fn $name:ident([$text:ident] $form:ident: c_int, $config:ident: Config) -> $answer:ty;)*) => {$(
         #[inline]
         pub(crate) fn $name<T: From<$answer>>(
-            $text: &[u8], $form: c_int, $config: impl Into<Config>
+            $text: &[u8], $form: Form, $config: impl Into<Config>
         ) -> Result<(T, usize), Refused> {
             unsafe extern "C" {
                 fn $name(
@@ -280,27 +275,13 @@ macro_rules! calls_or_part {
             }
             let mut part = CPart::default();
             // SAFETY: as for the calls above; `part` is a variable's address too.
-            match written(|out| unsafe { $name($text.as_ptr(), $text.len(), $form, $config.into(), out, &mut part) }) {
+            let answer = written(|out| unsafe {
+                $name($text.as_ptr(), $text.len(), $form as c_int, $config.into(), out, &mut part)
+            });
+            match answer {
                 Ok(value) => Ok((value, part.end)),
                 Err(code) => Err(part.refused(code)),
             }
-        }
-    )*};
-}
-
-/// Functions that write where a part of a text ends, which begins at a place.
-macro_rules! ends {
-    ($(fn $name:ident($code:ident: $kind:ty, [$text:ident] $place:ident: usize);)*) => {$(
-        #[inline]
-        pub(crate) fn $name($code: impl Into<$kind>, $text: &[u8], $place: usize) -> usize {
-            unsafe extern "C" {
-                fn $name($code: $kind, $text: *const u8, size: usize, $place: usize, end: *mut usize) -> c_int;
-            }
-            let mut end = $place;
-            // SAFETY: the types are the header's; address and size are those of the text, and `end` is a variable's.
-            let code = unsafe { $name($code.into(), $text.as_ptr(), $text.len(), $place, &mut end) };
-            debug_assert_eq!(code, 0, "it is the code of an error");
-            end
         }
     )*};
 }
@@ -406,7 +387,7 @@ impl Buffer {
         Ok(unsafe { from_utf8_unchecked(from_raw_parts(text, length)) })
     }
 
-    pub(crate) fn speedate_code_expected(&mut self, code: u8, kind: CallKind) -> Result<&str, Code> {
+    pub(crate) fn speedate_code_expected(&mut self, Code(code): Code, kind: i32) -> Result<&str, Code> {
         unsafe extern "C" {
             fn speedate_code_expected(
                 code: c_int,
@@ -417,9 +398,9 @@ impl Buffer {
             ) -> c_int;
         }
         // The part is read only for its kind.
-        let part = CPart { kind: kind as i32, ..CPart::default() };
+        let part = CPart { kind, ..CPart::default() };
         // SAFETY: as for the calls below; `part` is a variable's address.
-        self.printed(|text, size, length| unsafe { speedate_code_expected(code.into(), &part, text, size, length) })
+        self.printed(|text, size, length| unsafe { speedate_code_expected(code, &part, text, size, length) })
     }
 }
 
@@ -477,6 +458,9 @@ calls! {
     fn speedate_duration_between(earlier: CDateTime, later: CDateTime) -> CDuration;
     fn speedate_datetime_add(value: CDateTime, duration: CDuration) -> CDateTime;
     fn speedate_duration_before(duration: CDuration, start: CDateTime) -> CDateTime;
+    fn speedate_duration_between_dates(earlier: CDate, later: CDate) -> CDuration;
+    fn speedate_duration_after_date(duration: CDuration, start: CDate) -> CDate;
+    fn speedate_duration_before_date(duration: CDuration, start: CDate) -> CDate;
     fn speedate_int_parse([text]) -> i64;
 }
 
@@ -485,10 +469,6 @@ calls_or_part! {
     fn speedate_time_parse_or_part([text] form: c_int, config: Config) -> CTime;
     fn speedate_datetime_parse_or_part([text] form: c_int, config: Config) -> CDateTime;
     fn speedate_duration_parse_or_part([text] form: c_int, config: Config) -> CDuration;
-}
-
-ends! {
-    fn speedate_code_part_end(code: c_int, [text] place: usize);
 }
 
 columns! {

@@ -38,17 +38,18 @@ mod time;
 mod value;
 
 pub use column::{
-    duration_microseconds, print_column, read_column, read_column_with_errors, read_texts, read_texts_with_errors,
-    DatePrinter, DateReader, DateTimeClockPrinter, DateTimeClockReader, DateTimeOffsetReader, DateTimeParser,
-    DateTimePrinter, DateTimeReader, DurationPrinter, DurationReader, LineConfig, LineError, LinePrinter, LineReader,
-    Progress, TextReader, TimeOffsetReader, TimeParser, TimePrinter, TimeReader, LINE_MAX,
+    duration_microseconds, print_column, read_column, read_texts, DatePrinter, DateReader, DateTimeClockPrinter,
+    DateTimeClockReader, DateTimeOffsetReader, DateTimeParser, DateTimePrinter, DateTimeReader, DurationPrinter,
+    DurationReader, LineConfig, LinePrinter, LineReader, Progress, TextReader, TimeOffsetReader, TimeParser,
+    TimePrinter, TimeReader, LINE_MAX,
 };
 pub use config::{
-    DateConfig, DateConfigBuilder, DateTimeConfig, DateTimeConfigBuilder, TimeConfig, TimeConfigBuilder, TimestampUnit,
+    DateConfig, DateConfigBuilder, DateTimeConfig, DateTimeConfigBuilder, Form, TimeConfig, TimeConfigBuilder,
+    TimestampUnit,
 };
 pub use date::Date;
 pub use datetime::DateTime;
 pub use duration::Duration;
-pub use error::{CallKind, ConfigError, ParseError, Refused};
+pub use error::{ConfigError, Fault, ParseError, Refused};
 pub use numbers::{float_parse_bytes, float_parse_str, int_parse_bytes, int_parse_str, IntFloat};
 pub use time::{MicrosecondsPrecisionOverflowBehavior, Time};

@@ -3,7 +3,7 @@ use core::str::FromStr;
 
 use crate::ffi::{self, Config};
 use crate::value::{value, Value};
-use crate::{ConfigError, ParseError, Refused, TimeConfig};
+use crate::{ConfigError, Form, ParseError, Refused, TimeConfig};
 
 /// A time of day, with an offset from UTC or without one.
 ///
@@ -89,55 +89,29 @@ impl Time {
     ///
     /// Why no time is at the front.
     pub fn parse_front(bytes: &[u8], config: &TimeConfig) -> Result<(Self, usize), ParseError> {
-        Ok(Self::parse_or_place_front(bytes, config)?)
+        Self::parse_or_place(bytes, Form::Front, config).map_err(Refused::error)
     }
 
-    /// What [`parse_bytes_with_config`](Self::parse_bytes_with_config) gives, with the part for which an input is refused.
+    /// The time of an input in a form, and its size in bytes, which only with [`Form::Front`] is not that of the input.
     ///
     /// ```
-    /// let refused = speedate::Time::parse_or_place(b"12:13:60", &Default::default()).unwrap_err();
-    /// assert_eq!((refused.place, refused.end), (6, 8));
+    /// use speedate::{Form, Time, TimeConfig};
+    ///
+    /// let config = TimeConfig::default();
+    /// let (time, size) = Time::parse_or_place(b"12:13, noon", Form::Front, &config).unwrap();
+    /// assert_eq!((time.minute, size), (13, 5));
+    ///
+    /// let refused = Time::parse_or_place(b"12:13+01:00", Form::Strict, &config).unwrap_err();
+    /// assert_eq!((refused.start, refused.end), (5, 6));
+    /// assert_eq!(refused.expected().to_string(), "a colon, as in HH:MM:SS");
     /// ```
     ///
     /// # Errors
     ///
-    /// Those of that method.
-    pub fn parse_or_place(bytes: &[u8], config: &TimeConfig) -> Result<Self, Refused> {
-        ffi::speedate_time_parse_or_part(bytes, ffi::TEXT, config).map(|(value, _)| value)
-    }
-
-    /// What [`parse_bytes_strict`](Self::parse_bytes_strict) gives, with the part for which an input is refused.
-    ///
-    /// ```
-    /// use speedate::{MicrosecondsPrecisionOverflowBehavior::Error, Time};
-    ///
-    /// let refused = Time::parse_or_place_strict(b"12:13+01:00", Error).unwrap_err();
-    /// assert_eq!((refused.place, refused.end), (5, 6));
-    /// ```
-    ///
-    /// # Errors
-    ///
-    /// Those of that method.
-    pub fn parse_or_place_strict(
-        bytes: &[u8],
-        behavior: MicrosecondsPrecisionOverflowBehavior,
-    ) -> Result<Self, Refused> {
-        let config = Config::default().behavior(behavior);
-        ffi::speedate_time_parse_or_part(bytes, ffi::STRICT, config).map(|(value, _)| value)
-    }
-
-    /// What [`parse_front`](Self::parse_front) gives, with the part for which an input is refused.
-    ///
-    /// ```
-    /// let refused = speedate::Time::parse_or_place_front(b"12:00:00-ERROR", &Default::default()).unwrap_err();
-    /// assert_eq!((refused.place, refused.end), (9, 11));
-    /// ```
-    ///
-    /// # Errors
-    ///
-    /// Those of that method.
-    pub fn parse_or_place_front(bytes: &[u8], config: &TimeConfig) -> Result<(Self, usize), Refused> {
-        ffi::speedate_time_parse_or_part(bytes, ffi::FRONT, config)
+    /// Why and where the input is refused; [`ConfigOutOfRange`](crate::Fault::ConfigOutOfRange) if the form is
+    /// [`Form::OrTimestamp`], which times do not have.
+    pub fn parse_or_place(bytes: &[u8], form: Form, config: &TimeConfig) -> Result<(Self, usize), Refused> {
+        ffi::speedate_time_parse_or_part(bytes, form, config)
     }
 
     /// The time so many seconds and microseconds after midnight, on the same day.

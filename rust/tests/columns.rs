@@ -3,24 +3,30 @@
 use std::fmt::Debug;
 
 use speedate::{
-    read_column, read_column_with_errors, read_texts, read_texts_with_errors, Date, DateConfig, DateReader, DateTime,
-    DateTimeClockReader, DateTimeConfig, DateTimeOffsetReader, DateTimeParser, DateTimeReader, Duration,
-    DurationReader, LineConfig, LineError, LineReader, MicrosecondsPrecisionOverflowBehavior, ParseError, Progress,
-    Refused, TextReader, Time, TimeConfig, TimeOffsetReader, TimeParser, TimeReader, TimestampUnit,
+    read_column, read_texts, Date, DateConfig, DateReader, DateTime, DateTimeClockReader, DateTimeConfig,
+    DateTimeOffsetReader, DateTimeParser, DateTimeReader, Duration, DurationReader, Fault, Form, LineConfig,
+    LineReader, MicrosecondsPrecisionOverflowBehavior, ParseError, Progress, Refused, TextReader, Time, TimeConfig,
+    TimeOffsetReader, TimeParser, TimeReader, TimestampUnit,
 };
 
 const TEXTS: usize = 120_000;
 
-/// The error of a line, and where its part begins and ends.
-type Refusal = (LineError, usize, usize);
+/// The fault of a line, where its part begins and ends, and what was expected there.
+type Refusal = (Fault, usize, usize, String);
 
-fn parse_refusal(refused: Refused) -> Refusal {
-    (LineError::Parse(refused.fault), refused.place, refused.end)
+fn refusal(refused: Refused) -> Refusal {
+    let expected = refused.expected().to_string();
+    (refused.fault, refused.start, refused.end, expected)
+}
+
+/// The value of an answer that has a size too.
+fn value<T>(answer: Result<(T, usize), Refused>) -> Result<T, Refusal> {
+    answer.map(|it| it.0).map_err(refusal)
 }
 
 /// The refusal of a line that ends where an offset would begin.
 fn without_offset(line: &[u8]) -> Refusal {
-    (LineError::Parse(ParseError::TzRequired), line.len(), line.len())
+    (Fault::Parse(ParseError::TzRequired), line.len(), line.len(), "an offset: Z or +01:00".to_owned())
 }
 
 #[test]
@@ -35,10 +41,10 @@ fn dates() {
         };
         let answer = |line: &[u8]| {
             let date = match &reader {
-                DateReader::Text => Date::parse_or_place_rfc3339(line),
-                DateReader::OrTimestamp(config) => Date::parse_or_place(line, config),
+                DateReader::Text => Date::parse_or_place(line, Form::Text, &DateConfig::default()),
+                DateReader::OrTimestamp(config) => Date::parse_or_place(line, Form::OrTimestamp, config),
             };
-            Ok(date.map_err(parse_refusal)?.days_since(&epoch))
+            Ok(value(date)?.days_since(&epoch))
         };
         draws.compare(&lines, &reader, i32::MIN, answer);
         draws.compare_texts(&lines, &reader, i32::MIN, answer);
@@ -58,12 +64,16 @@ const DATE_TIMES: [&str; 8] = [
 
 /// The date-time of a line.
 fn date_time(line: &[u8], parser: &DateTimeParser) -> Result<DateTime, Refusal> {
-    let value = match parser {
-        DateTimeParser::Text(config) => DateTime::parse_or_place_rfc3339(line, config),
-        DateTimeParser::OrTimestamp(config) => DateTime::parse_or_place(line, config),
-        DateTimeParser::Strict(behavior) => DateTime::parse_or_place_strict(line, *behavior),
-    };
-    value.map_err(parse_refusal)
+    let with = |time_config| DateTimeConfig { time_config, ..Default::default() };
+    value(match parser {
+        DateTimeParser::Text(config) => DateTime::parse_or_place(line, Form::Text, &with(config.clone())),
+        DateTimeParser::OrTimestamp(config) => DateTime::parse_or_place(line, Form::OrTimestamp, config),
+        DateTimeParser::Strict(behavior) => DateTime::parse_or_place(line, Form::Strict, &with(time_config(*behavior))),
+    })
+}
+
+fn time_config(microseconds_precision_overflow_behavior: MicrosecondsPrecisionOverflowBehavior) -> TimeConfig {
+    TimeConfig { microseconds_precision_overflow_behavior, ..Default::default() }
 }
 
 #[test]
@@ -112,11 +122,10 @@ const TIMES: [&str; 7] =
 
 /// The time of a line.
 fn time(line: &[u8], parser: &TimeParser) -> Result<Time, Refusal> {
-    let value = match parser {
-        TimeParser::Text(config) => Time::parse_or_place(line, config),
-        TimeParser::Strict(behavior) => Time::parse_or_place_strict(line, *behavior),
-    };
-    value.map_err(parse_refusal)
+    value(match parser {
+        TimeParser::Text(config) => Time::parse_or_place(line, Form::Text, config),
+        TimeParser::Strict(behavior) => Time::parse_or_place(line, Form::Strict, &time_config(*behavior)),
+    })
 }
 
 #[test]
@@ -160,15 +169,53 @@ fn durations() {
         let mut draws = Draws::new(seed);
         let reader = DurationReader { config: draws.time_config() };
         let answer = |line: &[u8]| {
-            let duration = Duration::parse_or_place(line, &reader.config).map_err(parse_refusal)?;
+            let duration = value(Duration::parse_or_place(line, Form::Text, &reader.config))?;
             let seconds = i128::from(duration.signed_total_seconds());
             let amount = seconds * 1_000_000 + i128::from(duration.signed_microseconds());
             let number = i64::try_from(amount).ok().filter(|amount| *amount != i64::MIN);
-            number.ok_or((LineError::NumberTooLarge, 0, line.len()))
+            let expected = "a duration of less than 2^63 microseconds".to_owned();
+            number.ok_or((Fault::NumberTooLarge, 0, line.len(), expected))
         };
         draws.compare(&lines, &reader, i64::MIN, answer);
         draws.compare_texts(&lines, &reader, i64::MIN, answer);
     }
+}
+
+/// How many lines of a text a default reader reads, and why not the next.
+fn read_by_default<R: LineReader<Number: Default> + Default>(text: &str) -> (usize, Option<String>) {
+    let (config, mut out) = (LineConfig { at_end: true, drops_returns: false }, [R::Number::default(); 4]);
+    let Progress { lines, error, .. } = read_column(text.as_bytes(), config, &R::default(), &mut out, None).unwrap();
+    (lines, error.map(|refused| refused.to_string()))
+}
+
+#[test]
+fn defaults() {
+    let refused = |why: &str| (1, Some(why.to_owned()));
+    assert_eq!(
+        read_by_default::<DateReader>("2020-02-29\n1582934400"),
+        refused("invalid_char_date_sep at byte 4: expected a hyphen, as in YYYY-MM-DD")
+    );
+    assert_eq!(
+        read_by_default::<DateTimeReader>("2020-02-29 12:13Z\n2020-02-29 12:13"),
+        refused("tz_required at byte 16: expected an offset: Z or +01:00")
+    );
+    assert_eq!(read_by_default::<DateTimeClockReader>("2020-02-29 12:13Z\n2020-02-29 12:13"), (2, None));
+    assert_eq!(
+        read_by_default::<DateTimeOffsetReader>("2020-02-29 12:13+01:00\n1"),
+        refused("too_short at byte 1: expected a date-time: YYYY-MM-DDTHH:MM or YYYY-MM-DDTHH:MM:SS")
+    );
+    assert_eq!(
+        read_by_default::<TimeReader>("12:13\n12:13:14.1234567"),
+        refused("second_fraction_too_long at byte 15: expected at most six digits of a second's fraction")
+    );
+    assert_eq!(
+        read_by_default::<TimeOffsetReader>("12:13Z\n12:13"),
+        refused("tz_required at byte 5: expected an offset: Z or +01:00")
+    );
+    assert_eq!(
+        read_by_default::<DurationReader>("PT1S\nP999999999D"),
+        refused("number_too_large at byte 0: expected a duration of less than 2^63 microseconds")
+    );
 }
 
 /// A generator of pseudorandom numbers, xorshift64.
@@ -247,8 +294,8 @@ impl Draws {
         text
     }
 
-    /// Compares the columns of a drawn text with what the answer to each line gives. The number `least` is that of a line
-    /// that is refused.
+    /// Compares the columns of a drawn text, with errors and without, with what the answer to each line gives. The number
+    /// `least` is that of a line that is refused.
     fn compare<R: LineReader<Number: From<u8> + PartialEq + Debug> + Debug>(
         &mut self,
         lines: &[&str],
@@ -258,39 +305,24 @@ impl Draws {
     ) {
         let text = self.text(lines);
         let config = LineConfig { at_end: self.flag(), drops_returns: self.flag() };
-        let about = format!("{:?}, {config:?}, {reader:?}", String::from_utf8_lossy(&text));
-        let kept = R::Number::from(77);
-        let room = self.below(6);
-
-        let none = Progress { lines: 0, bytes: 0, error: None, place: 0, end: 0 };
-        let mut wanted = none.clone();
-        let mut numbers = vec![kept; room];
-        for (line, end) in cut(&text, config).take(room) {
-            match answer(line) {
-                Ok(number) => numbers[wanted.lines] = number,
-                Err((error, place, end)) => {
-                    wanted = Progress { error: Some(error), place, end, ..wanted };
-                    break;
-                }
-            }
-            wanted = Progress { lines: wanted.lines + 1, bytes: end, ..wanted };
+        for empty in self.empty_columns() {
+            let about = format!("{:?}, {config:?}, {reader:?}, {empty:?}", String::from_utf8_lossy(&text));
+            let mut found = empty.clone();
+            let progress = read_column(&text, config, reader, &mut found.numbers, found.errors.as_deref_mut());
+            assert_eq!(found.reached(progress.unwrap()), empty.filled(cut(&text, config), least, &answer), "{about}");
         }
-        let mut out = vec![kept; room];
-        assert_eq!(read_column(&text, config, reader, &mut out), Ok(wanted), "{about}");
-        assert_eq!(out, numbers, "{about}");
+    }
 
-        let error_room = self.below(6);
-        let mut wanted = none;
-        let (mut numbers, mut codes) = (vec![kept; room], vec![77; error_room]);
-        for (line, end) in cut(&text, config).take(room.min(error_room)) {
-            let answer = answer(line);
-            codes[wanted.lines] = answer.as_ref().map_or_else(|refusal| refusal.0.number(), |_| 0);
-            numbers[wanted.lines] = answer.unwrap_or(least);
-            wanted = Progress { lines: wanted.lines + 1, bytes: end, ..wanted };
-        }
-        let (mut out, mut errors) = (vec![kept; room], vec![77; error_room]);
-        let progress = read_column_with_errors(&text, config, reader, &mut out, &mut errors);
-        assert_eq!((progress, out, errors), (Ok(wanted), numbers, codes), "{about}");
+    /// A column without places for errors, and one with them.
+    fn empty_columns<N: From<u8> + Copy>(&mut self) -> [Column<N>; 2] {
+        let numbers = vec![N::from(77); self.below(6)];
+        [None, Some(vec![77; self.below(6)])].map(|errors| Column {
+            numbers: numbers.clone(),
+            errors,
+            lines: 0,
+            bytes: 0,
+            refused: None,
+        })
     }
 
     /// Bytes, and offsets in them of a few texts that are lines, of which one may be wrong.
@@ -316,46 +348,63 @@ impl Draws {
         answer: impl Fn(&[u8]) -> Result<R::Number, Refusal>,
     ) {
         let (bytes, offsets) = self.texts(lines);
-        let about = format!("{:?}, {offsets:?}, {reader:?}", String::from_utf8_lossy(&bytes));
-        let kept = R::Number::from(77);
-        let (room, error_room) = (self.below(6), self.below(6));
-        let (mut out, mut errors) = (vec![kept; room], vec![77; error_room]);
-        if !offsets.is_sorted() || offsets.iter().any(|&it| it < 0 || it as usize > bytes.len()) {
-            assert_eq!(read_texts(&bytes, &offsets, reader, &mut out), Ok(None), "{about}");
-            assert_eq!(read_texts_with_errors(&bytes, &offsets, reader, &mut out, &mut errors), Ok(None), "{about}");
-            assert_eq!((out, errors), (vec![kept; room], vec![77; error_room]), "{about}");
-            return;
+        let are_right = offsets.is_sorted() && offsets.iter().all(|&it| it >= 0 && it as usize <= bytes.len());
+        for mut empty in self.empty_columns() {
+            let about = format!("{:?}, {offsets:?}, {reader:?}, {empty:?}", String::from_utf8_lossy(&bytes));
+            let mut found = empty.clone();
+            let progress = read_texts(&bytes, &offsets, reader, &mut found.numbers, found.errors.as_deref_mut());
+            let Some(progress) = progress.unwrap() else {
+                assert!(!are_right && found == empty, "{about}");
+                continue;
+            };
+            assert!(are_right, "{about}");
+            empty.bytes = offsets.first().map_or(0, |&it| it as usize);
+            let texts = offsets.windows(2).map(|it| (&bytes[it[0] as usize..it[1] as usize], it[1] as usize));
+            assert_eq!(found.reached(progress), empty.filled(texts, least, &answer), "{about}");
         }
-        let texts = || offsets.windows(2).map(|it| &bytes[it[0] as usize..it[1] as usize]).take(room);
+    }
+}
 
-        let first = offsets.first().map_or(0, |&it| it as usize);
-        let none = Progress { lines: 0, bytes: first, error: None, place: 0, end: 0 };
-        let mut wanted = none.clone();
-        let mut numbers = vec![kept; room];
-        for text in texts() {
-            match answer(text) {
-                Ok(number) => numbers[wanted.lines] = number,
-                Err((error, place, end)) => {
-                    wanted = Progress { error: Some(error), place, end, ..wanted };
+/// The numbers and the errors of a column, and how far it comes.
+#[derive(Clone, Debug, PartialEq)]
+struct Column<N> {
+    numbers: Vec<N>,
+    errors: Option<Vec<u8>>,
+    lines: usize,
+    bytes: usize,
+    refused: Option<Refusal>,
+}
+
+impl<N: Copy> Column<N> {
+    /// The same with what a call has returned.
+    fn reached(self, progress: Progress) -> Self {
+        let Progress { lines, bytes, error } = progress;
+        Self { lines, bytes, refused: error.map(refusal), ..self }
+    }
+
+    /// The same once texts are read, each of which has the number of bytes up to its end.
+    fn filled<'a>(
+        mut self,
+        texts: impl Iterator<Item = (&'a [u8], usize)>,
+        least: N,
+        answer: impl Fn(&[u8]) -> Result<N, Refusal>,
+    ) -> Self {
+        let room = self.errors.as_ref().map_or(usize::MAX, Vec::len).min(self.numbers.len());
+        for (text, end) in texts.take(room) {
+            let answer = answer(text);
+            match (&mut self.errors, &answer) {
+                (Some(errors), _) => errors[self.lines] = answer.as_ref().map_or_else(|it| it.0.number(), |_| 0),
+                (None, Ok(_)) => {}
+                (None, Err(refusal)) => {
+                    self.refused = Some(refusal.clone());
                     break;
                 }
             }
-            wanted = Progress { lines: wanted.lines + 1, bytes: wanted.bytes + text.len(), ..wanted };
+            self.numbers[self.lines] = answer.unwrap_or(least);
+            self.lines += 1;
+            self.bytes = end;
         }
-        assert_eq!(read_texts(&bytes, &offsets, reader, &mut out), Ok(Some(wanted)), "{about}");
-        assert_eq!(out, numbers, "{about}");
-
-        let mut wanted = none;
-        let (mut numbers, mut codes) = (vec![kept; room], vec![77; error_room]);
-        for text in texts().take(error_room) {
-            let answer = answer(text);
-            codes[wanted.lines] = answer.as_ref().map_or_else(|refusal| refusal.0.number(), |_| 0);
-            numbers[wanted.lines] = answer.unwrap_or(least);
-            wanted = Progress { lines: wanted.lines + 1, bytes: wanted.bytes + text.len(), ..wanted };
-        }
-        out = vec![kept; room];
-        let progress = read_texts_with_errors(&bytes, &offsets, reader, &mut out, &mut errors);
-        assert_eq!((progress, out, errors), (Ok(Some(wanted)), numbers, codes), "{about}");
+        self
     }
 }
 

@@ -5,8 +5,8 @@ use std::panic::{catch_unwind, set_hook, take_hook};
 use std::sync::Once;
 
 use speedate::{
-    duration_microseconds, read_column, read_column_with_errors, Date, DateTime, DateTimeConfig, DateTimeParser,
-    DateTimeReader, Duration, DurationReader, LineConfig, LineError, ParseError, Refused, Time, TimeConfig,
+    duration_microseconds, read_column, Date, DateTime, DateTimeConfig, DateTimeParser, DateTimeReader, Duration,
+    DurationReader, Fault, Form, LineConfig, ParseError, Time, TimeConfig,
 };
 
 const DATE: Date = Date { year: 2020, month: 2, day: 29 };
@@ -74,10 +74,12 @@ macro_rules! assert_panics {
 
 #[test]
 fn dates() {
-    for (date, _, field) in DATES {
+    for (date, error, field) in DATES {
         assert_panics!(field; date.to_string(), date.timestamp(), date.timestamp_ms(), date.ordinal_day());
         assert_panics!(field; date.days_since(&DATE), DATE.days_since(&date));
+        assert_panics!(field; Duration::between_dates(&date, &DATE), Duration::between_dates(&DATE, &date));
         assert_eq!(date.checked_add_days(1), None);
+        assert_eq!([DURATION.after_date(&date), DURATION.before_date(&date)], [Err(error.clone()), Err(error)]);
     }
 }
 
@@ -115,8 +117,10 @@ fn durations() {
         assert_panics!(field; it.to_string(), it.signed_total_seconds(), it.signed_total_ms(), it.signed_microseconds());
         assert_eq!([it.after(&start), it.before(&start)], [Err(error.clone()), Err(error.clone())]);
         assert_eq!([it.after(&bad), it.before(&bad)], [Err(error.clone()), Err(error.clone())]);
+        let dates = [it.after_date(&DATE), it.before_date(&DATE), it.after_date(&bad.date), it.before_date(&bad.date)];
+        assert_eq!(dates, [(); 4].map(|()| Err(error.clone())));
         assert_eq!(Duration::sum(&[DURATION, it.clone()]), Err(error.clone()));
-        assert_eq!(duration_microseconds(&it), Err(LineError::Parse(error)));
+        assert_eq!(duration_microseconds(&it), Err(Fault::Parse(error)));
         assert!(it.eq(&it) && it.cmp(&DURATION).is_gt());
     }
 }
@@ -153,13 +157,12 @@ fn configured_offsets() {
         assert_eq!(DateTime::from_timestamp_with_config(1, 0, &config), Err(ParseError::OutOfRangeTz));
         assert_eq!(DateTime::from_float_with_config(1.5, &config), Err(ParseError::OutOfRangeTz));
         assert_eq!(DateTime::parse_str_with_config("1", &config), Err(ParseError::OutOfRangeTz));
-        for text in ["x", "2020-02-29T12:13"] {
-            let refused = Refused { fault: ParseError::OutOfRangeTz, place: 0, end: 0 };
-            assert_eq!(DateTime::parse_or_place(text.as_bytes(), &config), Err(refused));
+        for (text, form) in ["x", "2020-02-29T12:13"].into_iter().zip([Form::Text, Form::OrTimestamp]) {
+            let refused = DateTime::parse_or_place(text.as_bytes(), form, &config).unwrap_err();
+            assert_eq!((refused.fault, refused.start, refused.end), (Fault::ConfigOutOfRange, 0, 0));
         }
-        assert_eq!(DateTime::parse_or_place_rfc3339(b"x", &time_config).unwrap_err().place, 1);
-        assert_eq!(Time::parse_or_place(b"24:00", &time_config).unwrap_err().end, 2);
-        assert_eq!(Duration::parse_or_place(b"P1D1Q", &time_config).unwrap_err().place, 4);
+        assert_eq!(Time::parse_or_place(b"24:00", Form::Text, &time_config).unwrap_err().end, 2);
+        assert_eq!(Duration::parse_or_place(b"P1D1Q", Form::Text, &time_config).unwrap_err().start, 4);
         assert_eq!(Time::parse_bytes_with_config(b"12:13:14Z", &time_config), Ok(TIME));
         assert_eq!(Time::parse_front(b"12:13:14Z x", &time_config), Ok((TIME, 9)));
         assert!(DateTime::parse_bytes_rfc3339_with_config(b"2020-02-29T12:13", &time_config).is_ok());
@@ -167,12 +170,12 @@ fn configured_offsets() {
 
         let (lines, mut out, mut errors) = (LineConfig { at_end: true, drops_returns: false }, [7; 2], [7; 2]);
         let reader = DateTimeReader { parser: DateTimeParser::OrTimestamp(config), assumes_utc: false };
-        assert_eq!(read_column(b"1970-01-01T00:00Z", lines, &reader, &mut out), Err(ParseError::OutOfRangeTz));
-        let with_errors = read_column_with_errors(b"1", lines, &reader, &mut out, &mut errors);
+        assert_eq!(read_column(b"1970-01-01T00:00Z", lines, &reader, &mut out, None), Err(ParseError::OutOfRangeTz));
+        let with_errors = read_column(b"1", lines, &reader, &mut out, Some(&mut errors));
         assert_eq!((with_errors, out, errors), (Err(ParseError::OutOfRangeTz), [7; 2], [7; 2]));
         let reader = DateTimeReader { parser: DateTimeParser::Text(time_config.clone()), ..reader };
-        assert!(read_column(b"1970-01-01T00:00Z", lines, &reader, &mut out).is_ok_and(|it| it.lines == 1));
-        assert!(read_column(b"00:00:01", lines, &DurationReader { config: time_config }, &mut out)
-            .is_ok_and(|it| it.lines == 1));
+        assert!(read_column(b"1970-01-01T00:00Z", lines, &reader, &mut out, None).is_ok_and(|it| it.lines == 1));
+        let reader = DurationReader { config: time_config };
+        assert!(read_column(b"00:00:01", lines, &reader, &mut out, None).is_ok_and(|it| it.lines == 1));
     }
 }

@@ -4,7 +4,8 @@
 use std::fmt::Debug;
 
 use speedate::{
-    Date, DateTime, Duration, MicrosecondsPrecisionOverflowBehavior, ParseError, Refused, Time, TimeConfig,
+    Date, DateConfig, DateTime, DateTimeConfig, Duration, Fault, Form, MicrosecondsPrecisionOverflowBehavior,
+    ParseError, Refused, Time, TimeConfig,
 };
 use MicrosecondsPrecisionOverflowBehavior::{Error, Truncate};
 
@@ -19,6 +20,9 @@ const FEW_DURATION_BYTES: &[u8] = b"19PTDS.: d";
 /// How many bytes something takes at the front of a text, or its error and the place of that.
 type Taken = Result<usize, (ParseError, usize)>;
 
+/// The value of a text, and how many bytes it takes, or the error.
+type Answer<T> = Result<(T, usize), ParseError>;
+
 /// The same with the error of what goes on after it.
 type Front = Result<(usize, ParseError), (ParseError, usize)>;
 
@@ -26,8 +30,9 @@ type Front = Result<(usize, ParseError), (ParseError, usize)>;
 fn dates() {
     for template in ["2020-02-29", "1999-12-31x", "2021-06-30T1"] {
         each_text(template, BYTES, FEW_BYTES, |text| {
-            same(text, Date::parse_bytes_rfc3339(text), Date::parse_or_place_rfc3339(text), whole_date(text));
-            same(text, Date::parse_front(text), Date::parse_or_place_front(text), date(text));
+            let placed = |form| Date::parse_or_place(text, form, &DateConfig::default());
+            same(text, whole(text, Date::parse_bytes_rfc3339(text)), placed(Form::Text), whole_date(text));
+            same(text, Date::parse_front(text), placed(Form::Front), date(text));
         });
     }
 }
@@ -40,17 +45,13 @@ fn times() {
         let config = TimeConfig { microseconds_precision_overflow_behavior: behavior, ..TimeConfig::default() };
         for template in templates {
             each_text(template, BYTES, FEW_BYTES, |text| {
-                let whole = whole_time(text, behavior);
-                same(text, Time::parse_bytes_with_config(text, &config), Time::parse_or_place(text, &config), whole);
+                let placed = |form| Time::parse_or_place(text, form, &config);
+                let relaxed = whole(text, Time::parse_bytes_with_config(text, &config));
+                same(text, relaxed, placed(Form::Text), whole_time(text, behavior));
                 let strict = whole_time(text, behavior).and_then(|_| strict_time(text));
-                same(
-                    text,
-                    Time::parse_bytes_strict(text, behavior),
-                    Time::parse_or_place_strict(text, behavior),
-                    strict,
-                );
+                same(text, whole(text, Time::parse_bytes_strict(text, behavior)), placed(Form::Strict), strict);
                 let front = time(text, behavior).map(|(size, _)| size);
-                same(text, Time::parse_front(text, &config), Time::parse_or_place_front(text, &config), front);
+                same(text, Time::parse_front(text, &config), placed(Form::Front), front);
             });
         }
     }
@@ -58,17 +59,16 @@ fn times() {
 
 #[test]
 fn date_times() {
-    let config = TimeConfig::default();
     for template in
         ["2020-02-29T12:13", "2020-02-29 12:13:14.5Z", "2020-02-29T12:13:14+01:30", "2020-02-29t12:13:14−0130"]
     {
         each_text(template, BYTES, FEW_BYTES, |text| {
-            let place = DateTime::parse_or_place_rfc3339(text, &config);
-            same(text, DateTime::parse_bytes_rfc3339_with_config(text, &config), place, whole_date_time(text));
+            let placed = |form| DateTime::parse_or_place(text, form, &DateTimeConfig::default());
+            same(text, whole(text, DateTime::parse_bytes_rfc3339(text)), placed(Form::Text), whole_date_time(text));
             let strict = whole_date_time(text).and_then(|_| strict_date_time(text));
-            same(text, DateTime::parse_bytes_strict(text, Error), DateTime::parse_or_place_strict(text, Error), strict);
+            same(text, whole(text, DateTime::parse_bytes_strict(text, Error)), placed(Form::Strict), strict);
             let front = date_time(text).map(|(size, _)| size);
-            same(text, DateTime::parse_front(text, &config), DateTime::parse_or_place_front(text, &config), front);
+            same(text, DateTime::parse_front(text, &TimeConfig::default()), placed(Form::Front), front);
         });
     }
 }
@@ -78,8 +78,9 @@ fn durations() {
     let try_text = |text: &[u8]| {
         for behavior in [Error, Truncate] {
             let config = TimeConfig { microseconds_precision_overflow_behavior: behavior, ..TimeConfig::default() };
-            let place = Duration::parse_or_place(text, &config);
-            same(text, Duration::parse_bytes_with_config(text, &config), place, duration(text, behavior));
+            let placed = Duration::parse_or_place(text, Form::Text, &config);
+            let answer = whole(text, Duration::parse_bytes_with_config(text, &config));
+            same(text, answer, placed, duration(text, behavior));
         }
     };
     for size in 0..=4 {
@@ -100,15 +101,23 @@ fn durations() {
     }
 }
 
-/// The error and the place are to be those of the tables, and with the place the answer is to be the same.
-fn same<T: Debug + PartialEq>(text: &[u8], answer: Result<T, ParseError>, placed: Result<T, Refused>, taken: Taken) {
-    let found = placed.as_ref().err().map(|refused| (refused.fault.clone(), refused.place));
-    assert_eq!(found, taken.err(), "{}", String::from_utf8_lossy(text));
-    if let Err(Refused { fault, place, end }) = &placed {
-        assert!(place <= end && *end <= text.len(), "{}", String::from_utf8_lossy(text));
-        assert_eq!(fault.part_end(text, *place), *end, "{}", String::from_utf8_lossy(text));
-    }
-    assert_eq!(placed.map_err(ParseError::from), answer, "{}", String::from_utf8_lossy(text));
+/// The answer of a parser of whole texts, with the size of the text.
+fn whole<T>(text: &[u8], answer: Result<T, ParseError>) -> Answer<T> {
+    answer.map(|value| (value, text.len()))
+}
+
+/// The size, or the error and its place, are to be those of the tables, and with the place the answer is to be the same.
+fn same<T: Debug + PartialEq>(text: &[u8], answer: Answer<T>, placed: Result<(T, usize), Refused>, taken: Taken) {
+    let about = String::from_utf8_lossy(text);
+    let placed = placed.map_err(|Refused { fault, start, end, .. }| {
+        assert!(start <= end && end <= text.len(), "{about}");
+        match fault {
+            Fault::Parse(error) => (error, start),
+            fault => panic!("{fault} of {about}"),
+        }
+    });
+    assert_eq!(placed.as_ref().map(|it| it.1).map_err(Clone::clone), taken, "{about}");
+    assert_eq!(placed.map_err(|it| it.0), answer, "{about}");
 }
 
 /// A template cut anywhere, with two of its bytes changed in each way, and with three changed to few others.

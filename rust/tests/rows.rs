@@ -5,12 +5,11 @@ use std::panic::{catch_unwind, set_hook, take_hook};
 use std::str::FromStr;
 
 use speedate::{
-    duration_microseconds, int_parse_str, print_column, read_column, read_column_with_errors, read_texts,
-    read_texts_with_errors, Date, DateConfig, DatePrinter, DateReader, DateTime, DateTimeClockPrinter,
-    DateTimeClockReader, DateTimeConfig, DateTimeOffsetReader, DateTimeParser, DateTimePrinter, DateTimeReader,
-    Duration, DurationPrinter, DurationReader, LineConfig, LinePrinter, LineReader,
-    MicrosecondsPrecisionOverflowBehavior, ParseError, Progress, Refused, TextReader, Time, TimeConfig,
-    TimeOffsetReader, TimeParser, TimePrinter, TimeReader, TimestampUnit,
+    duration_microseconds, int_parse_str, print_column, read_column, read_texts, Date, DateConfig, DatePrinter,
+    DateReader, DateTime, DateTimeClockPrinter, DateTimeClockReader, DateTimeConfig, DateTimeOffsetReader,
+    DateTimeParser, DateTimePrinter, DateTimeReader, Duration, DurationPrinter, DurationReader, Form, LineConfig,
+    LinePrinter, LineReader, MicrosecondsPrecisionOverflowBehavior, ParseError, Progress, Refused, TextReader, Time,
+    TimeConfig, TimeOffsetReader, TimeParser, TimePrinter, TimeReader, TimestampUnit,
 };
 
 const ROWS: &str = include_str!("../../c/tests/rows.txt");
@@ -52,9 +51,6 @@ impl Row<'_> {
             "date_parse" => self.has(3, Date::parse_bytes_with_config(text(2), &self.get(1)?)),
             "date_parse_text" => self.has(2, Date::parse_bytes_rfc3339(text(1))),
             "date_parse_front" => self.has_front(2, Date::parse_front(text(1))),
-            "date_parse_or_part" => self.has_or_part(3, Date::parse_or_place(text(2), &self.get(1)?)),
-            "date_parse_or_part_text" => self.has_or_part(2, Date::parse_or_place_rfc3339(text(1))),
-            "date_parse_or_part_front" => self.has_front_or_part(2, Date::parse_or_place_front(text(1))),
             "date_to_text" => self.has_text(2, self.get::<Date>(1)?),
             "date_from_timestamp" => {
                 let is_exact = *[false, true].get(self.get::<i64>(2)? as usize)?;
@@ -71,11 +67,6 @@ impl Row<'_> {
             "time_parse" => self.has(3, Time::parse_bytes_with_config(text(2), &time_config(1)?)),
             "time_parse_strict" => self.has(3, Time::parse_bytes_strict(text(2), behavior(1)?)),
             "time_parse_front" => self.has_front(3, Time::parse_front(text(2), &time_config(1)?)),
-            "time_parse_or_part" => self.has_or_part(3, Time::parse_or_place(text(2), &time_config(1)?)),
-            "time_parse_or_part_strict" => self.has_or_part(3, Time::parse_or_place_strict(text(2), behavior(1)?)),
-            "time_parse_or_part_front" => {
-                self.has_front_or_part(3, Time::parse_or_place_front(text(2), &time_config(1)?))
-            }
             "time_to_text" => self.has_text(2, self.get::<Time>(1)?),
             "time_to_text_with_digits" => self.has_text(3, format!("{:.*}", self.digits()?, self.get::<Time>(1)?)),
             "time_compare" => self.has_order::<Time>()?,
@@ -89,16 +80,6 @@ impl Row<'_> {
             "datetime_parse_text" => self.has(3, DateTime::parse_bytes_rfc3339_with_config(text(2), &time_config(1)?)),
             "datetime_parse_strict" => self.has(3, DateTime::parse_bytes_strict(text(2), behavior(1)?)),
             "datetime_parse_front" => self.has_front(3, DateTime::parse_front(text(2), &time_config(1)?)),
-            "datetime_parse_or_part" => self.has_or_part(3, DateTime::parse_or_place(text(2), &config(1)?)),
-            "datetime_parse_or_part_text" => {
-                self.has_or_part(3, DateTime::parse_or_place_rfc3339(text(2), &time_config(1)?))
-            }
-            "datetime_parse_or_part_strict" => {
-                self.has_or_part(3, DateTime::parse_or_place_strict(text(2), behavior(1)?))
-            }
-            "datetime_parse_or_part_front" => {
-                self.has_front_or_part(3, DateTime::parse_or_place_front(text(2), &time_config(1)?))
-            }
             "datetime_to_text" => self.has_text(2, self.get::<DateTime>(1)?),
             "datetime_to_text_with_digits" => {
                 self.has_text(3, format!("{:.*}", self.digits()?, self.get::<DateTime>(1)?))
@@ -114,7 +95,6 @@ impl Row<'_> {
             "datetime_unix_microseconds" => self.has_total(self.get::<DateTime>(1)?.timestamp_tz_us()),
             "datetime_in_timezone" => self.has(3, self.get::<DateTime>(1)?.in_timezone(self.get(2)?)),
             "duration_parse" => self.has(3, Duration::parse_bytes_with_config(text(2), &time_config(1)?)),
-            "duration_parse_or_part" => self.has_or_part(3, Duration::parse_or_place(text(2), &time_config(1)?)),
             "duration_normalize" => {
                 let Duration { positive, day, second, microsecond } = self.get(1)?;
                 self.has(2, Duration::new(positive, day, second, microsecond))
@@ -138,6 +118,9 @@ impl Row<'_> {
             "duration_between" => self.get(4) == Some(Duration::between(&self.get(1)?, &self.get(2)?)),
             "duration_after" => self.has(3, self.get::<Duration>(1)?.after(&self.get(2)?)),
             "duration_before" => self.has(3, self.get::<Duration>(1)?.before(&self.get(2)?)),
+            "duration_between_dates" => self.get(4) == Some(Duration::between_dates(&self.get(1)?, &self.get(2)?)),
+            "duration_after_date" => self.has(3, self.get::<Duration>(1)?.after_date(&self.get(2)?)),
+            "duration_before_date" => self.has(3, self.get::<Duration>(1)?.before_date(&self.get(2)?)),
             "date_column" => {
                 let config: DateConfig = self.get(1)?;
                 let readers = [DateReader::Text, DateReader::OrTimestamp(config)];
@@ -168,7 +151,29 @@ impl Row<'_> {
             "datetime_clock_print_column" => self.has_lines(&DateTimeClockPrinter),
             "time_print_column" => self.has_lines(&TimePrinter),
             "duration_print_column" => self.has_lines(&DurationPrinter),
-            _ => return None,
+            call => self.has_form(call.split_once("_parse_or_part")?)?,
+        })
+    }
+
+    /// Whether the parser of a type in a form, which ends the name of the call, has this answer.
+    fn has_form(&self, (kind, form): (&str, &str)) -> Option<bool> {
+        let form = match (kind, form) {
+            ("date" | "datetime", "") => Form::OrTimestamp,
+            (_, "" | "_text") => Form::Text,
+            (_, "_strict") => Form::Strict,
+            (_, "_front") => Form::Front,
+            _ => panic!("{kind} in the form {form}"),
+        };
+        let config = || self.get::<DateTimeConfig>(1);
+        let text = self.0[2].as_bytes();
+        Some(match (kind, form) {
+            ("date", Form::OrTimestamp) => self.has_or_part(3, Date::parse_or_place(text, form, &self.get(1)?)),
+            ("date", _) => {
+                self.has_or_part(2, Date::parse_or_place(self.0[1].as_bytes(), form, &DateConfig::default()))
+            }
+            ("time", _) => self.has_or_part(3, Time::parse_or_place(text, form, &config()?.time_config)),
+            ("datetime", _) => self.has_or_part(3, DateTime::parse_or_place(text, form, &config()?)),
+            _ => self.has_or_part(3, Duration::parse_or_place(text, form, &config()?.time_config)),
         })
     }
 
@@ -192,52 +197,49 @@ impl Row<'_> {
         }
     }
 
-    /// Whether a column has these numbers, errors and progress. A column without errors that goes on is none of the API.
+    /// Whether a column has these numbers, errors and progress.
     fn has_column<R: LineReader<Number: Default + ToString>>(&self, reader: &R) -> Option<bool> {
-        let Column { lines, goes_on, .. } = self.get(2)?;
-        let text = self.0[4].replace("\\n", "\n").replace("\\r", "\r");
-        let rooms: Vec<usize> = self.0[3].split(' ').map(|room| room.parse().unwrap()).collect();
-        let mut out = vec![R::Number::default(); rooms[0]];
-        let (progress, errors) = match rooms[..] {
-            [_] | [_, 0] if goes_on => return None,
-            [_] | [_, 0] => (read_column(text.as_bytes(), lines, reader, &mut out), None),
-            _ => {
-                let mut errors = vec![0; rooms[1]];
-                let progress = read_column_with_errors(text.as_bytes(), lines, reader, &mut out, &mut errors);
-                (progress, Some(errors))
-            }
-        };
-        let progress = progress.unwrap();
+        let (mut out, mut errors) = self.places::<R::Number>()?;
+        let text = self.lines(4);
+        let lines = self.get::<Column>(2)?.lines;
+        let progress = read_column(text.as_bytes(), lines, reader, &mut out, errors.as_deref_mut()).unwrap();
         Some(is_read(&self.0[5..], &progress, &out, errors.as_deref()))
     }
 
     /// The same of a column of texts.
     fn has_texts<R: TextReader<Number: Default + ToString>>(&self, reader: &R) -> Option<bool> {
-        let goes_on = self.get::<Column>(2)?.goes_on;
-        let bytes = self.0[5].replace("\\n", "\n").replace("\\r", "\r");
-        let rooms: Vec<usize> = self.0[3].split(' ').map(|room| room.parse().unwrap()).collect();
+        let (mut out, mut errors) = self.places::<R::Number>()?;
+        let bytes = self.lines(5);
         let offsets: Vec<i32> = self.0[4].split_whitespace().map(|it| it.parse().unwrap()).collect();
-        let mut out = vec![R::Number::default(); rooms[0]];
-        let mut errors = (rooms.get(1).copied().unwrap_or(0) > 0).then(|| vec![0; rooms[1]]);
-        let progress = match &mut errors {
-            None if goes_on => return None,
-            None => read_texts(bytes.as_bytes(), &offsets, reader, &mut out),
-            Some(errors) => read_texts_with_errors(bytes.as_bytes(), &offsets, reader, &mut out, errors),
-        };
+        let progress = read_texts(bytes.as_bytes(), &offsets, reader, &mut out, errors.as_deref_mut());
         let Some(progress) = progress.unwrap() else {
             return Some(self.0[6..] == ["value_out_of_range"]);
         };
         Some(is_read(&self.0[6..], &progress, &out, errors.as_deref()))
     }
 
+    /// A text that may have several lines.
+    fn lines(&self, place: usize) -> String {
+        self.0[place].replace("\\n", "\n").replace("\\r", "\r")
+    }
+
+    /// The places of a column for numbers and for errors. A column without these that goes on is none of the API.
+    fn places<N: Default + Copy>(&self) -> Option<(Vec<N>, Option<Vec<u8>>)> {
+        let rooms: Vec<usize> = self.0[3].split(' ').map(|room| room.parse().unwrap()).collect();
+        let errors = rooms.get(1).filter(|room| **room > 0).map(|room| vec![0; *room]);
+        (errors.is_some() || !self.get::<Column>(2)?.goes_on).then(|| (vec![N::default(); rooms[0]], errors))
+    }
+
     /// Whether numbers have these lines and this progress.
     fn has_lines<P: LinePrinter<Number: FromStr<Err: Debug>>>(&self, printer: &P) -> bool {
         let numbers: Vec<P::Number> = self.0[2].split_whitespace().map(|it| it.parse().unwrap()).collect();
         let mut out = vec![b'-'; self.0[1].parse().unwrap()];
-        let Progress { lines, bytes, error, place, end } = print_column(&numbers, printer, &mut out);
-        assert_eq!((place, end), (0, 0), "a number has no part");
+        let Progress { lines, bytes, error } = print_column(&numbers, printer, &mut out);
         let (text, rest) = out.split_at(bytes);
-        let error = error.map_or("ok".to_owned(), |error| error.to_string());
+        let error = error.map_or("ok".to_owned(), |refused| {
+            assert_eq!((refused.start, refused.end), (0, 0), "a number has no part");
+            refused.fault.to_string()
+        });
         let written = [text.escape_ascii().to_string(), format!("{lines} {bytes} {error}")];
         rest.iter().all(|byte| *byte == b'-') && self.0[3] == "ok" && self.0[4..] == written
     }
@@ -265,23 +267,15 @@ impl Row<'_> {
         self.has(place, answer.map(|front| front.0)) && self.get::<i64>(place + 2).unwrap_or(0) == size as i64
     }
 
-    /// Whether a part is this one, if the input is refused.
-    fn has_or_part<T: Field + PartialEq>(&self, place: usize, answer: Result<T, Refused>) -> bool {
-        let part = answer.as_ref().err().map(|refused| format!("{} {} ", refused.place, refused.end));
-        match self.0[place] {
-            "config_out_of_range" => {
-                matches!(answer, Err(Refused { fault: ParseError::OutOfRangeTz, place: 0, end: 0 }))
+    /// Whether a value has this size, which only a row of fronts names, or a refusal this part.
+    fn has_or_part<T: Field + PartialEq>(&self, place: usize, answer: Result<(T, usize), Refused>) -> bool {
+        let is_there = match &answer {
+            Ok((_, size)) => self.get(place + 2).unwrap_or(self.0[place - 1].len()) == *size,
+            Err(Refused { start, end, .. }) => {
+                self.0.get(place + 1).unwrap_or(&"0 0 ").starts_with(&format!("{start} {end} "))
             }
-            _ => {
-                self.has(place, answer.map_err(|refused| refused.fault))
-                    && part.is_none_or(|part| self.0[place + 1].starts_with(&part))
-            }
-        }
-    }
-
-    fn has_front_or_part<T: Field + PartialEq>(&self, place: usize, answer: Result<(T, usize), Refused>) -> bool {
-        let size = answer.as_ref().ok().map(|front| front.1 as i64);
-        self.has_or_part(place, answer.map(|front| front.0)) && (size.is_none() || self.get::<i64>(place + 2) == size)
+        };
+        is_there && self.has(place, answer.map(|it| it.0).map_err(|refused| refused.fault))
     }
 
     /// The digits of a second that a row prints, if a precision can ask for them.
@@ -305,10 +299,10 @@ impl Row<'_> {
 
 /// Whether a row has these numbers, errors and progress of a column. It also has the kind of the part, which the API has not.
 fn is_read(row: &[&str], progress: &Progress, numbers: &[impl ToString], errors: Option<&[u8]>) -> bool {
-    let Progress { lines, bytes, error, place, end } = progress;
+    let Progress { lines, bytes, error } = progress;
     let reached = match error {
         None => format!("{lines} {bytes} ok"),
-        Some(error) => format!("{lines} {bytes} {error} {place} {end} "),
+        Some(Refused { fault, start, end, .. }) => format!("{lines} {bytes} {fault} {start} {end} "),
     };
     let mut written = vec!["ok".to_owned(), joined(&numbers[..*lines])];
     written.extend(errors.map(|errors| joined(&errors[..*lines])));

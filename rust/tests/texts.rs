@@ -3,8 +3,8 @@
 use std::collections::{BTreeMap, HashMap};
 
 use speedate::{
-    float_parse_bytes, float_parse_str, CallKind, ConfigError, Date, DateTime, Duration,
-    MicrosecondsPrecisionOverflowBehavior, ParseError, Time, TimestampUnit,
+    float_parse_bytes, float_parse_str, ConfigError, Date, DateTime, Duration, MicrosecondsPrecisionOverflowBehavior,
+    ParseError, Time, TimestampUnit,
 };
 
 #[test]
@@ -48,28 +48,6 @@ fn formats() {
     assert_eq!(format!("{:12}|{:-^15}", ParseError::TooShort, ParseError::TooShort), "too_short   |---too_short---");
     let date = Date { year: 2020, month: 2, day: 29 };
     assert_eq!(format!("{date:>12}|{date:.4}|{date}"), "2020-02-29|2020-02-29|2020-02-29");
-}
-
-#[test]
-fn what_was_expected() {
-    use CallKind::*;
-    let shown = |error: ParseError, kind| error.expected(kind).to_string();
-    for (kind, wanted) in [
-        (Values, "a longer text"),
-        (CallKind::Date, "a date: YYYY-MM-DD"),
-        (DateOrTimestamp, "a date, YYYY-MM-DD, or a whole number"),
-        (CallKind::Time, "a time: HH:MM or HH:MM:SS"),
-        (TimeStrict, "a time with an offset: HH:MM:SSZ or HH:MM:SS+01:00"),
-        (CallKind::DateTime, "a date-time: YYYY-MM-DDTHH:MM or YYYY-MM-DDTHH:MM:SS"),
-        (DateTimeOrTimestamp, "a date-time, as YYYY-MM-DDTHH:MM:SS, or a number"),
-        (DateTimeStrict, "a date-time with an offset, as YYYY-MM-DDTHH:MM:SSZ"),
-        (CallKind::Duration, "more of a duration, as in P1DT2H, 01:30:00 or 2 days, 10:20"),
-    ] {
-        assert_eq!(shown(ParseError::TooShort, kind), wanted);
-    }
-    assert_eq!(shown(ParseError::ExtraCharacters, CallKind::Time), "nothing more");
-    assert_eq!(shown(ParseError::TimeTooLarge, Values), "a time within the day: 00:00:00 to 23:59:59.999999");
-    assert_eq!(format!("{:>17}|", ParseError::OutOfRangeMonth.expected(CallKind::Date)), "  month, 01 to 12|");
 }
 
 #[test]

@@ -7,6 +7,7 @@ use Rattle.speedate_base.specs.Config.{choices, time_choices}
 use Rattle.speedate_base.specs.Fault.{fault_number}
 use Rattle.speedate_base.specs.Part.{part_end}
 use Rattle.speedate_base.specs.Refused.{placed, refused_place}
+use Rattle.speedate_base.specs.declared.refusal.Refused.{Refused}
 use Rattle.speedate_base.specs.Requirement.{◌else_fault◌, ◌>>=◌, first_fault_or, result_and_then}
 use Rattle.speedate_civil.specs.Calendar.{Ymd, days_between}
 use Rattle.speedate_civil.specs.Date.{date_answer, date_answer_or, date_or_timestamp}
@@ -281,17 +282,15 @@ date_time_place (DateTimeParser.OrTimestamp config) line =
 date_time_place (DateTimeParser.Strict behavior) line =
     unwrap_or (refused_place (strict_date_time_answer_or placed behavior line)) (length line)
 
--- how many bytes the value at the front of a text takes; 0 if there is none
-abbrev pub front_size : {A E : Type 0} → Result (A × ℕ) E → ℕ
-front_size (Ok front) = front.1
-front_size (Err refusal) = 0
+-- how many bytes the value at the front of a text takes, or the place of the text's error
+abbrev pub size_or_place : {A : Type 0} → Result (A × ℕ) Refused → ℕ
+size_or_place (Ok front) = front.1
+size_or_place (Err refused) = refused.place
 
 -- the place of a line in a column of date-times at the front of lines: the end of the date-time,
 -- if an offset is missing
 abbrev pub front_place : Behavior → List ℕ → ℕ
-front_place behavior line =
-    unwrap_or (refused_place (date_time_front_or placed behavior line))
-    (front_size (date_time_front behavior line))
+front_place behavior line = size_or_place (date_time_front_or placed behavior line)
 
 abbrev pub date_time_front_place : DateTimeFrontReader → List ℕ → ℕ
 date_time_front_place reader line = front_place (time_choices reader.config).behavior line

@@ -1,1 +1,2 @@
 mod ColumnCallLemmas
+mod PartLemmas

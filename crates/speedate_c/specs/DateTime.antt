@@ -1,14 +1,14 @@
 -- What a date-time from outside says, and how a date-time is written.
-use Rattle.std.specs.Prelude.{ℤ, List, ℕ, length, Option, Some, None, Result, if◌then◌else◌}
+use Rattle.std.specs.Prelude.{ℤ, List, ℕ, Option, Some, None, Result, if◌then◌else◌}
 use Rattle.std.specs.Ordering.{int_eq}
 use Rattle.speedate.specs.Base.{CallKind, ParseError}
 use Rattle.speedate.specs.Config.{Choices}
-use Rattle.speedate.specs.DateTime.{DateAndTime, date_time_answer, date_time_answer_or}
-use Rattle.speedate.specs.DateTime.{date_time_front, date_time_front_or}
-use Rattle.speedate.specs.DateTime.{date_time_or_timestamp, date_time_or_timestamp_or}
-use Rattle.speedate.specs.Refused.{placed, refused_place}
+use Rattle.speedate.specs.DateTime.{DateAndTime, date_time_answer_or}
+use Rattle.speedate.specs.DateTime.{date_time_front_or}
+use Rattle.speedate.specs.DateTime.{date_time_or_timestamp_or}
+use Rattle.speedate.specs.Refused.{placed}
 use Rattle.speedate.specs.Requirement.{result_and_then, result_map}
-use Rattle.speedate.specs.Strict.{strict_date_time_answer, strict_date_time_answer_or}
+use Rattle.speedate.specs.Strict.{strict_date_time_answer_or}
 use Rattle.speedate_c.specs.Code.{front_form, or_timestamp_form, strict_form, text_form}
 use Rattle.speedate_c.specs.Date.{date_of, shown_date}
 use Rattle.speedate_c.specs.Time.{time_of, shown_time}
@@ -30,17 +30,13 @@ shown_date_time value = record { date = shown_date value.date; time = shown_time
 abbrev pub date_time_reading : ℤ → Choices → List ℕ → Option (Reading DateAndTime)
 date_time_reading form chosen text =
     if int_eq form text_form
-    then Some (whole text CallKind.DateTime (date_time_answer chosen.behavior text)
-    (refused_place (date_time_answer_or placed chosen.behavior text)))
+    then Some (whole text CallKind.DateTime (date_time_answer_or placed chosen.behavior text))
     else (if int_eq form or_timestamp_form
     then Some (whole text CallKind.DateTimeOrTimestamp
-    (date_time_or_timestamp chosen.unit chosen.behavior chosen.offset text)
-    (refused_place
-    (date_time_or_timestamp_or placed chosen.unit chosen.behavior chosen.offset text)))
+    (date_time_or_timestamp_or placed chosen.unit chosen.behavior chosen.offset text))
     else (if int_eq form strict_form
-    then Some (whole text CallKind.DateTimeStrict (strict_date_time_answer chosen.behavior text)
-    (refused_place (strict_date_time_answer_or placed chosen.behavior text)))
+    then Some (whole text CallKind.DateTimeStrict
+    (strict_date_time_answer_or placed chosen.behavior text))
     else (if int_eq form front_form
-    then Some (front CallKind.DateTime (date_time_front chosen.behavior text)
-    (refused_place (date_time_front_or placed chosen.behavior text)))
+    then Some (front CallKind.DateTime (date_time_front_or placed chosen.behavior text))
     else None)))

@@ -1,10 +1,10 @@
 -- What a duration from outside says, and how a duration is written.
-use Rattle.std.specs.Prelude.{ℕ, ◌==◌, nat_le, nat_lt, Bool, true, false, List, [], ◌∷◌, length, Option, Some, None, Result, Ok, ℤ, ◌+ℤ◌, if◌then◌else◌}
+use Rattle.std.specs.Prelude.{ℕ, ◌==◌, nat_le, nat_lt, Bool, true, false, List, [], ◌∷◌, Option, Some, None, Result, Ok, ℤ, ◌+ℤ◌, if◌then◌else◌}
 use Rattle.std.specs.Ordering.{int_eq}
 use Rattle.speedate.specs.Base.{CallKind, ParseError}
 use Rattle.speedate.specs.Config.{Choices}
-use Rattle.speedate.specs.Duration.{duration_answer, duration_answer_or, signed_amount}
-use Rattle.speedate.specs.Refused.{placed, refused_place}
+use Rattle.speedate.specs.Duration.{duration_answer_or, signed_amount}
+use Rattle.speedate.specs.Refused.{placed}
 use Rattle.speedate_c.specs.Code.{text_form}
 use Rattle.speedate.specs.DurationNumbers.{DurationNumbers}
 use Rattle.speedate.specs.Timestamp.{seconds_per_day}
@@ -60,6 +60,6 @@ sum_after sum (duration ∷ durations) =
 abbrev pub duration_reading : ℤ → Choices → List ℕ → Option (Reading DurationNumbers)
 duration_reading form chosen text =
     if int_eq form text_form
-    then Some (whole text CallKind.Duration (duration_answer chosen.order chosen.behavior text)
-    (refused_place (duration_answer_or placed chosen.order chosen.behavior text)))
+    then Some (whole text CallKind.Duration
+    (duration_answer_or placed chosen.order chosen.behavior text))
     else None

@@ -4,8 +4,9 @@ use Rattle.std.specs.Prelude.{ℕ, ◌+◌, ℤ, pos, List, ◌∷◌, ◌++◌,
 use Rattle.speedate.specs.Base.{CallKind, ParseError}
 use Rattle.speedate.specs.declared.LineError.{LineError}
 use Rattle.speedate.specs.Part.{part_end}
+use Rattle.speedate.specs.declared.Refused.{Refused}
 use Rattle.speedate.specs.Requirement.{result_map}
-use Rattle.speedate_c.specs.Code.{buffer_too_small, fault_code, fault_of, kind_number}
+use Rattle.speedate_c.specs.Code.{buffer_too_small, fault_code, kind_number}
 use Rattle.speedate_c.specs.Code.{line_error_code, no_such_date, success}
 use Rattle.speedate_c.specs.declared.part.SpeedatePart.{SpeedatePart}
 
@@ -42,42 +43,33 @@ abbrev pub part_at : ParseError → CallKind → List ℕ → ℕ → SpeedatePa
 part_at fault kind text place =
     record { start = place; end = part_end fault text place; kind = kind_number kind }
 
--- the value at the front of a text, without its size
-abbrev pub without_size : {A : Type 0} → Result (A × ℕ) ParseError → Result A ParseError
-without_size (Ok front) = Ok front.0
-without_size (Err fault) = Err fault
-
--- how many bytes the value at the front of a text takes
-abbrev pub front_size : {A : Type 0} → Result (A × ℕ) ParseError → ℕ
-front_size (Ok front) = front.1
-front_size (Err fault) = 0
-
--- how a form reads a text: its answer with the size of the value, the kind of calls that read as it
--- does, and the place for which it refuses the text
+-- how a form reads a text: its answer with the size of the value, and the kind of calls that read
+-- as it does
 pub record Reading (A : Type 0) : Type 0 where
-  pub answer : Result (A × ℕ) ParseError
+  pub answer : Result (A × ℕ) Refused
   pub kind : CallKind
-  pub place : Option ℕ
 
 -- how a form reads a text that is a value as a whole
-abbrev pub whole : {A : Type 0} → List ℕ → CallKind → Result A ParseError → Option ℕ → Reading A
-whole text kind answer place = record {
-  answer = result_map (λ value. (value, length text)) answer;
-  kind = kind;
-  place = place;
-}
+abbrev pub whole : {A : Type 0} → List ℕ → CallKind → Result A Refused → Reading A
+whole text kind answer =
+    record { answer = result_map (λ value. (value, length text)) answer; kind = kind }
 
 -- how a form reads a value at the front of a text
-abbrev pub front : {A : Type 0} → CallKind → Result (A × ℕ) ParseError → Option ℕ → Reading A
-front kind answer place = record { answer = answer; kind = kind; place = place }
+abbrev pub front : {A : Type 0} → CallKind → Result (A × ℕ) Refused → Reading A
+front kind answer = record { answer = answer; kind = kind }
 
--- written of a code that a form gave for a text: if it is that of a fault, the part that the fault
--- is about, which begins at its place, and otherwise where the value ends
-abbrev pub written_part : {A : Type 0} → ℤ → Reading A → List ℕ → SpeedatePart
-written_part code reading text =
-    with_option (fault_of code)
-    (record { start = 0; end = front_size reading.answer; kind = pos 0 })
-    (λ fault. with_option reading.place no_part (part_at fault reading.kind text))
+-- written of what was read: its value as C sees it
+abbrev pub written_front : {A B : Type 0} → (A → B) → B → Result (A × ℕ) Refused → ℤ × B
+written_front shown before (Ok front) = (success, shown front.0)
+written_front shown before (Err refused) = (fault_code refused.fault, before)
+
+-- the part beside it: where the value ends, or what the fault is about, from its place on
+abbrev pub part_beside : {A : Type 0} → CallKind → List ℕ → Result (A × ℕ) Refused → SpeedatePart
+part_beside kind text (Ok front) = record { start = 0; end = front.1; kind = pos 0 }
+part_beside kind text (Err refused) = part_at refused.fault kind text refused.place
+
+abbrev pub written_part : {A : Type 0} → List ℕ → Reading A → SpeedatePart
+written_part text reading = part_beside reading.kind text reading.answer
 
 -- written of a date, where there is one
 abbrev pub written_optional_date : {A B : Type 0} → (A → B) → B → Option A → ℤ × B

@@ -34,39 +34,6 @@ macro_rules! answer_or_return {
     };
 }
 
-/// The value of an answer. If there is none the call, which is of a kind, writes the part for which the text
-/// is refused, and ends with the code of the error.
-macro_rules! value_or_part {
-    ($answer:expr, $kind:expr, $text:expr => $part:expr) => {
-        match $answer {
-            Ok(value) => value,
-            Err(refused) => return $crate::part::write_part(refused, $kind, $text, $part),
-        }
-    };
-}
-
-/// Writes the value of an answer, or the part for which a call of a kind refuses the text, and gives the
-/// code. The part of an accepted text ends where its value does.
-macro_rules! write_or_part {
-    (@ ($value:expr, $size:expr) => $shown:ident, $out:expr, $part:expr) => {{
-        *$out = $shown::from_value(&$value);
-        *$part = $crate::part::SpeedatePart {
-            start: 0,
-            end: $size,
-            kind: 0,
-        };
-        $crate::code::SUCCESS
-    }};
-    (front $answer:expr, $kind:expr, $text:expr => $shown:ident, $out:expr, $part:expr) => {{
-        let (value, size) = value_or_part!($answer, $kind, $text => $part);
-        write_or_part!(@ (value, size) => $shown, $out, $part)
-    }};
-    ($answer:expr, $kind:expr, $text:expr => $shown:ident, $out:expr, $part:expr) => {{
-        let value = value_or_part!($answer, $kind, $text => $part);
-        write_or_part!(@ (value, $text.len()) => $shown, $out, $part)
-    }};
-}
-
 /// The code of an answer.
 macro_rules! code_of {
     ($answer:expr) => {{

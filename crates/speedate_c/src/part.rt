@@ -1,6 +1,7 @@
 //! Parts of texts that are refused, as C sees them.
 
-ghost use Rattle.std.specs.Prelude.{◌≡◌, Some};
+ghost use Rattle.std.specs.Prelude.{◌≡◌, Some, length};
+ghost use Rattle.speedate.specs.Requirement.{result_map};
 ghost use Rattle.speedate_c.specs.Code.{fault_code, fault_of, kind_number};
 ghost use Rattle.speedate_c.specs.Written.{part_at};
 
@@ -43,4 +44,15 @@ pub(crate) fn write_part(
         kind: kind_number(kind),
     };
     fault_code(refused.fault)
+}
+
+/// What a parser of whole texts read, with the size of its text.
+#[inline(always)]
+pub(crate) fn whole<T: Copy>(value: Result<T, Refused>, text: &[u8]) -> Result<(T, usize), Refused>
+    ensures whole { result ≡ result_map (λ value. (value, length text.now)) value }
+{
+    match value {
+        Ok(value) => Ok((value, text.len())),
+        Err(refused) => Err(refused),
+    }
 }

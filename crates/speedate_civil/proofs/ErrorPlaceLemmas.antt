@@ -54,7 +54,7 @@ date_answer-view view refuse text =
     let whole = whole-view view refuse (λ (read : Ymd). ParseError.ExtraCharacters) text in
     then-view view _ _ _ _ whole front
 
-clock_front-view : {E D : Type 0} (view : E → D) (refuse : ParseError → ℕ → E)
+pub clock_front-view : {E D : Type 0} (view : E → D) (refuse : ParseError → ℕ → E)
     (behavior : Behavior) (text : List ℕ)
     → refusal_map view (clock_front_or refuse behavior text)
     ≡ clock_front_or (through view refuse) behavior text

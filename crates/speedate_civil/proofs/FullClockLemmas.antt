@@ -132,14 +132,13 @@ looks-day text long all =
       is_digit _ _ (lit≤ tt) (date-byte text 9 long (lit< tt) all),
     ) refl
 
-pub full-clock : (text : List ℕ) → 35 ≤ length text
+pub full-clock : (text : List ℕ) → 19 ≤ length text
     → AreBetween lowest_date (take 16 text) highest_date
     → AreBetween lowest_clock (take 16 (drop 3 text)) highest_clock → HasFullClock text
-full-clock text enough date clock =
-    let long : 19 ≤ length text = omega (arith, enough) in
+full-clock text long date clock =
     let byte = λ (k : ℕ) (small : k < 8). clock-byte text k long small clock in
     record {
-      long = enough;
+      long = long;
       date = looks-date text long date;
       day = looks-day text long date;
       clock = looks-clock text long clock;
@@ -200,12 +199,6 @@ front-is assumes_utc text date clock offset is behavior =
     (time_front-is behavior (drop 11 text) clock (read, offset.1) (is.timed behavior)
     is.found.read)
 
--- its bytes are bytes of the text
-front-size : (assumes_utc : Bool) (text : List ℕ) (date : Ymd) (clock : Clock)
-    (offset : ℤ × ℕ) → IsFullFront assumes_utc text date clock offset
-    → 11 + (clock.size + offset.1) ≤ length text
-front-size assumes_utc text date clock offset is = omega (arith, is.long, is.short, is.few)
-
 -- its offset is absent if it takes no bytes
 pub full-front : (text : List ℕ) (date : Ymd) (clock : Clock) (offset : ℤ × ℕ)
     → IsFullFront true text date clock offset → (behavior : Behavior)
@@ -236,7 +229,7 @@ utc-front assumes_utc text date clock offset number full is =
     let found = full.found in
     let time = clock_with_offset clock found.offset in
     let value : DateAndTime = record { date = date; time = time } in
-    let within : size ≤ length text = front-size assumes_utc text date clock offset full in
+    let within : size ≤ length text = full.within in
     let front = front-is assumes_utc text date clock offset full in
     let no_control = date_time_front-no_control Behavior.Error text in
     record {

@@ -8,7 +8,7 @@ pub mod DateTimeLemmas
 pub mod DateTimeTimestampLemmas
 pub mod DateTimestampLemmas
 pub mod DayNumberLemmas
-mod ErrorPlaceLemmas
+pub mod ErrorPlaceLemmas
 mod FrontLemmas
 mod FullClockLemmas
 pub mod InstantOrderLemmas

@@ -1,12 +1,14 @@
 -- Offsets at the front of a text, by what they begin with; and a printed offset of whole minutes is
 -- read as itself.
-use Rattle.std.proofs.Common.{◌≡◌, ℕ, zero, suc, ◌%◌, ◌<◌, Bool, true, false, not, ◌||◌, List, ◌∷◌, ◌++◌, length, drop, ◌==◌, slice_index, Option, Some, None, ℤ, pos, negsuc, Result, Ok, refl, is_some, rules, arith, le-ltb, ne_eqb}
-use Rattle.speedate_civil.specs.Base.{ParseError}
+use Rattle.std.proofs.Common.{◌≡◌, ◌≢◌, ◌∙◌, ap, sym, add-zero, get_or-drop, ℕ, zero, suc, ◌%◌, ◌<◌, Bool, true, false, not, ◌||◌, List, ◌∷◌, ◌++◌, length, drop, ◌==◌, slice_index, Option, Some, None, ℤ, pos, negsuc, Result, Ok, refl, is_some, rules, arith, le-ltb, ne_eqb}
+use Rattle.std.proofs.lemmas.Bool.Decides.{nat_tests}
 use Rattle.std.specs.Option.{ForSome}
+use Rattle.speedate_civil.specs.Base.{ParseError}
 use Rattle.speedate_base.specs.Ascii.{plus_sign, hyphen, capital_z}
 use Rattle.speedate_base.specs.Numbers.{with_sign}
 use Rattle.speedate_base.specs.Offset.{IsOffset, IsWholeMinutes}
 use Rattle.speedate_base.specs.Timestamp.{seconds_per_day}
+use Rattle.speedate_civil.specs.ParserParts.{IsOffsetOrUtc}
 use Rattle.speedate_civil.specs.Time.{begins_offset, has_minus_sign, is_plus_or_minus, is_utc}
 use Rattle.speedate_civil.specs.Time.{offset_front, offset_text, offset_size_text, signed_front}
 
@@ -64,3 +66,46 @@ offset_text-front (Some (pos (suc size))) rest valid whole ends =
 offset_text-front (Some (negsuc size)) rest valid whole ends =
     rw (offset_text-west size) (signed-printed true (suc size) rest (valid (negsuc size) refl)
     (whole (negsuc size) refl))
+
+-- the byte at a place is the first of what begins there
+pub first-of : (bytes : List ℕ) (place byte : ℕ) → byte ≡ slice_index bytes place
+    → slice_index (drop place bytes) 0 ≡ byte
+first-of bytes place byte is =
+    get_or-drop place bytes 0 0 ∙ ap (slice_index bytes) (add-zero place) ∙ sym is
+
+pub utc-there : (assumes_utc : Bool) → (assumes_utc || true) ≡ true
+utc-there assumes_utc = search rules
+
+utc-is : (rest : List ℕ) (byte : ℕ) → slice_index rest 0 ≡ byte → is_utc byte ≡ true
+    → offset_front rest ≡ Ok (Some (pos 0), 1)
+utc-is rest byte at utc = grind (arith, nat_tests)
+
+none-is : (rest : List ℕ) (byte : ℕ) → slice_index rest 0 ≡ byte → is_plus_or_minus byte ≡ false
+    → is_utc byte ≡ false → byte ≢ 226 → offset_front rest ≡ Ok (None, 0)
+none-is rest byte at sign utc other = grind (arith, nat_tests)
+
+-- UTC itself begins at a place
+pub utc-read : (assumes_utc : Bool) (bytes : List ℕ) (place byte : ℕ)
+    → byte ≡ slice_index bytes place → is_utc byte ≡ true
+    → IsOffsetOrUtc assumes_utc (drop place bytes) (pos 0, 1)
+utc-read assumes_utc bytes place byte is utc = record {
+  offset = Some (pos 0);
+  read = utc-is (drop place bytes) byte (first-of bytes place byte is) utc;
+  second = refl;
+  there = utc-there assumes_utc;
+  told = refl;
+  range = search rules;
+}
+
+-- no offset begins at a place, where UTC is assumed
+pub none-read : (assumes_utc : Bool) (bytes : List ℕ) (place byte : ℕ)
+    → byte ≡ slice_index bytes place → is_plus_or_minus byte ≡ false → is_utc byte ≡ false
+    → byte ≢ 226 → assumes_utc ≡ true → IsOffsetOrUtc assumes_utc (drop place bytes) (pos 0, 0)
+none-read assumes_utc bytes place byte is sign utc other assumed = record {
+  offset = None;
+  read = none-is (drop place bytes) byte (first-of bytes place byte is) sign utc other;
+  second = refl;
+  there = rw assumed refl;
+  told = refl;
+  range = search rules;
+}

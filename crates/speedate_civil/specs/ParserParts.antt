@@ -1,5 +1,5 @@
 -- What parsers decide by on their way to an answer.
-use Rattle.std.specs.Prelude.{◌≡◌, ℕ, ◌≤◌, List, [], ◌∷◌, Bool, true, false, ◌||◌, ◌==◌, codes, drop, length, slice_index, Option, Some, None, is_some, Ok, ℤ, pos, if◌then◌else◌}
+use Rattle.std.specs.Prelude.{◌+◌, ◌≡◌, ℕ, ◌≤◌, List, [], ◌∷◌, Bool, true, false, ◌||◌, ◌==◌, codes, drop, length, slice_index, Option, Some, None, is_some, Ok, ℤ, pos, if◌then◌else◌}
 use Rattle.std.specs.Option.{unwrap_or}
 use Rattle.speedate_civil.specs.Base.{Behavior, ParseError}
 use Rattle.speedate_base.specs.Ascii.{colon, digit_zero}
@@ -30,10 +30,10 @@ clock_after minute after = record {
   size = after.size;
 }
 
--- a text of 35 bytes or more begins as a date looks, and goes on from byte 11 as a clock with its
--- second looks, whose minute and second are in their ranges
+-- a text begins as a date looks, and goes on from byte 11 as a clock with its second looks, whose
+-- minute and second are in their ranges
 pub record HasFullClock (text : List ℕ) : Type 0 where
-  pub long : 35 ≤ length text
+  pub long : 19 ≤ length text
   pub date : fit_length (codes "0000-00-") (eight_at text 0) ≡ 8
   pub day : two_digits_at text 8 ≡ true
   pub clock : fit_length (codes "00:00:00") (eight_at (drop 11 text) 0) ≡ 8
@@ -55,16 +55,14 @@ pub record IsOffsetOrUtc (assumes_utc : Bool) (rest : List ℕ) (front : ℤ × 
   pub told : offset ≡ (if front.1 == 0 then None else Some front.0)
   pub range : IsOffset front.0
 
--- a date, a separator, a clock and such an offset begin a text of 35 bytes or more
+-- a date, a separator, a clock and such an offset begin a text
 pub record IsFullFront (assumes_utc : Bool) (text : List ℕ) (date : Ymd) (clock : Clock)
     (offset : ℤ × ℕ) : Type 0 where
-  pub long : 35 ≤ length text
   pub dated : date_front text ≡ Ok (date, 10)
   pub parted : is_separator (slice_index text 10) ≡ true
   pub timed : (behavior : Behavior) → clock_front behavior (drop 11 text) ≡ Ok clock
-  pub short : clock.size ≤ 15
   pub found : IsOffsetOrUtc assumes_utc (drop clock.size (drop 11 text)) offset
-  pub few : offset.1 ≤ 6
+  pub within : 11 + (clock.size + offset.1) ≤ length text
 
 -- a date's table may refuse a number by this fault: it is short, or has a sign, a digit or a
 -- decimal mark where none may stand

@@ -15,7 +15,7 @@ mod timestamp;
 mod timezone;
 
 pub use digits::FractionDigits;
-pub(crate) use offset::offset_or_utc;
+pub(crate) use offset::{offset_or_utc, unsigned_offset};
 pub use offset::{end_fault, has_minus_sign, is_plus_or_minus, signed_offset, with_sign};
 pub use pure::PureTime;
 use speedate_base::faults::ParseError;

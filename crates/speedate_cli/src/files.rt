@@ -4,17 +4,16 @@ ghost use Rattle.std.specs.Prelude.{◌≡◌, ℕ, [], List, OnOk, Option, Some
 ghost use Rattle.speedate_cli.specs.Files.{Leaves, Prints, RunsFile, RunsFiles, is_over};
 ghost use Rattle.speedate_stream.specs.Run.{Writes};
 
-use crate::input::{Input, Reasoned, open_input, tell_unread, tell_without_value};
+use crate::input::{Input, Reasoned, open_input};
 use crate::reason::Reason;
 use crate::seeking::Seeking;
-use speedate::CallKind;
+use crate::told::{Reports, tell_counts, tell_file, tell_line, tell_output};
 use speedate_commands::command::Command;
-use speedate_commands::status::{READ, USAGE, WRITE, file_status, is_due, lines_status, worse};
+use speedate_commands::status::{READ, USAGE, WRITE, lines_status, worse};
 use speedate_scan::form::Form;
-use speedate_scan::print::{push_line_place, push_report};
-use speedate_scan::scan::{Offsets, Report, Scan, Stop};
+use speedate_scan::scan::{Offsets, Scan, Stop};
 use speedate_stream::run::{RunError, send};
-use speedate_stream::{Failed, Observer, Pending, Watched, push_bytes};
+use speedate_stream::{Failed, Observer, Pending, Watched};
 use std::io::{self, ErrorKind, Read, Seek, SeekFrom, Stdout, Write};
 
 /// Standard output, which remembers whether its reader has gone.
@@ -46,13 +45,6 @@ pub fn standard_output(rt: &HostRuntime) -> Watched<Output<Stdout>> {
         inner: rt.stdout(),
         is_closed: false,
     })
-}
-
-/// Tells that the output failed, unless its reader has gone.
-pub fn tell_output(rt: &HostRuntime, output: Watched<Output<Stdout>>) {
-    if !output.into_inner().is_closed {
-        let _ = eprintln!(rt; "speedate: output failed");
-    }
 }
 
 /// The names of the files: without any, standard input.
@@ -98,7 +90,7 @@ pub fn run_files<'a, C: Command<'a>>(rt: &HostRuntime, command: &mut C, names: &
         status = WRITE;
     }
     if status == WRITE {
-        tell_output(rt, output);
+        status = tell_output(rt, output.into_inner().is_closed);
     }
     worse(status, tell_end(rt, command))
 }
@@ -170,8 +162,7 @@ fn run_file<'a, C: Command<'a>, R: Read + Seek + Drop, F: Files<R>, W: Write>(
     let (ended, reason) = run_input(command, input, output, &mut reports);
     reports.before_read(command);
     let is_without_value = command.scan().is_without_value();
-    tell_file(rt, name, ended, is_without_value, reason);
-    file_status(ended, is_without_value)
+    tell_file(rt, name, ended, is_without_value, reason)
 }
 
 /// Prints what a command prints of an input, and returns also why a read failed, if one did.
@@ -202,7 +193,7 @@ fn search_input<'a, C: Command<'a>, R: Read + Seek + Drop, W: Write, O: Observer
         return read_input(command, input, output, observer);
     };
     let source = Seeking::new(input);
-    let ended = command.search(&source, size, output);
+    let ended = command.search(&source, size, &mut false, output);
     (ended, source.reason())
 }
 
@@ -222,36 +213,6 @@ fn read_input<'a, C: Command<'a>, R: Read + Drop, W: Write, O: Observer<C>>(
     (ended, input.into_inner().reason)
 }
 
-/// Tells what is to be told of a file.
-fn tell_file(
-    rt: &HostRuntime,
-    name: &str,
-    ended: Result<(), RunError>,
-    is_without_value: bool,
-    reason: Option<Reason>,
-) {
-    match ended {
-        Ok(()) => {
-            if is_without_value {
-                tell_without_value(rt, name);
-            }
-        }
-        Err(RunError::Read) => tell_unread(rt, name, reason),
-        Err(RunError::Write) => {}
-    }
-}
-
-/// Tells the bad values of a file on standard error: those that are among the first, once each.
-#[derive(Clone, Copy)]
-pub struct Reports<'r, 'a> {
-    /// What tells.
-    pub rt: &'r HostRuntime,
-    /// The name of the file.
-    pub name: &'a [u8],
-    /// How many values were bad when they were told last.
-    pub told: u64,
-}
-
 impl<'a, C: Command<'a>> Observer<C> for Reports<'_, 'a> {
     fn before_read(&mut self, command: &C) {
         let scan = command.scan();
@@ -260,24 +221,6 @@ impl<'a, C: Command<'a>> Observer<C> for Reports<'_, 'a> {
             self.tell(&scan, about.kind);
         }
         self.told = scan.bad;
-    }
-}
-
-impl Reports<'_, '_> {
-    /// Tells the bad values that are among the first, but for those that were told.
-    pub fn tell(&self, scan: &Scan<'_>, kind: CallKind) {
-        for (index, report) in scan.reports.iter().enumerate() {
-            if is_due(index as u64, self.told, scan.bad) {
-                self.tell_report(kind, report);
-            }
-        }
-    }
-
-    /// Tells a bad value. If that fails too, only the status is left to tell.
-    fn tell_report(&self, kind: CallKind, report: &Report) {
-        let mut text = Pending::new();
-        push_report(self.name, report.number, &report.bad, kind, &mut text);
-        let _ = self.rt.stderr().write_all(text.as_slice());
     }
 }
 
@@ -290,10 +233,8 @@ fn tell_end<'a, C: Command<'a>>(rt: &HostRuntime, command: &C) -> u8 {
         return USAGE;
     }
     let about = command.about();
-    if about.tells_bad {
-        tell_count(rt, scan.bad, "bad line", "bad lines");
-    }
-    tell_lines_before(rt, about.before);
+    let bad = if about.tells_bad { scan.bad } else { 0 };
+    tell_counts(rt, bad, about.before);
     if about.is_too_large {
         let _ = eprintln!(rt; "speedate: the total has more than 999,999,999 days");
     }
@@ -309,30 +250,5 @@ fn tell_unfit(rt: &HostRuntime, scan: &Scan<'_>, has_offset: bool) {
     } else {
         "the value has an offset: give bounds with one"
     };
-    let mut text = Pending::new();
-    push_bytes(b"speedate: ", &mut text);
-    push_line_place(scan.name, scan.number, &mut text);
-    push_bytes(b": ", &mut text);
-    push_bytes(advice.as_bytes(), &mut text);
-    push_bytes(b"\n", &mut text);
-    let _ = rt.stderr().write_all(text.as_slice());
-}
-
-/// Tells how many lines were before the first entry, if there were any.
-pub fn tell_lines_before(rt: &HostRuntime, count: u64) {
-    tell_count(
-        rt,
-        count,
-        "line before the first entry",
-        "lines before the first entry",
-    );
-}
-
-/// Tells how many lines of a kind there were, if there were any.
-pub fn tell_count(rt: &HostRuntime, count: u64, one: &str, many: &str) {
-    if count == 1 {
-        let _ = eprintln!(rt; "speedate: 1 {one}");
-    } else if count > 1 {
-        let _ = eprintln!(rt; "speedate: {count} {many}");
-    }
+    tell_line(rt, scan, advice);
 }

@@ -1,4 +1,4 @@
-//! What is read: standard input or a file, and what is told of it on standard error.
+//! What is read: standard input or a file.
 
 ghost use Rattle.std.specs.Prelude.{◌≡◌};
 
@@ -67,17 +67,6 @@ fn is_output(rt: &HostRuntime, path: &str) -> bool {
         }
         Err(_) => false,
     }
-}
-
-/// Tells that a file cannot be read, and why.
-pub fn tell_unread(rt: &HostRuntime, name: &str, reason: Option<Reason>) {
-    let reason = reason.unwrap_or(Reason::Other);
-    let _ = eprintln!(rt; "speedate: {name}: cannot be read: {reason}");
-}
-
-/// Tells that no line of a file has a value.
-pub fn tell_without_value(rt: &HostRuntime, name: &str) {
-    let _ = eprintln!(rt; "speedate: {name}: no line has a value");
 }
 
 /// A reader that remembers why a read failed.

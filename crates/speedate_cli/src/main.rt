@@ -1,22 +1,27 @@
 //! Selects, sorts, merges, converts, checks and sums up lines by their date-times, and adds up their durations.
 #![tactic(auto)]
 
+mod choice;
+mod commands;
 mod files;
+mod idle;
 mod input;
 mod merge_session;
+mod options;
+mod program;
 mod reason;
 mod seeking;
 mod sort_session;
 #[cfg(test)]
 mod tests;
+mod told;
 
 use clap::ArgMatches;
-use speedate_commands::status::{USAGE, WRITE};
-use speedate_options::commands::{
+use commands::{
     first_between, first_check, first_convert, first_keys, first_merge, first_sum, first_summary,
 };
-use speedate_options::options::Refusal;
-use speedate_options::program::program;
+use options::Refusal;
+use speedate_commands::status::USAGE;
 use std::alloc::AllocError;
 use std::env::Env;
 use std::io::{ErrorKind, Write};
@@ -35,7 +40,7 @@ fn main(rt: HostRuntime) -> anyhow::Result<ExitCode> {
         }
         Err(error) => return Err(error.into()),
     };
-    let program = program(alloc)?;
+    let program = program::program(alloc)?;
     let matches = match program.try_get_matches_from(words.as_slice()) {
         Ok(matches) => matches,
         Err(error) => return Ok(ExitCode::from(tell(&rt, &error))),
@@ -61,12 +66,7 @@ fn tell(rt: &HostRuntime, error: &clap::Error) -> u8 {
     }
     match told {
         Ok(()) => 0,
-        Err(failure) => {
-            if failure.kind() != ErrorKind::BrokenPipe {
-                let _ = eprintln!(rt; "speedate: output failed");
-            }
-            WRITE
-        }
+        Err(failure) => told::tell_output(rt, failure.kind() == ErrorKind::BrokenPipe),
     }
 }
 

@@ -1,19 +1,15 @@
 //! The inputs of `merge`, and what is told of them on standard error.
 
-ghost use Rattle.std.specs.Prelude.{◌+◌, ◌≤◌};
-ghost use Rattle.arrayvec.specs.ArrayVec.{array_vec_len};
-
-use crate::files::{
-    Reports, names_or_input, standard_output, tell_count, tell_lines_before, tell_output,
-};
-use crate::input::{Input, Reasoned, open_input, tell_unread, tell_without_value};
+use crate::files::{names_or_input, standard_output};
+use crate::input::{Input, Reasoned, open_input};
+use crate::told::{Reports, tell_counts, tell_file, tell_line, tell_memory, tell_output};
 use speedate_commands::order::{Latest, push_late};
-use speedate_commands::status::{BAD, READ, WRITE, lines_status};
-use speedate_scan::print::push_line_place;
+use speedate_commands::status::{BAD, READ, lines_status, worse};
 use speedate_scan::scan::{Offsets, REPORTS_MAX, Scan};
 use speedate_sort::merge::{Before, Halt, Halted, Reporter, Source, merge};
 use speedate_sort::sort::{Keys, Unread};
-use speedate_stream::{PENDING_MAX, Pending, STEP_MAX, push_bytes};
+use speedate_stream::Pending;
+use speedate_stream::run::RunError;
 use std::alloc::AllocError;
 use std::io::{BufReader, Write};
 
@@ -30,11 +26,11 @@ pub fn run_merge<'a>(rt: &HostRuntime, keys: &Keys<'a>, files: &[&'a str]) -> u8
         match open_source(rt, *keys, name) {
             Ok(Some(source)) => {
                 if sources.push(source).is_err() {
-                    return tell_memory(rt);
+                    return tell_memory(rt, "");
                 }
             }
             Ok(None) => status = READ,
-            Err(_) => return tell_memory(rt),
+            Err(_) => return tell_memory(rt, ""),
         }
     }
     if status == READ {
@@ -116,8 +112,8 @@ fn merge_sources(
     match merge(sources, offsets, &mut output, first_bad) {
         Ok(halted) => tell_end(rt, files, sources, halted),
         Err(_) => {
-            tell_output(rt, output);
-            tell_end(rt, files, sources, None).max(WRITE)
+            let status = tell_output(rt, output.into_inner().is_closed);
+            worse(status, tell_end(rt, files, sources, None))
         }
     }
 }
@@ -136,19 +132,18 @@ fn tell_end(
         let scan = &source.keys.scan;
         bad = bad.saturating_add(scan.bad);
         before = before.saturating_add(scan.first.lines_before());
-        if source.line.is_empty() && !is_unread(halted, index) && scan.is_without_value() {
-            tell_without_value(rt, name);
-            status = BAD;
+        if source.line.is_empty() && !is_unread(halted, index) {
+            let one = tell_file(rt, name, Ok(()), scan.is_without_value(), None);
+            status = worse(status, one);
         }
     }
-    status = status.max(lines_status(bad, 0, false));
+    status = worse(status, lines_status(bad, 0, false));
     if let Some(Halted { index, halt }) = halted {
         if let (Some(name), Some(source)) = (files.get(index), sources.get(index)) {
-            status = status.max(tell_halt(rt, name, source, halt));
+            status = worse(status, tell_halt(rt, name, source, halt));
         }
     }
-    tell_count(rt, bad, "bad line", "bad lines");
-    tell_lines_before(rt, before);
+    tell_counts(rt, bad, before);
     status
 }
 
@@ -159,25 +154,21 @@ fn is_unread(halted: Option<Halted>, source: usize) -> bool {
 
 /// Tells why a source ended a merge, and returns the exit status for that.
 fn tell_halt(rt: &HostRuntime, name: &str, source: &FileSource<'_>, halt: Halt) -> u8 {
-    let mut text = Pending::new();
     match halt {
-        Halt::Unread(Unread::Memory) => return tell_memory(rt),
+        Halt::Unread(Unread::Memory) => return tell_memory(rt, ""),
         Halt::Unread(Unread::Read) => {
-            tell_unread(rt, name, source.input.get_ref().reason);
-            return READ;
+            let reason = source.input.get_ref().reason;
+            return tell_file(rt, name, Err(RunError::Read), false, reason);
         }
         Halt::Bad => {}
-        Halt::Late(before) => push_before(&source.keys, before, &mut text),
-        Halt::Unlike => push_unlike(&source.keys.scan, &mut text),
+        Halt::Late(before) => tell_before(rt, &source.keys, before),
+        Halt::Unlike => tell_unlike(rt, &source.keys.scan),
     }
-    let _ = rt.stderr().write_all(text.as_slice());
     BAD
 }
 
-/// Appends where the last value stands, by how much it is before another, and where that stands.
-fn push_before(keys: &Keys<'_>, before: Before, pending: &mut Pending)
-    requires room { array_vec_len pending.old + STEP_MAX ≤ PENDING_MAX }
-{
+/// Tells where the last value stands, by how much it is before another, and where that stands.
+fn tell_before(rt: &HostRuntime, keys: &Keys<'_>, before: Before) {
     let scan = &keys.scan;
     let latest = Latest {
         instant: before.instant,
@@ -185,27 +176,17 @@ fn push_before(keys: &Keys<'_>, before: Before, pending: &mut Pending)
         name: scan.name,
         number: before.number,
     };
-    push_late(scan.name, scan.number, keys.instant, &latest, pending);
+    let mut text = Pending::new();
+    push_late(scan.name, scan.number, keys.instant, &latest, &mut text);
+    let _ = rt.stderr().write_all(text.as_slice());
 }
 
-/// Appends that the first value of a file does not fit those of the files before it.
-fn push_unlike(scan: &Scan<'_>, pending: &mut Pending)
-    requires room { array_vec_len pending.old + STEP_MAX ≤ PENDING_MAX }
-{
-    push_bytes(b"speedate: ", pending);
-    push_line_place(scan.name, scan.number, pending);
-    push_bytes(b": ", pending);
+/// Tells that the first value of a file does not fit those of the files before it.
+fn tell_unlike(rt: &HostRuntime, scan: &Scan<'_>) {
     let advice = if scan.has_offsets() {
         "the value has an offset, and those of another file have none"
     } else {
         "the value has no offset, and those of another file have one: give --offset"
     };
-    push_bytes(advice.as_bytes(), pending);
-    push_bytes(b"\n", pending);
-}
-
-/// Tells that memory ran out, and returns the exit status.
-fn tell_memory(rt: &HostRuntime) -> u8 {
-    let _ = eprintln!(rt; "speedate: memory ran out");
-    READ
+    tell_line(rt, scan, advice);
 }

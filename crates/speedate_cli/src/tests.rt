@@ -8,16 +8,14 @@ mod rows;
 mod searched;
 mod sorted;
 
+use crate::commands::{first_between, first_check, first_convert, first_sum, first_summary};
 use crate::files::write_end;
+use crate::program::program;
 use clap::ArgMatches;
 use ends::{Sink, Source};
 use option_rows::OPTIONS;
 use rows::{COMMANDS, DURATIONS, LOG};
 use speedate_commands::command::Command;
-use speedate_options::commands::{
-    first_between, first_check, first_convert, first_sum, first_summary,
-};
-use speedate_options::program::program;
 use speedate_stream::run::RunError;
 use speedate_stream::{NoObserver, Watched};
 use std::alloc::AllocError;

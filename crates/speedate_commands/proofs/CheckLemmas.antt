@@ -9,7 +9,7 @@ use Rattle.speedate_scan.specs.declared.reading.Reading.{Reading}
 use Rattle.speedate_scan.specs.declared.scan.First.{First}
 use Rattle.speedate_scan.specs.declared.scan.Offsets.{Offsets}
 use Rattle.speedate_scan.specs.declared.scan.UndatedLines.{UndatedLines}
-use Rattle.speedate_commands.specs.Base.{Bad, Form, Found, Line, Scan}
+use Rattle.speedate_commands.specs.Base.{Bad, Form, Found, LineKind, Scan}
 use Rattle.speedate_commands.specs.Check.{Check, bad_report, check_after, check_text, compares}
 use Rattle.speedate_commands.specs.Check.{is_after_gap, is_plain, takes_any, value_report}
 use Rattle.speedate_commands.specs.Order.{Latest}
@@ -44,13 +44,13 @@ plain_offsets check is = any_of check.order.scan.offsets (plain check is).1.0
 
 -- A line is no late one, and none of a value that does not fit.
 
-abbrev IsPlainLine : Line → Type 0
-IsPlainLine Line.Late = ⊥
-IsPlainLine Line.Unfit = ⊥
-IsPlainLine Line.Header = Unit {0}
-IsPlainLine Line.Undated = Unit {0}
-IsPlainLine (Line.Bad bad) = Unit {0}
-IsPlainLine (Line.Value found) = Unit {0}
+abbrev IsPlainLine : LineKind → Type 0
+IsPlainLine LineKind.Late = ⊥
+IsPlainLine LineKind.Unfit = ⊥
+IsPlainLine LineKind.Header = Unit {0}
+IsPlainLine LineKind.Undated = Unit {0}
+IsPlainLine (LineKind.Bad bad) = Unit {0}
+IsPlainLine (LineKind.Value found) = Unit {0}
 
 undated_plain : (lines : UndatedLines) (form : Form) (place : ℕ)
     → IsPlainLine (undated_line lines form place)
@@ -59,7 +59,8 @@ undated_plain UndatedLines.Drop form place = tt
 undated_plain UndatedLines.Bad form place = tt
 
 value_plain : (offsets : Offsets) (line : List ℕ) (found : Found) → takes_any offsets ≡ true
-    → IsPlainLine (if fits offsets found then Line.Value found else unfit_line offsets line found)
+    → IsPlainLine
+    (if fits offsets found then LineKind.Value found else unfit_line offsets line found)
 value_plain Offsets.Any line found any = tt
 value_plain Offsets.AsFirst line found any = cc
 value_plain (Offsets.Only has_offset) line found any = cc
@@ -75,7 +76,8 @@ judged_plain scan line (Reading.Undated place) any =
 chosen_plain : (stopped header : Bool) (scan : Scan) (line : List ℕ) (reading : Reading)
     → stopped ≡ false → takes_any scan.offsets ≡ true
     → IsPlainLine
-    (if stopped then Line.Late else if header then Line.Header else judged scan line reading)
+    (if stopped then LineKind.Late
+    else if header then LineKind.Header else judged scan line reading)
 chosen_plain true header scan line reading goes_on any = cc
 chosen_plain false true scan line reading goes_on any = tt
 chosen_plain false false scan line reading goes_on any = judged_plain scan line reading any
@@ -103,15 +105,15 @@ no_value_report check instant None is = refl
 no_value_report check instant (Some latest) is =
     no_report check.reports_late check.gap instant latest _ _ is
 
-line_text : (check : Check) (line : Line) → compares check ≡ false → bad_of line ≡ None
+line_text : (check : Check) (line : LineKind) → compares check ≡ false → bad_of line ≡ None
     → check_text check line ≡ []
-line_text check (Line.Value found) is none =
+line_text check (LineKind.Value found) is none =
     no_value_report check found.instant check.order.latest is
-line_text check (Line.Bad bad) is none = cc
-line_text check Line.Late is none = refl
-line_text check Line.Header is none = refl
-line_text check Line.Unfit is none = refl
-line_text check Line.Undated is none = refl
+line_text check (LineKind.Bad bad) is none = cc
+line_text check LineKind.Late is none = refl
+line_text check LineKind.Header is none = refl
+line_text check LineKind.Unfit is none = refl
+line_text check LineKind.Undated is none = refl
 
 pub plain_text : (check : Check) (line items : List ℕ) → is_plain check ≡ true
     → bad_of (line_of check.order.scan line) ≡ None
@@ -120,14 +122,14 @@ plain_text check line items is none =
     let nothing = line_text check (line_of check.order.scan line) (plain check is).0 none in
     sym (append-nil items) ∙ ap (λ (text : List ℕ). items ++ text) (sym nothing)
 
-bad_text : (check : Check) (line : Line) (bad : Bad) → bad_of line ≡ Some bad
+bad_text : (check : Check) (line : LineKind) (bad : Bad) → bad_of line ≡ Some bad
     → bad_report check.order.scan bad ≡ check_text check line
-bad_text check (Line.Bad other) bad is = cc
-bad_text check (Line.Value found) bad is = cc
-bad_text check Line.Late bad is = cc
-bad_text check Line.Header bad is = cc
-bad_text check Line.Unfit bad is = cc
-bad_text check Line.Undated bad is = cc
+bad_text check (LineKind.Bad other) bad is = cc
+bad_text check (LineKind.Value found) bad is = cc
+bad_text check LineKind.Late bad is = cc
+bad_text check LineKind.Header bad is = cc
+bad_text check LineKind.Unfit bad is = cc
+bad_text check LineKind.Undated bad is = cc
 
 pub plain_bad_text : (check : Check) (line items : List ℕ) (bad : Bad)
     → bad_of (line_of check.order.scan line) ≡ Some bad
@@ -146,7 +148,8 @@ value_stays true false before is = cc
 value_stays false entry before is = cc
 
 entry_stays : (value entry : Bool) (before : ℕ) → (value && entry) ≡ true
-    → first_after (record { has_value = value; has_entry = entry; before = before }) Line.Undated
+    → first_after (record { has_value = value; has_entry = entry; before = before })
+    LineKind.Undated
     ≡ record { has_value = value; has_entry = entry; before = before }
 entry_stays true true before is = refl
 entry_stays true false before is = cc
@@ -161,22 +164,22 @@ any_stays scan found any came =
     ∙ ap (λ (first : First). record (counted scan) { first = first })
     (value_stays scan.first.has_value scan.first.has_entry scan.first.before came)
 
-line_passed : (scan : Scan) (line : Line) → IsPlainLine line → scan.offsets ≡ Offsets.Any
+line_passed : (scan : Scan) (line : LineKind) → IsPlainLine line → scan.offsets ≡ Offsets.Any
     → is_found scan.first ≡ true → bad_of line ≡ None → counted scan ≡ passed scan line
 unfolding passed
-line_passed scan (Line.Value found) is any came none = sym (any_stays scan found any came)
-line_passed scan (Line.Bad bad) is any came none = cc
-line_passed scan Line.Late is any came none = absurd is
-line_passed scan Line.Header is any came none = refl
-line_passed scan Line.Unfit is any came none = absurd is
-line_passed scan Line.Undated is any came none =
+line_passed scan (LineKind.Value found) is any came none = sym (any_stays scan found any came)
+line_passed scan (LineKind.Bad bad) is any came none = cc
+line_passed scan LineKind.Late is any came none = absurd is
+line_passed scan LineKind.Header is any came none = refl
+line_passed scan LineKind.Unfit is any came none = absurd is
+line_passed scan LineKind.Undated is any came none =
     sym (ap (λ (first : First). record (counted scan) { first = first })
     (entry_stays scan.first.has_value scan.first.has_entry scan.first.before came))
 
 abbrev with_scan : Check → Scan → Check
 with_scan check scan = record check { order = record check.order { scan = scan } }
 
-line_after : (check : Check) (line : Line) → compares check ≡ false
+line_after : (check : Check) (line : LineKind) → compares check ≡ false
     → with_scan check (passed check.order.scan line) ≡ check_after check line
 line_after check line is = rw is refl
 
@@ -186,25 +189,25 @@ pub plain_after : (check : Check) (line : List ℕ) → is_plain check ≡ true
     ≡ check_after check (line_of check.order.scan line)
 plain_after check line is none =
     let parts = plain check is in
-    let what : Line = line_of check.order.scan line in
+    let what : LineKind = line_of check.order.scan line in
     let came = line_plain check.order.scan line parts.1.1.1 parts.1.0 in
     ap (with_scan check)
     (line_passed check.order.scan what came (plain_offsets check is) parts.1.1.0 none)
     ∙ line_after check what parts.0
 
-bad_line : (line : Line) (bad : Bad) → bad_of line ≡ Some bad → Line.Bad bad ≡ line
-bad_line (Line.Bad other) bad is = cc
-bad_line (Line.Value found) bad is = cc
-bad_line Line.Late bad is = cc
-bad_line Line.Header bad is = cc
-bad_line Line.Unfit bad is = cc
-bad_line Line.Undated bad is = cc
+bad_line : (line : LineKind) (bad : Bad) → bad_of line ≡ Some bad → LineKind.Bad bad ≡ line
+bad_line (LineKind.Bad other) bad is = cc
+bad_line (LineKind.Value found) bad is = cc
+bad_line LineKind.Late bad is = cc
+bad_line LineKind.Header bad is = cc
+bad_line LineKind.Unfit bad is = cc
+bad_line LineKind.Undated bad is = cc
 
 pub plain_bad_after : (check : Check) (line : List ℕ) (bad : Bad) → is_plain check ≡ true
     → bad_of (line_of check.order.scan line) ≡ Some bad
-    → with_scan check (passed check.order.scan (Line.Bad bad))
+    → with_scan check (passed check.order.scan (LineKind.Bad bad))
     ≡ check_after check (line_of check.order.scan line)
 plain_bad_after check line bad is found =
-    let what : Line = line_of check.order.scan line in
-    ap (λ (one : Line). with_scan check (passed check.order.scan one)) (bad_line what bad found)
+    let what : LineKind = line_of check.order.scan line in
+    ap (λ (one : LineKind). with_scan check (passed check.order.scan one)) (bad_line what bad found)
     ∙ line_after check what (plain check is).0

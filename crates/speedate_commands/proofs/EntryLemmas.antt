@@ -10,29 +10,29 @@ use Rattle.speedate_scan.specs.Scan.{fits, is_stopped, is_value, judged, keeps, 
 use Rattle.speedate_scan.specs.Scan.{undated_line, unfit_line}
 use Rattle.speedate_scan.specs.Entries.{Marked, entries, entry_and, lines_text, marked}
 use Rattle.speedate_scan.specs.Entries.{printed_line, up_to_value}
-use Rattle.speedate_commands.specs.Base.{Form, Found, Line, Offsets, Prefix, Reading, Scan}
+use Rattle.speedate_commands.specs.Base.{Form, Found, LineKind, Offsets, Prefix, Reading, Scan}
 use Rattle.speedate_commands.specs.Base.{UndatedLines}
 use Rattle.speedate_commands.specs.Between.{Between, Bounds, awaits_header, between_after}
 use Rattle.speedate_commands.specs.Between.{between_lines, between_machine, entries_text, file_text}
 use Rattle.speedate_commands.specs.Between.{kept_after, lies_between, prints}
 
 -- a marked line is printed, by whether its entry is
-abbrev prints_by : Bounds → Bool → Line → Bool → Bool
-prints_by bounds is_kept (Line.Value found) kept = lies_between bounds found.instant
-prints_by bounds is_kept Line.Header kept = true
-prints_by bounds is_kept (Line.Bad bad) kept = is_kept && kept
-prints_by bounds is_kept Line.Undated kept = is_kept && kept
-prints_by bounds is_kept Line.Late kept = is_kept && kept
-prints_by bounds is_kept Line.Unfit kept = is_kept && kept
+abbrev prints_by : Bounds → Bool → LineKind → Bool → Bool
+prints_by bounds is_kept (LineKind.Value found) kept = lies_between bounds found.instant
+prints_by bounds is_kept LineKind.Header kept = true
+prints_by bounds is_kept (LineKind.Bad bad) kept = is_kept && kept
+prints_by bounds is_kept LineKind.Undated kept = is_kept && kept
+prints_by bounds is_kept LineKind.Late kept = is_kept && kept
+prints_by bounds is_kept LineKind.Unfit kept = is_kept && kept
 
 -- the entry of a line is printed
-abbrev kept_by : Bounds → Bool → Line → Bool
-kept_by bounds is_kept (Line.Value found) = lies_between bounds found.instant
-kept_by bounds is_kept Line.Header = is_kept
-kept_by bounds is_kept (Line.Bad bad) = is_kept
-kept_by bounds is_kept Line.Undated = is_kept
-kept_by bounds is_kept Line.Late = is_kept
-kept_by bounds is_kept Line.Unfit = is_kept
+abbrev kept_by : Bounds → Bool → LineKind → Bool
+kept_by bounds is_kept (LineKind.Value found) = lies_between bounds found.instant
+kept_by bounds is_kept LineKind.Header = is_kept
+kept_by bounds is_kept (LineKind.Bad bad) = is_kept
+kept_by bounds is_kept LineKind.Undated = is_kept
+kept_by bounds is_kept LineKind.Late = is_kept
+kept_by bounds is_kept LineKind.Unfit = is_kept
 
 -- what is printed of marked lines, one after the other
 abbrev printed : Bounds → Bool → List Marked → List ℕ
@@ -45,23 +45,23 @@ and_false : (test : Bool) → false ≡ (test && false)
 and_false true = refl
 and_false false = refl
 
-prints-by : (between : Between) (what : Line)
+prints-by : (between : Between) (what : LineKind)
     → prints between what ≡ prints_by between.bounds between.is_kept what (keeps between.scan what)
-prints-by between (Line.Value found) = refl
-prints-by between Line.Header = refl
-prints-by between (Line.Bad bad) = refl
-prints-by between Line.Undated = refl
-prints-by between Line.Late = and_false between.is_kept
-prints-by between Line.Unfit = and_false between.is_kept
+prints-by between (LineKind.Value found) = refl
+prints-by between LineKind.Header = refl
+prints-by between (LineKind.Bad bad) = refl
+prints-by between LineKind.Undated = refl
+prints-by between LineKind.Late = and_false between.is_kept
+prints-by between LineKind.Unfit = and_false between.is_kept
 
-kept-by : (between : Between) (what : Line)
+kept-by : (between : Between) (what : LineKind)
     → kept_after between what ≡ kept_by between.bounds between.is_kept what
-kept-by between (Line.Value found) = refl
-kept-by between Line.Header = refl
-kept-by between (Line.Bad bad) = refl
-kept-by between Line.Undated = refl
-kept-by between Line.Late = refl
-kept-by between Line.Unfit = refl
+kept-by between (LineKind.Value found) = refl
+kept-by between LineKind.Header = refl
+kept-by between (LineKind.Bad bad) = refl
+kept-by between LineKind.Undated = refl
+kept-by between LineKind.Late = refl
+kept-by between LineKind.Unfit = refl
 
 -- a line from its first byte on
 pub from_front : (line : List ℕ) → drop (min 0 (length (head line))) line ≡ line
@@ -81,18 +81,18 @@ machine_printed : (between : Between) (lines : List (List ℕ))
     ≡ printed between.bounds between.is_kept (marked between.prefix between.scan lines)
 machine_printed between [] = refl
 machine_printed between (line ∷ lines) =
-    let what : Line = line_of between.scan (head line) in
+    let what : LineKind = line_of between.scan (head line) in
     let later = machine_printed (between_after between what) lines in
     rw (whole_line, later, prints-by between what, kept-by between what) refl
 
 -- a line is no header, and one with a value is not left out
-abbrev IsMark : Line → Bool → Type 0
-IsMark (Line.Value found) kept = kept ≡ true
-IsMark Line.Header kept = ⊥
-IsMark (Line.Bad bad) kept = Unit {0}
-IsMark Line.Undated kept = Unit {0}
-IsMark Line.Late kept = Unit {0}
-IsMark Line.Unfit kept = Unit {0}
+abbrev IsMark : LineKind → Bool → Type 0
+IsMark (LineKind.Value found) kept = kept ≡ true
+IsMark LineKind.Header kept = ⊥
+IsMark (LineKind.Bad bad) kept = Unit {0}
+IsMark LineKind.Undated kept = Unit {0}
+IsMark LineKind.Late kept = Unit {0}
+IsMark LineKind.Unfit kept = Unit {0}
 
 abbrev AreMarks : List Marked → Type 0
 AreMarks [] = Unit {0}
@@ -119,26 +119,27 @@ joins_entry false true text rest others = refl
 joins_entry false false text rest others = refl
 
 -- what one line adds
-one_line : (bounds : Bounds) (is_kept : Bool) (what : Line) (line : Marked) (lines : List Marked)
+one_line : (bounds : Bounds) (is_kept : Bool) (what : LineKind) (line : Marked)
+    (lines : List Marked)
     → IsMark what line.kept
     → (if prints_by bounds is_kept what line.kept then line.printed else [])
     ++ between_lines bounds (kept_by bounds is_kept what) lines
     ≡ (if is_kept then lines_text (if is_value what then [] else line ∷ up_to_value lines) else [])
     ++ entries_text bounds (entry_and what line lines (entries lines))
-one_line bounds is_kept (Line.Value found) line lines is_mark =
+one_line bounds is_kept (LineKind.Value found) line lines is_mark =
     begins_entry (lies_between bounds found.instant) is_kept line.kept line.printed
     (lines_text (up_to_value lines)) (entries_text bounds (entries lines)) is_mark
-one_line bounds is_kept Line.Header line lines is_mark = absurd is_mark
-one_line bounds is_kept (Line.Bad bad) line lines is_mark =
+one_line bounds is_kept LineKind.Header line lines is_mark = absurd is_mark
+one_line bounds is_kept (LineKind.Bad bad) line lines is_mark =
     joins_entry is_kept line.kept line.printed
     (lines_text (up_to_value lines)) (entries_text bounds (entries lines))
-one_line bounds is_kept Line.Undated line lines is_mark =
+one_line bounds is_kept LineKind.Undated line lines is_mark =
     joins_entry is_kept line.kept line.printed
     (lines_text (up_to_value lines)) (entries_text bounds (entries lines))
-one_line bounds is_kept Line.Late line lines is_mark =
+one_line bounds is_kept LineKind.Late line lines is_mark =
     joins_entry is_kept line.kept line.printed
     (lines_text (up_to_value lines)) (entries_text bounds (entries lines))
-one_line bounds is_kept Line.Unfit line lines is_mark =
+one_line bounds is_kept LineKind.Unfit line lines is_mark =
     joins_entry is_kept line.kept line.printed
     (lines_text (up_to_value lines)) (entries_text bounds (entries lines))
 
@@ -162,7 +163,8 @@ unfit_mark (Offsets.Only has_offset) line found scan = tt
 unfit_mark (Offsets.AsBounds has_offset) line found scan = tt
 
 value_mark : (test : Bool) (scan : Scan) (line : List ℕ) (found : Found)
-    → let what : Line = if test then Line.Value found else unfit_line scan.offsets line found in
+    → let what : LineKind =
+    if test then LineKind.Value found else unfit_line scan.offsets line found in
     IsMark what (keeps scan what)
 value_mark true scan line found = refl
 value_mark false scan line found = unfit_mark scan.offsets line found scan
@@ -183,8 +185,9 @@ judged_mark scan line (Reading.Undated place) =
 -- a line of a file whose header has come is no header
 chosen_mark : (stopped header : Bool) (scan : Scan) (line : List ℕ) (reading : Reading)
     → (not stopped && header) ≡ false
-    → let what : Line =
-    if stopped then Line.Late else if header then Line.Header else judged scan line reading in
+    → let what : LineKind =
+    if stopped then LineKind.Late
+    else if header then LineKind.Header else judged scan line reading in
     IsMark what (keeps scan what)
 chosen_mark true header scan line reading no_header = tt
 chosen_mark false true scan line reading no_header = cc
@@ -212,23 +215,24 @@ counted_once stopped header number =
     ends_false stopped header (one_more number == 0) (no_zero (one_more number) (omega arith))
 
 -- after a line a file's header has come
-pub header_came : (scan : Scan) (what : Line) → awaits_header scan ≡ false
+pub header_came : (scan : Scan) (what : LineKind) → awaits_header scan ≡ false
     → awaits_header (passed scan what) ≡ false
 unfolding passed
-header_came scan Line.Late came = came
-header_came scan Line.Header came =
-    counted_once (not (is_stopped (passed scan Line.Header).stop)) scan.has_header scan.number
-header_came scan Line.Undated came =
-    counted_once (not (is_stopped (passed scan Line.Undated).stop)) scan.has_header scan.number
-header_came scan (Line.Value found) came =
-    counted_once (not (is_stopped (passed scan (Line.Value found)).stop)) scan.has_header
+header_came scan LineKind.Late came = came
+header_came scan LineKind.Header came =
+    counted_once (not (is_stopped (passed scan LineKind.Header).stop)) scan.has_header scan.number
+header_came scan LineKind.Undated came =
+    counted_once (not (is_stopped (passed scan LineKind.Undated).stop)) scan.has_header scan.number
+header_came scan (LineKind.Value found) came =
+    counted_once (not (is_stopped (passed scan (LineKind.Value found)).stop)) scan.has_header
     scan.number
-header_came scan (Line.Bad bad) came =
-    counted_once (not (is_stopped (passed scan (Line.Bad bad)).stop)) scan.has_header scan.number
-header_came scan Line.Unfit came =
-    counted_once (not (is_stopped (passed scan Line.Unfit).stop)) scan.has_header scan.number
+header_came scan (LineKind.Bad bad) came =
+    counted_once (not (is_stopped (passed scan (LineKind.Bad bad)).stop)) scan.has_header
+    scan.number
+header_came scan LineKind.Unfit came =
+    counted_once (not (is_stopped (passed scan LineKind.Unfit).stop)) scan.has_header scan.number
 
-pub header_passed : (scan : Scan) → awaits_header (passed scan Line.Header) ≡ false
+pub header_passed : (scan : Scan) → awaits_header (passed scan LineKind.Header) ≡ false
 unfolding passed
 header_passed scan = counted_once (not (is_stopped scan.stop)) scan.has_header scan.number
 
@@ -241,14 +245,15 @@ are_marks prefix scan (line ∷ lines) came = (
       (header_came scan (line_of scan (head line)) came),
 )
 
-chosen_header : (stopped header : Bool) (other : Line) → (not stopped && header) ≡ true
-    → (if stopped then Line.Late else if header then Line.Header else other) ≡ Line.Header
+chosen_header : (stopped header : Bool) (other : LineKind) → (not stopped && header) ≡ true
+    → (if stopped then LineKind.Late else if header then LineKind.Header else other)
+    ≡ LineKind.Header
 chosen_header true header other awaited = cc
 chosen_header false true other awaited = refl
 chosen_header false false other awaited = cc
 
 pub line_is_header : (scan : Scan) (line : List ℕ) → awaits_header scan ≡ true
-    → line_of scan line ≡ Line.Header
+    → line_of scan line ≡ LineKind.Header
 unfolding line_of
 line_is_header scan line awaited =
     chosen_header (is_stopped scan.stop) (scan.has_header && (scan.number == 0)) _ awaited
@@ -259,14 +264,14 @@ by_header : (between : Between) (line : List ℕ) (lines : List (List ℕ)) (awa
     ≡ (if awaits
     then printed_line between.prefix between.scan line
     ++ between_lines between.bounds between.is_kept
-    (marked between.prefix (passed between.scan Line.Header) lines)
+    (marked between.prefix (passed between.scan LineKind.Header) lines)
     else between_lines between.bounds between.is_kept
     (marked between.prefix between.scan (line ∷ lines)))
 by_header between line lines true awaited =
     let is_header = line_is_header between.scan (head line) awaited in
     let later = printed_entries between.bounds between.is_kept
-    (marked between.prefix (passed between.scan Line.Header) lines)
-    (are_marks between.prefix (passed between.scan Line.Header) lines
+    (marked between.prefix (passed between.scan LineKind.Header) lines)
+    (are_marks between.prefix (passed between.scan LineKind.Header) lines
     (header_passed between.scan)) in
     rw is_header
     (ap (λ (text : List ℕ). printed_line between.prefix between.scan line ++ text) later)

@@ -17,7 +17,7 @@ use Rattle.speedate_scan.specs.Reading.{part, read}
 use Rattle.speedate_scan.specs.Scan.{fits, has_offsets, is_stopped, judged, line_of, passed}
 use Rattle.speedate_scan.specs.Scan.{undated_line, unfit_line}
 use Rattle.speedate_scan.specs.Entries.{Marked, entries, mark, marked, printed_line}
-use Rattle.speedate_commands.specs.Base.{Form, Found, Line, Offsets, Reader, Reading, Scan}
+use Rattle.speedate_commands.specs.Base.{Form, Found, LineKind, Offsets, Reader, Reading, Scan}
 use Rattle.speedate_commands.specs.Base.{UndatedLines}
 use Rattle.speedate_commands.specs.Between.{Between, awaits_header, between_after, between_lines}
 use Rattle.speedate_commands.specs.Between.{between_machine, entries_text, file_text}
@@ -162,7 +162,8 @@ unfit-number scan (Offsets.Only other) line found = refl
 unfit-number scan (Offsets.AsBounds other) line found = refl
 
 value-number : (scan : Scan) (line : List ℕ) (found : Found) (fit : Bool)
-    → (passed scan (if fit then Line.Value found else unfit_line scan.offsets line found)).number
+    → (passed scan
+    (if fit then LineKind.Value found else unfit_line scan.offsets line found)).number
     ≡ one_more scan.number
 unfolding passed
 value-number scan line found true = refl
@@ -187,8 +188,9 @@ judged-number scan line (Reading.Undated place) =
 chosen-number : (stopped header : Bool) (scan : Scan) (line : List ℕ) (reading : Reading)
     → stopped ≡ false
     → (passed scan
-    (if stopped then Line.Late
-    else if header then Line.Header else judged scan line reading)).number ≡ one_more scan.number
+    (if stopped then LineKind.Late
+    else if header then LineKind.Header else judged scan line reading)).number
+    ≡ one_more scan.number
 unfolding passed
 chosen-number true header scan line reading goes_on = cc
 chosen-number false true scan line reading goes_on = refl
@@ -589,24 +591,24 @@ header-text : (before : Between) (line : List ℕ) (lines : List (List ℕ))
     → awaits_header before.scan ≡ true
     → file_text before (line ∷ lines) ≡ printed_line before.prefix before.scan line
     ++ between_lines before.bounds before.is_kept
-    (marked before.prefix (passed before.scan Line.Header) lines)
+    (marked before.prefix (passed before.scan LineKind.Header) lines)
 header-text before line lines awaited = taken (awaits_header before.scan) _ _ awaited
 
 header-searched : (before : Between)
-    → is_searched (between_after before Line.Header) ≡ is_searched before
+    → is_searched (between_after before LineKind.Header) ≡ is_searched before
 unfolding passed
 header-searched before = refl
 
 header-in_order : (before : Between) (line : List ℕ) (lines : List (List ℕ))
     → awaits_header before.scan ≡ true → IsInOrder before (line ∷ lines)
-    → IsInOrder (between_after before Line.Header) lines
+    → IsInOrder (between_after before LineKind.Header) lines
 header-in_order before line lines awaited in_order =
     let is = line_is_header before.scan (head line) awaited in
     record {
-      ordered = subst (λ (what : Line). AreInOrder (entries
+      ordered = subst (λ (what : LineKind). AreInOrder (entries
           (mark before.prefix before.scan line what
           ∷ marked before.prefix (passed before.scan what) lines))) is in_order.ordered;
-      goes_on = subst (λ (what : Line).
+      goes_on = subst (λ (what : LineKind).
           is_stopped (scan_after (passed before.scan what) lines).stop ≡ false) is in_order.goes_on;
     }
 
@@ -623,7 +625,7 @@ headed-text before found after text old halfway new begin awaited first ends wen
       | inr printed ↦
           let line : List ℕ = take (begin - 1) text in
           let others : List (List ℕ) = lines (drop begin text) in
-          let next : Between = between_after before Line.Header in
+          let next : Between = between_after before LineKind.Header in
           let alone = header-alone text begin first in
           let all = headed-lines text begin first in
           let is : found ≡ next = printed.0

@@ -11,7 +11,8 @@ use Rattle.speedate_scan.specs.Scan.{fits, has_as, is_stopped, is_value, judged,
 use Rattle.speedate_scan.specs.Scan.{passed, settled, stop_at_bad, undated_line, unfit_line}
 use Rattle.speedate_scan.specs.Entries.{Entry, Marked, entries, entry_and, lines_text, mark, marked}
 use Rattle.speedate_scan.specs.Entries.{printed_line, up_to_value}
-use Rattle.speedate_commands.specs.Base.{Found, Line, Offsets, Prefix, Reader, Reading, Scan, Stop}
+use Rattle.speedate_commands.specs.Base.{Found, LineKind, Offsets, Prefix, Reader, Reading}
+use Rattle.speedate_commands.specs.Base.{Scan, Stop}
 use Rattle.speedate_commands.specs.Base.{Form, UndatedLines}
 use Rattle.speedate_commands.specs.Between.{Bounds, awaits_header, entries_text, entry_text}
 use Rattle.speedate_commands.specs.Between.{is_begun, is_open, lies_between}
@@ -28,19 +29,19 @@ up_to_value-append (line ∷ some) others begins =
     ap (λ (l : List Marked). if is_value line.what then [] else line ∷ l)
     (up_to_value-append some others begins)
 
-entry_and-append : (what : Line) (line : Marked) (some others : List Marked)
+entry_and-append : (what : LineKind) (line : Marked) (some others : List Marked)
     (first second : List Entry) → up_to_value others ≡ []
     → entry_and what line (some ++ others) (first ++ second)
     ≡ entry_and what line some first ++ second
-entry_and-append (Line.Value found) line some others first second begins =
+entry_and-append (LineKind.Value found) line some others first second begins =
     ap (λ (l : List Marked).
     record { instant = found.instant; lines = line ∷ l } ∷ (first ++ second))
     (up_to_value-append some others begins)
-entry_and-append Line.Late line some others first second begins = refl
-entry_and-append Line.Header line some others first second begins = refl
-entry_and-append (Line.Bad bad) line some others first second begins = refl
-entry_and-append Line.Unfit line some others first second begins = refl
-entry_and-append Line.Undated line some others first second begins = refl
+entry_and-append LineKind.Late line some others first second begins = refl
+entry_and-append LineKind.Header line some others first second begins = refl
+entry_and-append (LineKind.Bad bad) line some others first second begins = refl
+entry_and-append LineKind.Unfit line some others first second begins = refl
+entry_and-append LineKind.Undated line some others first second begins = refl
 
 pub entries-append : (some others : List Marked) → up_to_value others ≡ []
     → entries (some ++ others) ≡ entries some ++ entries others
@@ -137,11 +138,11 @@ pub record BeginsEntry (instant : ℤ) (lines : List Marked) : Type 0 where
   pub others : List Marked
   pub is : lines ≡ first ∷ others
   pub found : Found
-  pub what : first.what ≡ Line.Value found
+  pub what : first.what ≡ LineKind.Value found
   pub same : found.instant ≡ instant
 
-no_more : (what : Line) (found : Found) (line : Marked) (lines : List Marked)
-    → what ≡ Line.Value found → (if is_value what then [] else line ∷ up_to_value lines) ≡ []
+no_more : (what : LineKind) (found : Found) (line : Marked) (lines : List Marked)
+    → what ≡ LineKind.Value found → (if is_value what then [] else line ∷ up_to_value lines) ≡ []
 no_more what found line lines is = rw is refl
 
 pub begins-no_more : (instant : ℤ) (lines : List Marked) → BeginsEntry instant lines
@@ -161,7 +162,7 @@ begins-entries : (instant : ℤ) (lines : List Marked) (begins : BeginsEntry ins
     → entries lines ≡ first_entry begins ∷ entries begins.others
 begins-entries instant lines begins =
     ap entries begins.is
-    ∙ ap (λ (what : Line). entry_and what begins.first begins.others (entries begins.others))
+    ∙ ap (λ (what : LineKind). entry_and what begins.first begins.others (entries begins.others))
     begins.what
 
 -- the lines before an entry whose value is before the first bound are not printed
@@ -205,7 +206,7 @@ pub marked-append : (prefix : Prefix) (scan : Scan) (some others : List (List �
     ≡ marked prefix scan some ++ marked prefix (scan_after scan some) others
 marked-append prefix scan [] others = refl
 marked-append prefix scan (line ∷ some) others =
-    let what : Line = line_of scan (head line) in
+    let what : LineKind = line_of scan (head line) in
     ap (λ (l : List Marked). mark prefix scan line what ∷ l)
     (marked-append prefix (passed scan what) some others)
 
@@ -216,12 +217,12 @@ scan_after-append scan (line ∷ some) others =
     scan_after-append (passed scan (line_of scan (head line))) some others
 
 -- after the run has ended nothing is learned
-late : (stopped : Bool) (other : Line) → stopped ≡ true
-    → (if stopped then Line.Late else other) ≡ Line.Late
+late : (stopped : Bool) (other : LineKind) → stopped ≡ true
+    → (if stopped then LineKind.Late else other) ≡ LineKind.Late
 late true other is = refl
 late false other is = cc
 
-late-passed : (scan : Scan) (what : Line) → what ≡ Line.Late → passed scan what ≡ scan
+late-passed : (scan : Scan) (what : LineKind) → what ≡ LineKind.Late → passed scan what ≡ scan
 unfolding passed
 late-passed scan what is = rw is refl
 
@@ -307,14 +308,14 @@ undated-offsets scan UndatedLines.Join form place = refl
 undated-offsets scan UndatedLines.Drop form place = refl
 
 value-offsets : (scan : Scan) (found : Found)
-    → (passed scan (Line.Value found)).offsets ≡ settled scan.offsets found
+    → (passed scan (LineKind.Value found)).offsets ≡ settled scan.offsets found
 unfolding passed
 value-offsets scan found = refl
 
 asked-value : (has_offset : Bool) (scan : Scan) (line : List ℕ) (found : Found) (fit : Bool)
     → fits scan.offsets found ≡ fit → AskFor has_offset scan.offsets
     → AskFor has_offset
-    (passed scan (if fit then Line.Value found else unfit_line scan.offsets line found)).offsets
+    (passed scan (if fit then LineKind.Value found else unfit_line scan.offsets line found)).offsets
 asked-value has_offset scan line found true is asked =
     let has = has_is has_offset found
     (sym (asked-fits has_offset scan.offsets found asked) ∙ is) in
@@ -338,8 +339,8 @@ asked-chosen : (has_offset stopped header : Bool) (scan : Scan) (line : List ℕ
     (reading : Reading)
     → AskFor has_offset scan.offsets
     → AskFor has_offset (passed scan
-    (if stopped then Line.Late
-    else if header then Line.Header else judged scan line reading)).offsets
+    (if stopped then LineKind.Late
+    else if header then LineKind.Header else judged scan line reading)).offsets
 unfolding passed
 asked-chosen has_offset true header scan line reading asked = asked
 asked-chosen has_offset false true scan line reading asked = asked
@@ -373,19 +374,19 @@ fixed scan = record scan {
   reports = [];
 }
 
-fixed-passed : (scan : Scan) (what : Line) → fixed (passed scan what) ≡ fixed scan
+fixed-passed : (scan : Scan) (what : LineKind) → fixed (passed scan what) ≡ fixed scan
 unfolding passed
-fixed-passed scan Line.Late = refl
-fixed-passed scan Line.Header = refl
-fixed-passed scan (Line.Value found) = refl
-fixed-passed scan (Line.Bad bad) = refl
-fixed-passed scan Line.Unfit = refl
-fixed-passed scan Line.Undated = refl
+fixed-passed scan LineKind.Late = refl
+fixed-passed scan LineKind.Header = refl
+fixed-passed scan (LineKind.Value found) = refl
+fixed-passed scan (LineKind.Bad bad) = refl
+fixed-passed scan LineKind.Unfit = refl
+fixed-passed scan LineKind.Undated = refl
 
 fixed-after : (scan : Scan) (lines : List (List ℕ)) → fixed (scan_after scan lines) ≡ fixed scan
 fixed-after scan [] = refl
 fixed-after scan (line ∷ lines) =
-    let what : Line = line_of scan (head line) in
+    let what : LineKind = line_of scan (head line) in
     fixed-after (passed scan what) lines ∙ fixed-passed scan what
 
 -- two runs that differ in what they counted
@@ -413,17 +414,17 @@ judged-plain scan line (Reading.Value found) = refl
 judged-plain scan line (Reading.Bad bad) = refl
 judged-plain scan line (Reading.Undated place) = refl
 
-no_header : (stopped header : Bool) (other : Line) → (not stopped && header) ≡ false
-    → (if stopped then Line.Late else if header then Line.Header else other)
-    ≡ (if stopped then Line.Late else other)
+no_header : (stopped header : Bool) (other : LineKind) → (not stopped && header) ≡ false
+    → (if stopped then LineKind.Late else if header then LineKind.Header else other)
+    ≡ (if stopped then LineKind.Late else other)
 no_header true header other came = refl
 no_header false true other came = cc
 no_header false false other came = refl
 
 -- what a line is after the header has come
-abbrev later_line : Scan → List ℕ → Line
+abbrev later_line : Scan → List ℕ → LineKind
 later_line scan line =
-    if is_stopped scan.stop then Line.Late else judged scan line (read scan.reader line)
+    if is_stopped scan.stop then LineKind.Late else judged scan line (read scan.reader line)
 
 line-later : (scan : Scan) (line : List ℕ) → awaits_header scan ≡ false
     → line_of scan line ≡ later_line scan line
@@ -434,7 +435,7 @@ line-later scan line came =
 
 later-plain : (scan : Scan) (line : List ℕ) → later_line scan line ≡ later_line (plain scan) line
 later-plain scan line =
-    ap (λ (what : Line). if is_stopped scan.stop then Line.Late else what)
+    ap (λ (what : LineKind). if is_stopped scan.stop then LineKind.Late else what)
     (judged-plain scan line (read scan.reader line))
 
 line-alike : (one other : Scan) (line : List ℕ) → AreAlike one other
@@ -447,13 +448,13 @@ line-alike one other line alike came came' =
     ∙ sym (later-plain other line)
     ∙ sym (line-later other line came')
 
-keeps-plain : (scan : Scan) (what : Line) → keeps scan what ≡ keeps (fixed scan) what
-keeps-plain scan Line.Late = refl
-keeps-plain scan Line.Header = refl
-keeps-plain scan (Line.Value found) = refl
-keeps-plain scan (Line.Bad bad) = refl
-keeps-plain scan Line.Unfit = refl
-keeps-plain scan Line.Undated = refl
+keeps-plain : (scan : Scan) (what : LineKind) → keeps scan what ≡ keeps (fixed scan) what
+keeps-plain scan LineKind.Late = refl
+keeps-plain scan LineKind.Header = refl
+keeps-plain scan (LineKind.Value found) = refl
+keeps-plain scan (LineKind.Bad bad) = refl
+keeps-plain scan LineKind.Unfit = refl
+keeps-plain scan LineKind.Undated = refl
 
 numbered : (asked : Bool) (one other : ℕ) → (asked ≡ true → one ≡ other)
     → with_colon asked (decimal one) ≡ with_colon asked (decimal other)
@@ -472,7 +473,7 @@ prefix-same prefix one other same number =
     (numbered prefix.has_number (one_more one.number) (one_more other.number)
     (λ asked. ap one_more (number asked)))
 
-mark-same : (prefix : Prefix) (one other : Scan) (line : List ℕ) (what : Line)
+mark-same : (prefix : Prefix) (one other : Scan) (line : List ℕ) (what : LineKind)
     → fixed one ≡ fixed other → (prefix.has_number ≡ true → one.number ≡ other.number)
     → mark prefix one line what ≡ mark prefix other line what
 mark-same prefix one other line what same number =
@@ -489,42 +490,42 @@ mark-same prefix one other line what same number =
       printed = text ++ (line ++ line_feed ∷ []);
     }) (prefix-same prefix one other same number)
 
-number-passed : (one other : Scan) (what : Line) → one.number ≡ other.number
+number-passed : (one other : Scan) (what : LineKind) → one.number ≡ other.number
     → (passed one what).number ≡ (passed other what).number
 unfolding passed
-number-passed one other Line.Late same = same
-number-passed one other Line.Header same = ap one_more same
-number-passed one other (Line.Value found) same = ap one_more same
-number-passed one other (Line.Bad bad) same = ap one_more same
-number-passed one other Line.Unfit same = ap one_more same
-number-passed one other Line.Undated same = ap one_more same
+number-passed one other LineKind.Late same = same
+number-passed one other LineKind.Header same = ap one_more same
+number-passed one other (LineKind.Value found) same = ap one_more same
+number-passed one other (LineKind.Bad bad) same = ap one_more same
+number-passed one other LineKind.Unfit same = ap one_more same
+number-passed one other LineKind.Undated same = ap one_more same
 
-offsets-passed : (one other : Scan) (what : Line) → one.offsets ≡ other.offsets
+offsets-passed : (one other : Scan) (what : LineKind) → one.offsets ≡ other.offsets
     → (passed one what).offsets ≡ (passed other what).offsets
 unfolding passed
-offsets-passed one other Line.Late same = same
-offsets-passed one other Line.Header same = same
-offsets-passed one other (Line.Value found) same =
+offsets-passed one other LineKind.Late same = same
+offsets-passed one other LineKind.Header same = same
+offsets-passed one other (LineKind.Value found) same =
     ap (λ (offsets : Offsets). settled offsets found) same
-offsets-passed one other (Line.Bad bad) same = same
-offsets-passed one other Line.Unfit same = same
-offsets-passed one other Line.Undated same = same
+offsets-passed one other (LineKind.Bad bad) same = same
+offsets-passed one other LineKind.Unfit same = same
+offsets-passed one other LineKind.Undated same = same
 
-stop-passed : (one other : Scan) (what : Line) → fixed one ≡ fixed other → one.stop ≡ other.stop
+stop-passed : (one other : Scan) (what : LineKind) → fixed one ≡ fixed other → one.stop ≡ other.stop
     → (passed one what).stop ≡ (passed other what).stop
 unfolding passed
-stop-passed one other Line.Late fix same = same
-stop-passed one other Line.Header fix same = same
-stop-passed one other (Line.Value found) fix same = same
-stop-passed one other (Line.Bad bad) fix same =
+stop-passed one other LineKind.Late fix same = same
+stop-passed one other LineKind.Header fix same = same
+stop-passed one other (LineKind.Value found) fix same = same
+stop-passed one other (LineKind.Bad bad) fix same =
     ap (λ (scan : Scan).
     if is_stopped (stop_at_bad scan.bad_lines) then Stop.AtBad else one.stop) fix
     ∙ ap (λ (stop : Stop).
     if is_stopped (stop_at_bad other.bad_lines) then Stop.AtBad else stop) same
-stop-passed one other Line.Unfit fix same = refl
-stop-passed one other Line.Undated fix same = same
+stop-passed one other LineKind.Unfit fix same = refl
+stop-passed one other LineKind.Undated fix same = same
 
-alike-passed : (one other : Scan) (what : Line) → AreAlike one other
+alike-passed : (one other : Scan) (what : LineKind) → AreAlike one other
     → AreAlike (passed one what) (passed other what)
 alike-passed one other what alike = record {
   same = fixed-passed one what ∙ alike.same ∙ sym (fixed-passed other what);
@@ -538,8 +539,8 @@ marked-alike : (prefix : Prefix) (one other : Scan) (lines : List (List ℕ)) �
     → marked prefix one lines ≡ marked prefix other lines
 marked-alike prefix one other [] alike came came' number = refl
 marked-alike prefix one other (line ∷ lines) alike came came' number =
-    let what : Line = line_of one (head line) in
-    let other_what : Line = line_of other (head line) in
+    let what : LineKind = line_of one (head line) in
+    let other_what : LineKind = line_of other (head line) in
     let is : what ≡ other_what = line-alike one other (head line) alike came came' in
     ap (λ (l : List Marked). mark prefix one line what ∷ l)
     (marked-alike prefix (passed one what) (passed other what) lines
@@ -547,7 +548,8 @@ marked-alike prefix one other (line ∷ lines) alike came came' number =
     (header_came other what came') (λ asked. number-passed one other what (number asked)))
     ∙ ap (λ (first : Marked). first ∷ marked prefix (passed other what) lines)
     (mark-same prefix one other line what alike.same number)
-    ∙ ap (λ (now : Line). mark prefix other line now ∷ marked prefix (passed other now) lines) is
+    ∙ ap (λ (now : LineKind). mark prefix other line now
+    ∷ marked prefix (passed other now) lines) is
 
 -- A line that has a value.
 
@@ -573,19 +575,19 @@ read-in reader has_offset line instant (Reading.Undated place) is value = cc
 
 value-is : (scan : Scan) (line : List ℕ) (found : Found) (fit : Bool)
     → fits scan.offsets found ≡ fit → fit ≡ true
-    → judged scan line (Reading.Value found) ≡ Line.Value found
+    → judged scan line (Reading.Value found) ≡ LineKind.Value found
 value-is scan line found true is fit = rw is refl
 value-is scan line found false is fit = cc
 
-goes_on-line : (stopped : Bool) (other : Line) → stopped ≡ false
-    → (if stopped then Line.Late else other) ≡ other
+goes_on-line : (stopped : Bool) (other : LineKind) → stopped ≡ false
+    → (if stopped then LineKind.Late else other) ≡ other
 goes_on-line true other is = cc
 goes_on-line false other is = refl
 
 value_line : (scan : Scan) (has_offset : Bool) (line : List ℕ) (found : Found)
     → read scan.reader (head line) ≡ Reading.Value found → has_as has_offset found ≡ true
     → AskFor has_offset scan.offsets → awaits_header scan ≡ false
-    → is_stopped scan.stop ≡ false → line_of scan (head line) ≡ Line.Value found
+    → is_stopped scan.stop ≡ false → line_of scan (head line) ≡ LineKind.Value found
 value_line scan has_offset line found reading has asked came goes_on =
     line-later scan (head line) came
     ∙ goes_on-line (is_stopped scan.stop) (judged scan (head line) (read scan.reader (head line)))
@@ -648,7 +650,7 @@ marked-found prefix scan has_offset instant number skipped lines begins asked ca
     let in_line = read-in scan.reader has_offset line instant (read scan.reader (head line)) refl
     begins.value in
     let found : Found = in_line.found in
-    let what : Line = Line.Value found in
+    let what : LineKind = LineKind.Value found in
     let came_one = came-after scan skipped came in
     let asked_one = asked-after has_offset scan skipped asked in
     let reading = ap (λ (reader : Reader). read reader (head line)) (reader-after scan skipped)
@@ -670,7 +672,8 @@ marked-found prefix scan has_offset instant number skipped lines begins asked ca
       stop = stop-passed one other what fix stops;
     } in
     ap (marked prefix one) begins.is
-    ∙ ap (λ (now : Line). mark prefix one line now ∷ marked prefix (passed one now) begins.others)
+    ∙ ap (λ (now : LineKind). mark prefix one line now
+    ∷ marked prefix (passed one now) begins.others)
     is_one
     ∙ ap (λ (l : List Marked). mark prefix one line what ∷ l)
     (marked-alike prefix (passed one what) (passed other what) begins.others alike
@@ -678,6 +681,6 @@ marked-found prefix scan has_offset instant number skipped lines begins asked ca
     (λ asked. number-passed one other what (same_number asked)))
     ∙ ap (λ (first : Marked). first ∷ marked prefix (passed other what) begins.others)
     (mark-same prefix one other line what fix same_number)
-    ∙ ap (λ (now : Line).
+    ∙ ap (λ (now : LineKind).
     mark prefix other line now ∷ marked prefix (passed other now) begins.others) (sym is_other)
     ∙ sym (ap (marked prefix other) begins.is)

@@ -7,3 +7,4 @@ mod SumLemmas
 mod InOrderLemmas
 mod SearchLemmas
 mod FoundLemmas
+mod ReportLemmas

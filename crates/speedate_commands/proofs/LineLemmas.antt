@@ -4,7 +4,7 @@ use Rattle.std.proofs.lemmas.List.{append-nil}
 use Rattle.std.specs.Prelude.{Some, None, if◌then◌else◌}
 use Rattle.speedate_stream.specs.Machine.{head, lines_output, rest_of}
 use Rattle.speedate_scan.specs.Scan.{keeps, line_of, passed}
-use Rattle.speedate_commands.specs.Base.{Line}
+use Rattle.speedate_commands.specs.Base.{LineKind}
 use Rattle.speedate_commands.specs.Check.{Check, check_after, check_lines, check_machine}
 use Rattle.speedate_commands.specs.Convert.{Convert, convert_line, convert_lines, convert_machine}
 use Rattle.speedate_commands.specs.Convert.{convert_rest, convert_text, converted, line_prefix}
@@ -15,7 +15,7 @@ pub check_prints : (check : Check) (lines : List (List ℕ))
     → lines_output check_machine check lines ≡ check_lines check lines
 check_prints check [] = refl
 check_prints check (line ∷ lines) =
-    let what : Line = line_of check.order.scan (head line) in
+    let what : LineKind = line_of check.order.scan (head line) in
     let later = check_prints (check_after check what) lines in
     rw (append-nil, later) refl
 
@@ -30,26 +30,26 @@ as_it_is false prefix line = refl
 joined : (a b c d : List ℕ) → (a ++ (b ++ c)) ++ d ≡ ((a ++ b) ++ c) ++ d
 joined a b c d = simp append_assoc
 
-one_line : (convert : Convert) (line : List ℕ) (what : Line)
+one_line : (convert : Convert) (line : List ℕ) (what : LineKind)
     → convert_text convert (head line) what ++ rest_of (convert_rest convert what) line
     ≡ converted convert line what
-one_line convert line (Line.Value found) =
+one_line convert line (LineKind.Value found) =
     joined (line_prefix convert) (take found.from (head line))
-    (text_of convert (head line) found (written_of convert (head line) (Line.Value found)))
+    (text_of convert (head line) found (written_of convert (head line) (LineKind.Value found)))
     (rest_of (Some found.to) line)
-one_line convert line Line.Header = as_it_is true (line_prefix convert) line
-one_line convert line (Line.Bad bad) =
-    as_it_is (keeps convert.scan (Line.Bad bad)) (line_prefix convert) line
-one_line convert line Line.Undated =
-    as_it_is (keeps convert.scan Line.Undated) (line_prefix convert) line
-one_line convert line Line.Late = refl
-one_line convert line Line.Unfit = refl
+one_line convert line LineKind.Header = as_it_is true (line_prefix convert) line
+one_line convert line (LineKind.Bad bad) =
+    as_it_is (keeps convert.scan (LineKind.Bad bad)) (line_prefix convert) line
+one_line convert line LineKind.Undated =
+    as_it_is (keeps convert.scan LineKind.Undated) (line_prefix convert) line
+one_line convert line LineKind.Late = refl
+one_line convert line LineKind.Unfit = refl
 
 -- `convert` prints each line with its value written anew
 pub convert_prints : (convert : Convert) (lines : List (List ℕ))
     → lines_output convert_machine convert lines ≡ convert_lines convert lines
 convert_prints convert [] = refl
 convert_prints convert (line ∷ lines) =
-    let what : Line = convert_line convert (head line) in
+    let what : LineKind = convert_line convert (head line) in
     let later = convert_prints (record convert { scan = passed convert.scan what }) lines in
     rw (one_line convert line what, later) refl

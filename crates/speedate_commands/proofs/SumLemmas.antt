@@ -5,7 +5,7 @@ use Rattle.speedate.specs.Duration.{signed_amount}
 use Rattle.speedate.specs.DurationNumbers.{DurationNumbers}
 use Rattle.speedate_stream.specs.Machine.{head, lines_output, state_after}
 use Rattle.speedate_scan.specs.Amount.{amount_of}
-use Rattle.speedate_commands.specs.Base.{Line, Scan}
+use Rattle.speedate_commands.specs.Base.{LineKind, Scan}
 use Rattle.speedate_commands.specs.Sum.{IsExact, IsSumAfter, Sum, amounts_of, scan_after}
 use Rattle.speedate_commands.specs.Sum.{sum_after, sum_machine, sum_of, total_after, with_first}
 
@@ -23,7 +23,7 @@ kept_or_not true total numbers later None is = tt
 kept_or_not false total numbers later (Some after) is = absurd is
 kept_or_not false total numbers later None is = tt
 
-after_one : (total : Option ℤ) (amount : Result DurationNumbers Line)
+after_one : (total : Option ℤ) (amount : Result DurationNumbers LineKind)
     (later : List DurationNumbers) (after : Option ℤ)
     → IsExact (total_after total amount) later after
     → IsExact total (with_first amount later) after
@@ -39,7 +39,7 @@ is_exact : (has_hours : Bool) (scan : Scan) (total : Option ℤ) (all : List (Li
 is_exact has_hours scan (Some total) [] = refl
 is_exact has_hours scan None [] = tt
 is_exact has_hours scan total (line ∷ others) =
-    let amount : Result DurationNumbers Line = amount_of scan (head line) in
+    let amount : Result DurationNumbers LineKind = amount_of scan (head line) in
     after_one total amount (amounts_of (scan_after scan amount) others) _
     (is_exact has_hours (scan_after scan amount) (total_after total amount) others)
 

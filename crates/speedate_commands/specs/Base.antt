@@ -5,7 +5,7 @@ pub use Rattle.speedate_scan.specs.declared.reading.Reader.{Reader}
 pub use Rattle.speedate_scan.specs.declared.reading.Reading.{Reading}
 pub use Rattle.speedate_scan.specs.declared.reading.Why.{Why}
 pub use Rattle.speedate_scan.specs.declared.form.Form.{Form}
-pub use Rattle.speedate_scan.specs.declared.scan.Line.{Line}
+pub use Rattle.speedate_scan.specs.declared.scan.LineKind.{LineKind}
 pub use Rattle.speedate_scan.specs.declared.scan.Offsets.{Offsets}
 pub use Rattle.speedate_scan.specs.declared.scan.Report.{Report}
 pub use Rattle.speedate_scan.specs.declared.scan.Scan.{Scan}

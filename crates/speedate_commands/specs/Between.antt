@@ -7,7 +7,7 @@ use Rattle.speedate_scan.specs.Entries.{Entry, Marked, entries, lines_text, mark
 use Rattle.speedate_scan.specs.Entries.{up_to_value}
 use Rattle.speedate_scan.specs.Print.{call_kind, prefix_text}
 use Rattle.speedate_scan.specs.Scan.{begun, is_stopped, keeps, line_of, passed}
-use Rattle.speedate_commands.specs.Base.{Line, Scan}
+use Rattle.speedate_commands.specs.Base.{LineKind, Scan}
 use Rattle.speedate_commands.specs.Runs.{About}
 pub use Rattle.speedate_commands.specs.declared.between.Bounds.{Bounds}
 pub use Rattle.speedate_commands.specs.declared.between.Between.{Between}
@@ -28,39 +28,39 @@ lies_between bounds instant = is_begun bounds.from instant && is_open bounds.to 
 
 -- a line is printed: the header, a line whose value lies between the bounds, and with it the lines
 -- of its entry that are not left out
-abbrev pub prints : Between → Line → Bool
-prints between Line.Header = true
-prints between (Line.Value found) = lies_between between.bounds found.instant
-prints between (Line.Bad bad) = between.is_kept && keeps between.scan (Line.Bad bad)
-prints between Line.Undated = between.is_kept && keeps between.scan Line.Undated
-prints between Line.Late = false
-prints between Line.Unfit = false
+abbrev pub prints : Between → LineKind → Bool
+prints between LineKind.Header = true
+prints between (LineKind.Value found) = lies_between between.bounds found.instant
+prints between (LineKind.Bad bad) = between.is_kept && keeps between.scan (LineKind.Bad bad)
+prints between LineKind.Undated = between.is_kept && keeps between.scan LineKind.Undated
+prints between LineKind.Late = false
+prints between LineKind.Unfit = false
 
 -- the entry of a line is printed
-abbrev pub kept_after : Between → Line → Bool
-kept_after between (Line.Value found) = lies_between between.bounds found.instant
-kept_after between Line.Header = between.is_kept
-kept_after between (Line.Bad bad) = between.is_kept
-kept_after between Line.Undated = between.is_kept
-kept_after between Line.Late = between.is_kept
-kept_after between Line.Unfit = between.is_kept
+abbrev pub kept_after : Between → LineKind → Bool
+kept_after between (LineKind.Value found) = lies_between between.bounds found.instant
+kept_after between LineKind.Header = between.is_kept
+kept_after between (LineKind.Bad bad) = between.is_kept
+kept_after between LineKind.Undated = between.is_kept
+kept_after between LineKind.Late = between.is_kept
+kept_after between LineKind.Unfit = between.is_kept
 
 -- what is known after a line
-abbrev pub between_after : Between → Line → Between
+abbrev pub between_after : Between → LineKind → Between
 between_after between line = record between {
   scan = passed between.scan line;
   is_kept = kept_after between line;
 }
 
 -- the prefix of a line that is printed
-abbrev pub between_text : Between → Line → List ℕ
+abbrev pub between_text : Between → LineKind → List ℕ
 between_text between line =
     if prints between line
     then prefix_text between.prefix between.scan.name.now (one_more between.scan.number)
     else []
 
 -- the whole of a line that is printed
-abbrev pub between_rest : Between → Line → Option ℕ
+abbrev pub between_rest : Between → LineKind → Option ℕ
 between_rest between line = if prints between line then Some 0 else None
 
 -- the lines of the entries whose value lies between the bounds
@@ -101,7 +101,7 @@ file_text between (line ∷ lines) =
     if awaits_header between.scan
     then printed_line between.prefix between.scan line
     ++ between_lines between.bounds between.is_kept
-    (marked between.prefix (passed between.scan Line.Header) lines)
+    (marked between.prefix (passed between.scan LineKind.Header) lines)
     else between_lines between.bounds between.is_kept
     (marked between.prefix between.scan (line ∷ lines))
 

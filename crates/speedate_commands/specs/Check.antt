@@ -7,7 +7,7 @@ use Rattle.speedate_stream.specs.Watch.{one_more}
 use Rattle.speedate_scan.specs.Print.{call_kind, report_text}
 use Rattle.speedate_scan.specs.Scan.{begun, is_found, is_stopped, line_of, lines_before, passed}
 use Rattle.speedate_scan.specs.declared.scan.Offsets.{Offsets}
-use Rattle.speedate_commands.specs.Base.{Bad, Line, Scan}
+use Rattle.speedate_commands.specs.Base.{Bad, LineKind, Scan}
 use Rattle.speedate_commands.specs.Nanosecond.{distance}
 use Rattle.speedate_commands.specs.Order.{Latest, gap_text, late_text, order_after}
 use Rattle.speedate_commands.specs.Runs.{About}
@@ -40,27 +40,27 @@ bad_report scan bad =
     report_text scan.name.now (one_more scan.number) bad (call_kind scan.reader.form)
 
 -- what is reported of a line
-abbrev pub check_text : Check → Line → List ℕ
-check_text check (Line.Bad bad) = bad_report check.order.scan bad
-check_text check (Line.Value found) = value_report check found.instant check.order.latest
-check_text check Line.Late = []
-check_text check Line.Header = []
-check_text check Line.Unfit = []
-check_text check Line.Undated = []
+abbrev pub check_text : Check → LineKind → List ℕ
+check_text check (LineKind.Bad bad) = bad_report check.order.scan bad
+check_text check (LineKind.Value found) = value_report check found.instant check.order.latest
+check_text check LineKind.Late = []
+check_text check LineKind.Header = []
+check_text check LineKind.Unfit = []
+check_text check LineKind.Undated = []
 
 -- how many values came after a gap
-abbrev pub gaps_after : Check → Line → ℕ
-gaps_after check (Line.Value found) =
+abbrev pub gaps_after : Check → LineKind → ℕ
+gaps_after check (LineKind.Value found) =
     if is_after_gap check.gap found.instant check.order.latest then one_more check.gaps
     else check.gaps
-gaps_after check (Line.Bad bad) = check.gaps
-gaps_after check Line.Late = check.gaps
-gaps_after check Line.Header = check.gaps
-gaps_after check Line.Unfit = check.gaps
-gaps_after check Line.Undated = check.gaps
+gaps_after check (LineKind.Bad bad) = check.gaps
+gaps_after check LineKind.Late = check.gaps
+gaps_after check LineKind.Header = check.gaps
+gaps_after check LineKind.Unfit = check.gaps
+gaps_after check LineKind.Undated = check.gaps
 
 -- what is known after a line
-abbrev pub check_after : Check → Line → Check
+abbrev pub check_after : Check → LineKind → Check
 check_after check line =
     if compares check
     then record check { order = order_after check.order line; gaps = gaps_after check line }

@@ -12,7 +12,7 @@ use Rattle.speedate_scan.specs.Print.{call_kind, prefix_text}
 use Rattle.speedate_scan.specs.Fraction.{fraction_size}
 use Rattle.speedate_scan.specs.Reading.{part, value_of}
 use Rattle.speedate_scan.specs.Scan.{begun, is_stopped, keeps, line_of, lines_before, passed}
-use Rattle.speedate_commands.specs.Base.{Bad, Form, Found, Line, Why}
+use Rattle.speedate_commands.specs.Base.{Bad, Form, Found, LineKind, Why}
 use Rattle.speedate_commands.specs.Nanosecond.{date_time_with, past_second}
 use Rattle.speedate_commands.specs.Runs.{About}
 pub use Rattle.speedate_commands.specs.declared.convert.Target.{Target}
@@ -87,45 +87,45 @@ text_of convert head found (Some value) =
 text_of convert head found None = []
 
 -- a line whose value cannot be written is bad
-abbrev pub line_by_value : Found → Result DateAndTime Bad → Line
-line_by_value found (Ok value) = Line.Value found
-line_by_value found (Err bad) = Line.Bad bad
+abbrev pub line_by_value : Found → Result DateAndTime Bad → LineKind
+line_by_value found (Ok value) = LineKind.Value found
+line_by_value found (Err bad) = LineKind.Bad bad
 
-abbrev pub line_with_value : Convert → List ℕ → Line → Line
-line_with_value convert head (Line.Value found) =
+abbrev pub line_with_value : Convert → List ℕ → LineKind → LineKind
+line_with_value convert head (LineKind.Value found) =
     line_by_value found (written_value convert head found)
-line_with_value convert head Line.Late = Line.Late
-line_with_value convert head Line.Header = Line.Header
-line_with_value convert head (Line.Bad bad) = Line.Bad bad
-line_with_value convert head Line.Unfit = Line.Unfit
-line_with_value convert head Line.Undated = Line.Undated
+line_with_value convert head LineKind.Late = LineKind.Late
+line_with_value convert head LineKind.Header = LineKind.Header
+line_with_value convert head (LineKind.Bad bad) = LineKind.Bad bad
+line_with_value convert head LineKind.Unfit = LineKind.Unfit
+line_with_value convert head LineKind.Undated = LineKind.Undated
 
 -- what a line is
-abbrev pub convert_line : Convert → List ℕ → Line
+abbrev pub convert_line : Convert → List ℕ → LineKind
 convert_line convert head = line_with_value convert head (line_of convert.scan head)
 
 -- the value of a line as it is written, if it has one
-abbrev pub written_of : Convert → List ℕ → Line → Option DateAndTime
-written_of convert head (Line.Value found) = result_ok (written_value convert head found)
-written_of convert head Line.Late = None
-written_of convert head Line.Header = None
-written_of convert head (Line.Bad bad) = None
-written_of convert head Line.Unfit = None
-written_of convert head Line.Undated = None
+abbrev pub written_of : Convert → List ℕ → LineKind → Option DateAndTime
+written_of convert head (LineKind.Value found) = result_ok (written_value convert head found)
+written_of convert head LineKind.Late = None
+written_of convert head LineKind.Header = None
+written_of convert head (LineKind.Bad bad) = None
+written_of convert head LineKind.Unfit = None
+written_of convert head LineKind.Undated = None
 
 -- the bytes of a line before its value, and the value written anew
-abbrev pub value_text : Convert → List ℕ → Line → List ℕ
-value_text convert head (Line.Value found) =
+abbrev pub value_text : Convert → List ℕ → LineKind → List ℕ
+value_text convert head (LineKind.Value found) =
     take found.from head
-    ++ text_of convert head found (written_of convert head (Line.Value found))
-value_text convert head Line.Late = []
-value_text convert head Line.Header = []
-value_text convert head (Line.Bad bad) = []
-value_text convert head Line.Unfit = []
-value_text convert head Line.Undated = []
+    ++ text_of convert head found (written_of convert head (LineKind.Value found))
+value_text convert head LineKind.Late = []
+value_text convert head LineKind.Header = []
+value_text convert head (LineKind.Bad bad) = []
+value_text convert head LineKind.Unfit = []
+value_text convert head LineKind.Undated = []
 
 -- what is printed before the rest of a line
-abbrev pub convert_text : Convert → List ℕ → Line → List ℕ
+abbrev pub convert_text : Convert → List ℕ → LineKind → List ℕ
 convert_text convert head line =
     if keeps convert.scan line
     then prefix_text convert.prefix convert.scan.name.now (one_more convert.scan.number)
@@ -133,16 +133,16 @@ convert_text convert head line =
     else []
 
 -- the byte after a value, or the first one of a line that has none
-abbrev pub rest_start : Line → ℕ
-rest_start (Line.Value found) = found.to
-rest_start Line.Late = 0
-rest_start Line.Header = 0
-rest_start (Line.Bad bad) = 0
-rest_start Line.Unfit = 0
-rest_start Line.Undated = 0
+abbrev pub rest_start : LineKind → ℕ
+rest_start (LineKind.Value found) = found.to
+rest_start LineKind.Late = 0
+rest_start LineKind.Header = 0
+rest_start (LineKind.Bad bad) = 0
+rest_start LineKind.Unfit = 0
+rest_start LineKind.Undated = 0
 
 -- the rest of a line: what stands after its value, or all of it
-abbrev pub convert_rest : Convert → Line → Option ℕ
+abbrev pub convert_rest : Convert → LineKind → Option ℕ
 convert_rest convert line = if keeps convert.scan line then Some (rest_start line) else None
 
 -- each line with its value written anew
@@ -162,18 +162,19 @@ line_prefix convert =
 
 -- what is printed of a line: what stands before its value, the value written anew, and what stands
 -- after it; a line that has none as it is, unless it is left out
-abbrev pub converted : Convert → List ℕ → Line → List ℕ
-converted convert line (Line.Value found) =
+abbrev pub converted : Convert → List ℕ → LineKind → List ℕ
+converted convert line (LineKind.Value found) =
     line_prefix convert ++ take found.from (head line)
-    ++ text_of convert (head line) found (written_of convert (head line) (Line.Value found))
+    ++ text_of convert (head line) found (written_of convert (head line) (LineKind.Value found))
     ++ rest_of (Some found.to) line
-converted convert line Line.Header = line_prefix convert ++ rest_of (Some 0) line
-converted convert line (Line.Bad bad) =
-    if keeps convert.scan (Line.Bad bad) then line_prefix convert ++ rest_of (Some 0) line else []
-converted convert line Line.Undated =
-    if keeps convert.scan Line.Undated then line_prefix convert ++ rest_of (Some 0) line else []
-converted convert line Line.Late = []
-converted convert line Line.Unfit = []
+converted convert line LineKind.Header = line_prefix convert ++ rest_of (Some 0) line
+converted convert line (LineKind.Bad bad) =
+    if keeps convert.scan (LineKind.Bad bad)
+    then line_prefix convert ++ rest_of (Some 0) line else []
+converted convert line LineKind.Undated =
+    if keeps convert.scan LineKind.Undated then line_prefix convert ++ rest_of (Some 0) line else []
+converted convert line LineKind.Late = []
+converted convert line LineKind.Unfit = []
 
 -- what `convert` prints of lines
 abbrev pub convert_lines : Convert → List (List ℕ) → List ℕ

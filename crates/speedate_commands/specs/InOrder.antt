@@ -1,6 +1,6 @@
 -- A file whose values are in order: a line is found in it by its value, and what stands before that
 -- line need not be read.
-use Rattle.std.specs.Prelude.{◌≡◌, ℕ, ℤ, ◌+◌, ◌-◌, ◌<◌, ◌≤◌, ◌^◌, ◌⊎◌, ◌&&◌, not, Bool, true, false, List, [], ◌∷◌, length, min, take, drop, slice_index, int_le, int_lt, Option, Some, None, Result, Ok, Err, IfOk, IfSome, if◌then◌else◌}
+use Rattle.std.specs.Prelude.{◌≡◌, ℕ, zero, suc, ℤ, ◌+◌, ◌-◌, ◌<◌, ◌≤◌, ◌^◌, ◌⊎◌, ◌&&◌, not, Bool, true, false, List, [], ◌∷◌, length, min, take, drop, slice_index, int_le, int_lt, Option, Some, None, Result, Ok, Err, IfOk, IfSome, if◌then◌else◌}
 use Rattle.std.specs.Io.KnownBytes.{Appends}
 use Rattle.speedate.specs.Ascii.{line_feed}
 use Rattle.speedate.specs.Lines.{IsLineEnd, complete_lines, lines}
@@ -122,6 +122,19 @@ IsNumber between text begin start number =
     (2 ^ 64 - 1))
     ⊎ ((number ≡ between.scan.number) × (between.prefix.has_number ≡ false))
 
+-- a report, once lines that were not read before its line are counted
+abbrev pub later : ℕ → Report → Report
+later skipped report = record report { number = min (report.number + skipped) (2 ^ 64 - 1) }
+
+-- the first reports, once lines that were not read are counted before those from one on
+abbrev pub moved : ℕ → ℕ → ℕ → List Report → List Report
+moved zero first skipped reports = reports
+moved (suc count) first skipped [] = []
+moved (suc count) zero skipped (report ∷ reports) =
+    later skipped report ∷ moved count zero skipped reports
+moved (suc count) (suc first) skipped (report ∷ reports) =
+    report ∷ moved count first skipped reports
+
 -- what is known of lines with these reports, once those before them that were not read are counted
 abbrev pub renumbered : Scan → ℕ → List Report → Scan
 renumbered scan skipped reports = record scan {
@@ -163,8 +176,8 @@ PrintsRest before after old new text rest = is_searched before ≡ true → leng
     → is_stopped after.scan.stop ≡ false → IsInOrder before rest
     → Appends old new (file_text before rest)
 
--- which of the two has failed of an input and an output: the output, by this answer, or not
-abbrev pub FailsBy : Result (Unit {0}) RunError → Bool → Type 0
-FailsBy (Ok ended) output = output ≡ false
-FailsBy (Err RunError.Read) output = output ≡ false
-FailsBy (Err RunError.Write) output = output ≡ true
+-- which of the two has failed, by this answer: a read, which may have failed before, or the output
+abbrev pub FailsBy : Result (Unit {0}) RunError → Bool → Bool → Bool → Type 0
+FailsBy (Ok ended) before read output = (read ≡ before) × (output ≡ false)
+FailsBy (Err RunError.Read) before read output = (read ≡ true) × (output ≡ false)
+FailsBy (Err RunError.Write) before read output = (read ≡ before) × (output ≡ true)

@@ -4,7 +4,7 @@ use Rattle.speedate.specs.Ascii.{line_feed}
 use Rattle.speedate_stream.specs.Watch.{one_more}
 use Rattle.speedate_scan.specs.Print.{line_place}
 use Rattle.speedate_scan.specs.Scan.{passed}
-use Rattle.speedate_commands.specs.Base.{Found, Line, Scan}
+use Rattle.speedate_commands.specs.Base.{Found, LineKind, Scan}
 use Rattle.speedate_commands.specs.Nanosecond.{duration_between}
 pub use Rattle.speedate_commands.specs.declared.order.Latest.{Latest}
 pub use Rattle.speedate_commands.specs.declared.order.Order.{Order}
@@ -44,29 +44,29 @@ is_before instant None = false
 is_before instant (Some latest) = int_lt instant latest.instant
 
 -- a line has a value that is earlier than the one before
-abbrev pub is_late : Order → Line → Bool
-is_late order (Line.Value found) = is_before found.instant order.latest
-is_late order Line.Late = false
-is_late order Line.Header = false
-is_late order (Line.Bad bad) = false
-is_late order Line.Unfit = false
-is_late order Line.Undated = false
+abbrev pub is_late : Order → LineKind → Bool
+is_late order (LineKind.Value found) = is_before found.instant order.latest
+is_late order LineKind.Late = false
+is_late order LineKind.Header = false
+is_late order (LineKind.Bad bad) = false
+is_late order LineKind.Unfit = false
+is_late order LineKind.Undated = false
 
 -- the value before the next line
-abbrev pub value_after : Order → Line → Option Latest
-value_after order (Line.Value found) = Some (latest_of order.scan found)
-value_after order Line.Late = order.latest
-value_after order Line.Header = order.latest
-value_after order (Line.Bad bad) = order.latest
-value_after order Line.Unfit = order.latest
-value_after order Line.Undated = order.latest
+abbrev pub value_after : Order → LineKind → Option Latest
+value_after order (LineKind.Value found) = Some (latest_of order.scan found)
+value_after order LineKind.Late = order.latest
+value_after order LineKind.Header = order.latest
+value_after order (LineKind.Bad bad) = order.latest
+value_after order LineKind.Unfit = order.latest
+value_after order LineKind.Undated = order.latest
 
 -- how many values were earlier than the one before
-abbrev pub late_after : Order → Line → ℕ
+abbrev pub late_after : Order → LineKind → ℕ
 late_after order line = if is_late order line then one_more order.late else order.late
 
 -- what is known after a line
-abbrev pub order_after : Order → Line → Order
+abbrev pub order_after : Order → LineKind → Order
 order_after order line = record {
   scan = passed order.scan line;
   latest = value_after order line;

@@ -13,19 +13,20 @@ use Rattle.speedate.specs.Time.{fraction_text, minute_text}
 use Rattle.speedate_stream.specs.Machine.{Machine, head}
 use Rattle.speedate_scan.specs.Amount.{amount_of}
 use Rattle.speedate_scan.specs.Scan.{begun, is_stopped, passed, valued}
-use Rattle.speedate_commands.specs.Base.{Line, Scan}
+use Rattle.speedate_commands.specs.Base.{LineKind, Scan}
 use Rattle.speedate_commands.specs.Runs.{About}
 pub use Rattle.speedate_commands.specs.declared.sum.Sum.{Sum}
 
 -- What is added.
 
 -- what is known of the lines after one more
-abbrev pub scan_after : Scan → Result DurationNumbers Line → Scan
+abbrev pub scan_after : Scan → Result DurationNumbers LineKind → Scan
 scan_after scan (Ok numbers) = valued scan
 scan_after scan (Err line) = passed scan line
 
 -- the durations of lines, in order
-abbrev pub with_first : Result DurationNumbers Line → List DurationNumbers → List DurationNumbers
+abbrev pub with_first : Result DurationNumbers LineKind → List DurationNumbers
+    → List DurationNumbers
 with_first (Ok numbers) others = numbers ∷ others
 with_first (Err line) others = others
 
@@ -48,12 +49,12 @@ with_amount None numbers = None
 with_amount (Some total) numbers =
     if nat_lt (unsigned_abs total) (2 ^ 126) then Some (total +ℤ signed_amount numbers) else None
 
-abbrev pub total_after : Option ℤ → Result DurationNumbers Line → Option ℤ
+abbrev pub total_after : Option ℤ → Result DurationNumbers LineKind → Option ℤ
 total_after total (Ok numbers) = with_amount total numbers
 total_after total (Err line) = total
 
 -- the sum, after a line
-abbrev pub sum_after : Sum → Result DurationNumbers Line → Sum
+abbrev pub sum_after : Sum → Result DurationNumbers LineKind → Sum
 sum_after sum amount = record sum {
   scan = scan_after sum.scan amount;
   total = total_after sum.total amount;

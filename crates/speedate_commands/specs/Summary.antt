@@ -16,7 +16,7 @@ use Rattle.speedate_commands.specs.Nanosecond.{duration_between, past_second}
 use Rattle.speedate_commands.specs.Order.{Latest, latest_of, order_after}
 use Rattle.speedate_scan.specs.Print.{call_kind, line_place}
 use Rattle.speedate_scan.specs.Scan.{begun, is_counted, is_stopped, is_value, line_of}
-use Rattle.speedate_commands.specs.Base.{Line, Scan}
+use Rattle.speedate_commands.specs.Base.{LineKind, Scan}
 use Rattle.speedate_commands.specs.Runs.{About}
 pub use Rattle.speedate_commands.specs.declared.summary.Gap.{Gap}
 pub use Rattle.speedate_commands.specs.declared.summary.Summary.{Summary}
@@ -28,13 +28,13 @@ abbrev pub one_more_if : Bool → ℕ → ℕ
 one_more_if is_one count = if is_one then one_more count else count
 
 -- a line has no value
-abbrev pub is_undated : Line → Bool
-is_undated Line.Undated = true
-is_undated (Line.Value found) = false
-is_undated Line.Late = false
-is_undated Line.Header = false
-is_undated (Line.Bad bad) = false
-is_undated Line.Unfit = false
+abbrev pub is_undated : LineKind → Bool
+is_undated LineKind.Undated = true
+is_undated (LineKind.Value found) = false
+is_undated LineKind.Late = false
+is_undated LineKind.Header = false
+is_undated (LineKind.Bad bad) = false
+is_undated LineKind.Unfit = false
 
 -- the earlier of two values, of which the first may be missing; of equal ones the first
 abbrev pub earlier_of : Option Latest → Latest → Latest
@@ -47,14 +47,14 @@ later_of None value = value
 later_of (Some kept) value = if int_lt kept.instant value.instant then value else kept
 
 -- one of two values, after a line: the value so far, and that of the line
-abbrev pub value_after : (Option Latest → Latest → Latest) → Scan → Option Latest → Line
+abbrev pub value_after : (Option Latest → Latest → Latest) → Scan → Option Latest → LineKind
     → Option Latest
-value_after chosen scan kept (Line.Value found) = Some (chosen kept (latest_of scan found))
-value_after chosen scan kept Line.Late = kept
-value_after chosen scan kept Line.Header = kept
-value_after chosen scan kept (Line.Bad bad) = kept
-value_after chosen scan kept Line.Unfit = kept
-value_after chosen scan kept Line.Undated = kept
+value_after chosen scan kept (LineKind.Value found) = Some (chosen kept (latest_of scan found))
+value_after chosen scan kept LineKind.Late = kept
+value_after chosen scan kept LineKind.Header = kept
+value_after chosen scan kept (LineKind.Bad bad) = kept
+value_after chosen scan kept LineKind.Unfit = kept
+value_after chosen scan kept LineKind.Undated = kept
 
 -- the nanoseconds from one value to the next
 abbrev pub gap_size : Gap → ℤ
@@ -76,17 +76,17 @@ longest_with longest (Some before) value =
     longer longest (record { from = before.instant; to = value })
 
 -- the longest gap, after a line
-abbrev pub longest_after : Summary → Line → Option Gap
-longest_after summary (Line.Value found) =
+abbrev pub longest_after : Summary → LineKind → Option Gap
+longest_after summary (LineKind.Value found) =
     longest_with summary.longest summary.order.latest (latest_of summary.order.scan found)
-longest_after summary Line.Late = summary.longest
-longest_after summary Line.Header = summary.longest
-longest_after summary (Line.Bad bad) = summary.longest
-longest_after summary Line.Unfit = summary.longest
-longest_after summary Line.Undated = summary.longest
+longest_after summary LineKind.Late = summary.longest
+longest_after summary LineKind.Header = summary.longest
+longest_after summary (LineKind.Bad bad) = summary.longest
+longest_after summary LineKind.Unfit = summary.longest
+longest_after summary LineKind.Undated = summary.longest
 
 -- the summary, after a line
-abbrev pub summary_after : Summary → Line → Summary
+abbrev pub summary_after : Summary → LineKind → Summary
 summary_after summary line = record {
   order = order_after summary.order line;
   lines = one_more_if (is_counted line) summary.lines;

@@ -1,8 +1,10 @@
 //! The command `between`: the entries whose value lies between two bounds.
 
-ghost use Rattle.std.specs.Prelude.{◌≡◌, ◌+◌, ◌++◌, ◌≤◌, IfSome};
+ghost use Rattle.std.specs.Prelude.{◌≡◌, ◌+◌, ◌++◌, ◌≤◌, [], IfSome, None, Some, if◌then◌else◌};
 ghost use Rattle.arrayvec.specs.ArrayVec.{array_vec_len};
-ghost use Rattle.speedate_commands.specs.Between.{between_machine, between_rest};
+ghost use Rattle.speedate_stream.specs.Watch.{one_more};
+ghost use Rattle.speedate_scan.specs.Print.{prefix_text};
+ghost use Rattle.speedate_commands.specs.Between.{between_after, between_machine, between_rest};
 ghost use Rattle.speedate_commands.specs.Between.{between_text, is_begun, is_open};
 ghost use Rattle.speedate_commands.specs.Between.{kept_after, lies_between, prints};
 
@@ -11,9 +13,9 @@ use crate::in_order::between_in_order;
 use crate::search::ReadAt;
 use speedate_scan::print::{PREFIX_MAX, Prefix};
 use speedate_scan::reading::Found;
-use speedate_scan::scan::{Line, Scan};
+use speedate_scan::scan::{LineKind, Scan};
 use speedate_stream::run::{RunError, run};
-use speedate_stream::{LineMachine, Observer, PENDING_MAX, Pending, Watched};
+use speedate_stream::{LineMachine, Observer, PENDING_MAX, Pending, STEP_MAX, Watched};
 use std::io::{Read, Write};
 
 /// Two bounds, in nanoseconds as [`Found::instant`] counts them. A bound that is absent is open.
@@ -72,44 +74,89 @@ impl Bounds {
 
 impl Between<'_> {
     /// Whether the entry of a line is printed.
-    fn kept_after(&self, line: &Line) -> bool
+    fn kept_after(&self, line: &LineKind) -> bool
         ensures kept { result ≡ kept_after self.now line.now }
     {
         match line {
-            Line::Value(found) => self.bounds.holds(found),
+            LineKind::Value(found) => self.bounds.holds(found),
             _ => self.is_kept,
         }
     }
 
     /// Whether a line is printed, by whether its entry is.
-    fn prints(&self, line: &Line, kept: bool) -> bool
+    fn prints(&self, line: &LineKind, kept: bool) -> bool
         requires kept { kept ≡ kept_after self.now line.now }
         ensures prints { result ≡ prints self.now line.now }
     {
         match line {
-            Line::Header => true,
-            Line::Value(_) => kept,
-            Line::Bad(_) | Line::Undated => self.is_kept && self.scan.keeps(line),
-            Line::Late | Line::Unfit => false,
+            LineKind::Header => true,
+            LineKind::Value(_) => kept,
+            LineKind::Bad(_) | LineKind::Undated => self.is_kept && self.scan.keeps(line),
+            LineKind::Late | LineKind::Unfit => false,
         }
     }
 
-    /// Appends the prefix of a line if it is printed, by whether its entry is, and returns the byte from which on it
-    /// follows.
-    fn push_prefix(&self, line: &Line, kept: bool, pending: &mut Pending) -> Option<usize>
-        requires kept { kept ≡ kept_after self.now line.now }
+    /// Appends the prefix of a line if it is printed, and returns the byte from which on it follows.
+    fn push_prefix(&self, is_printed: bool, pending: &mut Pending) -> Option<usize>
         requires room { array_vec_len pending.old + PREFIX_MAX ≤ PENDING_MAX }
-        ensures pushed { pending.new.items ≡ pending.old.items ++ between_text self.now line.now }
-        ensures length { array_vec_len pending.new ≤ array_vec_len pending.old + PREFIX_MAX }
-        ensures rest { result ≡ between_rest self.now line.now }
-        ensures within { IfSome result (λ from. from ≡ 0) }
+        ensures pushed { pending.new.items ≡ pending.old.items ++ (if is_printed
+            then prefix_text self.now.prefix self.now.scan.name.now (one_more self.now.scan.number)
+            else []) }
+        ensures rest { result ≡ (if is_printed then Some 0 else None) }
     {
-        if !self.prints(line, kept) {
+        if !is_printed {
             return None;
         }
         self.prefix
             .push_onto(self.scan.name, self.scan.next_number(), pending);
         Some(0)
+    }
+
+    /// Prints what comes before a line with this value, counts the line, and returns the byte from which on it follows.
+    #[inline(always)]
+    fn pass_value(&mut self, found: &Found, pending: &mut Pending) -> Option<usize>
+        requires room { array_vec_len pending.old + STEP_MAX ≤ PENDING_MAX }
+        ensures after { self.new ≡ between_after self.old (LineKind.Value found.now) }
+        ensures text { pending.new.items
+            ≡ pending.old.items ++ between_text self.old (LineKind.Value found.now) }
+        ensures rest { result ≡ between_rest self.old (LineKind.Value found.now) }
+        ensures within { IfSome result (λ from. from ≡ 0) }
+    {
+        let kept = self.bounds.holds(found);
+        let rest = self.push_prefix(kept, pending);
+        self.is_kept = kept;
+        self.scan.pass_value(found);
+        rest
+    }
+
+    /// The same for a line by what it is.
+    #[inline(always)]
+    fn pass_line(&mut self, line: LineKind, pending: &mut Pending) -> Option<usize>
+        requires room { array_vec_len pending.old + STEP_MAX ≤ PENDING_MAX }
+        ensures after { self.new ≡ between_after self.old line }
+        ensures text { pending.new.items ≡ pending.old.items ++ between_text self.old line }
+        ensures rest { result ≡ between_rest self.old line }
+        ensures within { IfSome result (λ from. from ≡ 0) }
+    {
+        let kept = self.kept_after(&line);
+        let rest = self.push_prefix(self.prints(&line, kept), pending);
+        self.is_kept = kept;
+        self.scan.pass(line);
+        rest
+    }
+
+    /// The same for any line, by its head.
+    #[inline(never)]
+    fn pass_any(&mut self, head: &[u8], pending: &mut Pending) -> Option<usize>
+        requires room { array_vec_len pending.old + STEP_MAX ≤ PENDING_MAX }
+        ensures after { self.new ≡ between_machine.after self.old head.now }
+        ensures text { pending.new.items
+            ≡ pending.old.items ++ between_machine.text self.old head.now }
+        ensures rest { result ≡ between_machine.rest self.old head.now }
+        ensures within { IfSome result (λ from. from ≡ 0) }
+    {
+        let (line, _) = self.scan.any_line(head);
+        self.pass_line(line, pending)
     }
 }
 
@@ -128,12 +175,11 @@ impl LineMachine for Between<'_> {
     }
 
     fn step(&mut self, head: &[u8], pending: &mut Pending) -> Option<usize> {
-        let line = self.scan.line(head);
-        let kept = self.kept_after(&line);
-        let rest = self.push_prefix(&line, kept, pending);
-        self.is_kept = kept;
-        self.scan.pass(line);
-        rest
+        match self.scan.value(head) {
+            Some((found, _)) => self.pass_value(&found, pending),
+            None if self.scan.is_undated(head) => self.pass_line(LineKind::Undated, pending),
+            None => self.pass_any(head, pending),
+        }
     }
 }
 
@@ -183,9 +229,10 @@ impl<'a> Command<'a> for Between<'a> {
         &mut self,
         source: &S,
         size: u64,
+        failed: &mut bool,
         output: &mut Watched<W>,
     ) -> Result<(), RunError> {
-        between_in_order(self, source, size, output)
+        between_in_order(self, source, size, failed, output)
     }
 
     fn push_end(&self, _pending: &mut Pending) {}

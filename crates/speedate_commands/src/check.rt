@@ -15,7 +15,7 @@ use crate::order::{Order, push_gap, push_late};
 use crate::search::ReadAt;
 use speedate_scan::print::push_report;
 use speedate_scan::reading::Bad;
-use speedate_scan::scan::{Line, Offsets, Scan};
+use speedate_scan::scan::{LineKind, Offsets, Scan};
 use speedate_stream::run::{RunError, run};
 use speedate_stream::{LineMachine, Observer, PENDING_MAX, Pending, STEP_MAX, Watched};
 use std::io::{Read, Write};
@@ -95,14 +95,14 @@ impl Check<'_> {
     }
 
     /// Appends what is reported of a line.
-    fn push_line(&self, line: &Line, pending: &mut Pending)
+    fn push_line(&self, line: &LineKind, pending: &mut Pending)
         requires room { array_vec_len pending.old + STEP_MAX ≤ PENDING_MAX }
         ensures pushed { pending.new.items ≡ pending.old.items ++ check_text self.now line.now }
         ensures length { array_vec_len pending.new ≤ array_vec_len pending.old + STEP_MAX }
     {
         match line {
-            Line::Bad(bad) => self.push_bad(bad, pending),
-            Line::Value(found) => self.push_value(found.instant, pending),
+            LineKind::Bad(bad) => self.push_bad(bad, pending),
+            LineKind::Value(found) => self.push_value(found.instant, pending),
             _ => {}
         }
     }
@@ -120,11 +120,13 @@ impl Check<'_> {
     }
 
     /// How many values came after a gap, after a line.
-    fn gaps_after(&self, line: &Line) -> u64
+    fn gaps_after(&self, line: &LineKind) -> u64
         ensures gaps { result ≡ gaps_after self.now line.now }
     {
         match line {
-            Line::Value(found) if self.is_after_gap(found.instant) => self.gaps.saturating_add(1),
+            LineKind::Value(found) if self.is_after_gap(found.instant) => self
+                .gaps
+                .saturating_add(1),
             _ => self.gaps,
         }
     }
@@ -154,7 +156,7 @@ impl Check<'_> {
         match self.order.scan.what_is_bad(head) {
             Some(bad) => {
                 self.push_bad(&bad, pending);
-                self.order.scan.pass(Line::Bad(bad));
+                self.order.scan.pass(LineKind::Bad(bad));
             }
             None => self.order.scan.count(),
         }
@@ -174,7 +176,7 @@ impl Check<'_> {
     }
 
     /// Reports and counts a line.
-    fn pass(&mut self, line: Line, pending: &mut Pending)
+    fn pass(&mut self, line: LineKind, pending: &mut Pending)
         requires room { array_vec_len pending.old + STEP_MAX ≤ PENDING_MAX }
         ensures after { self.new ≡ check_after self.old line }
         ensures pushed { pending.new.items ≡ pending.old.items ++ check_text self.old line }
@@ -259,6 +261,7 @@ impl<'a> Command<'a> for Check<'a> {
         &mut self,
         _source: &S,
         _size: u64,
+        _failed: &mut bool,
         _output: &mut Watched<W>,
     ) -> Result<(), RunError> {
         Ok(())

@@ -88,14 +88,17 @@ pub trait Command<'a>: LineMachine + Sized {
             (W.contents output.old.inner) (W.contents output.new.inner) };
 
     /// Prints what the command prints of a file of so many bytes, which is searched, and nothing if it searches none.
+    /// It is noted in `failed` if a read fails.
     fn search<S: ReadAt, W: Write>(
         &mut self,
         source: &S,
         size: u64,
+        failed: &mut bool,
         output: &mut Watched<W>,
     ) -> Result<(), RunError>
-        // If the output had not failed before, it has failed if and only if the answer says so.
-        ensures failed { output.old.failed ≡ false → FailsBy result output.new.failed };
+        // If the output had not failed before, a read or the output has failed if and only if the answer says so.
+        ensures failed { output.old.failed ≡ false →
+            FailsBy result failed.old failed.new output.new.failed };
 
     /// Appends what is printed after the last file.
     fn push_end(&self, pending: &mut Pending)

@@ -1,16 +1,16 @@
 //! The command `convert`: each line with its value written anew.
 
-ghost use Rattle.std.specs.Prelude.{◌≡◌, ◌+◌, ◌++◌, ◌≤◌, IfSome, length, take};
+ghost use Rattle.std.specs.Prelude.{◌≡◌, ◌+◌, ◌++◌, ◌≤◌, IfSome, Ok, Some, length, take};
 ghost use Rattle.std.specs.Option.{option_map};
 ghost use Rattle.arrayvec.specs.ArrayVec.{array_vec_len};
 ghost use Rattle.speedate.specs.DateTime.{date_and_time};
 ghost use Rattle.speedate.specs.Requirement.{result_map};
-ghost use Rattle.speedate_commands.specs.Convert.{convert_line};
+ghost use Rattle.speedate_commands.specs.Convert.{convert_line, convert_machine};
 ghost use Rattle.speedate_commands.specs.Convert.{convert_rest, convert_text, library_digits, own_digits};
 ghost use Rattle.speedate_commands.specs.Convert.{target_place, targeted, text_of, text_with, written_digits};
 ghost use Rattle.speedate_commands.specs.Convert.{written_of, written_text, written_value};
 ghost use Rattle.speedate_scan.specs.Reading.{IsWithin};
-ghost use Rattle.speedate_scan.specs.Scan.{IsFoundWithin};
+ghost use Rattle.speedate_scan.specs.Scan.{IsFoundWithin, passed};
 
 use crate::command::{About, Command};
 use crate::nanosecond::{DATE_TIME_MAX, past_second, push_date_time};
@@ -20,7 +20,7 @@ use speedate_scan::form::Form;
 use speedate_scan::fraction::fraction_size;
 use speedate_scan::print::Prefix;
 use speedate_scan::reading::{Bad, Found, Why};
-use speedate_scan::scan::{Line, Scan};
+use speedate_scan::scan::{LineKind, Scan};
 use speedate_stream::run::{RunError, run};
 use speedate_stream::{LineMachine, Observer, PENDING_MAX, Pending, STEP_MAX, Watched, push_bytes};
 use std::io::{Read, Write};
@@ -158,43 +158,52 @@ fn push_value(form: Form, count: usize, instant: i128, value: &DateTime, pending
 }
 
 impl Convert<'_> {
-    /// Appends a value that was found in a line, as it is written, if there is one.
-    fn push_if_some(
-        &self,
-        head: &[u8],
-        found: &Found,
-        value: &Option<DateTime>,
-        pending: &mut Pending,
-    )
+    /// Appends a value that was found in a line, as it is written.
+    fn push_written(&self, head: &[u8], found: &Found, value: &DateTime, pending: &mut Pending)
         requires within { IsWithin found.now head.now }
         requires room { array_vec_len pending.old + DATE_TIME_MAX ≤ PENDING_MAX }
         ensures pushed { pending.new.items ≡ pending.old.items
-            ++ text_of self.now head.now found.now (option_map date_and_time value.now) }
+            ++ text_of self.now head.now found.now (Some (date_and_time value.now)) }
         ensures length { array_vec_len pending.new ≤ array_vec_len pending.old + DATE_TIME_MAX }
     {
-        if let Some(value) = value {
-            let form = self.scan.reader.form;
-            let text = &head[found.from..found.to];
-            let own = own_digits(form, text, value.time.microsecond);
-            let count = written_digits(self.digits, own);
-            push_value(form, count, found.instant, value, pending);
+        let form = self.scan.reader.form;
+        let text = &head[found.from..found.to];
+        let own = own_digits(form, text, value.time.microsecond);
+        let count = written_digits(self.digits, own);
+        push_value(form, count, found.instant, value, pending);
+    }
+
+    /// The value of a line, and as it is written, if the library reads it at once and it can be written; `None` says
+    /// nothing of the line.
+    #[inline(always)]
+    #[tactic(auto, unfolding(crate::specs::Convert::written_value))]
+    fn value(&self, head: &[u8]) -> Option<(Found, DateTime)>
+        ensures line { IfSome result (λ it. convert_line self.now head.now ≡ LineKind.Value it.0) }
+        ensures within { IfSome result (λ it. IsWithin it.0 head.now) }
+        ensures value { IfSome result (λ it. written_value self.now head.now it.0
+            ≡ Ok (date_and_time it.1)) }
+    {
+        let (found, value) = self.scan.value(head)?;
+        match self.target.targeted(&found, value) {
+            Ok(value) => Some((found, value)),
+            Err(_) => None,
         }
     }
 
     /// What a line is, and its value as it is written: a line whose value cannot be written is bad.
     #[tactic(auto, unfolding(crate::specs::Convert::written_value))]
-    fn line(&self, head: &[u8]) -> (Line, Option<DateTime>)
+    fn line(&self, head: &[u8]) -> (LineKind, Option<DateTime>)
         ensures line { result.0 ≡ convert_line self.now head.now }
         ensures within { IsFoundWithin result.0 head.now }
         ensures value { option_map date_and_time result.1 ≡ written_of self.now head.now result.0 }
     {
-        let (line, value) = self.scan.line_with_value(head);
-        let (Line::Value(found), Some(value)) = (&line, value) else {
+        let (line, value) = self.scan.any_line(head);
+        let (LineKind::Value(found), Some(value)) = (&line, value) else {
             return (line, None);
         };
         match self.target.targeted(found, value) {
             Ok(value) => (line, Some(value)),
-            Err(bad) => (Line::Bad(bad), None),
+            Err(bad) => (LineKind::Bad(bad), None),
         }
     }
 
@@ -202,7 +211,7 @@ impl Convert<'_> {
     fn push_line(
         &self,
         head: &[u8],
-        line: &Line,
+        line: &LineKind,
         value: &Option<DateTime>,
         pending: &mut Pending,
     ) -> Option<usize>
@@ -220,12 +229,78 @@ impl Convert<'_> {
         }
         self.prefix
             .push_onto(self.scan.name, self.scan.next_number(), pending);
-        let Line::Value(found) = line else {
+        let LineKind::Value(found) = line else {
             return Some(0);
         };
         push_bytes(before_value(head, found), pending);
-        self.push_if_some(head, found, value, pending);
+        if let Some(value) = value {
+            self.push_written(head, found, value, pending);
+        }
         Some(found.to)
+    }
+
+    /// Prints what comes before the rest of a line with this value, which is written so, counts the line, and returns the
+    /// byte from which on the rest follows.
+    #[inline(always)]
+    fn pass_value(
+        &mut self,
+        head: &[u8],
+        found: &Found,
+        value: &DateTime,
+        pending: &mut Pending,
+    ) -> Option<usize>
+        requires within { IsWithin found.now head.now }
+        requires value { written_value self.old head.now found.now ≡ Ok (date_and_time value.now) }
+        requires room { array_vec_len pending.old + STEP_MAX ≤ PENDING_MAX }
+        ensures after { self.new
+            ≡ record self.old { scan = passed self.old.scan (LineKind.Value found.now) } }
+        ensures text { pending.new.items
+            ≡ pending.old.items ++ convert_text self.old head.now (LineKind.Value found.now) }
+        ensures rest { result ≡ convert_rest self.old (LineKind.Value found.now) }
+        ensures within { IfSome result (λ from. from ≤ length head.now) }
+    {
+        self.prefix
+            .push_onto(self.scan.name, self.scan.next_number(), pending);
+        push_bytes(before_value(head, found), pending);
+        self.push_written(head, found, value, pending);
+        self.scan.pass_value(found);
+        Some(found.to)
+    }
+
+    /// The same for any line, by its head.
+    #[inline(never)]
+    fn pass_any(&mut self, head: &[u8], pending: &mut Pending) -> Option<usize>
+        requires room { array_vec_len pending.old + STEP_MAX ≤ PENDING_MAX }
+        ensures after { self.new ≡ convert_machine.after self.old head.now }
+        ensures text { pending.new.items
+            ≡ pending.old.items ++ convert_machine.text self.old head.now }
+        ensures rest { result ≡ convert_machine.rest self.old head.now }
+        ensures within { IfSome result (λ from. from ≤ length head.now) }
+    {
+        let (line, value) = self.line(head);
+        self.pass_line(head, line, value, pending)
+    }
+
+    /// The same for a line by what it is, and its value as it is written.
+    #[inline(always)]
+    fn pass_line(
+        &mut self,
+        head: &[u8],
+        line: LineKind,
+        value: Option<DateTime>,
+        pending: &mut Pending,
+    ) -> Option<usize>
+        requires within { IsFoundWithin line head.now }
+        requires value { option_map date_and_time value ≡ written_of self.old head.now line }
+        requires room { array_vec_len pending.old + STEP_MAX ≤ PENDING_MAX }
+        ensures after { self.new ≡ record self.old { scan = passed self.old.scan line } }
+        ensures text { pending.new.items ≡ pending.old.items ++ convert_text self.old head.now line }
+        ensures rest { result ≡ convert_rest self.old line }
+        ensures within { IfSome result (λ from. from ≤ length head.now) }
+    {
+        let rest = self.push_line(head, &line, &value, pending);
+        self.scan.pass(line);
+        rest
     }
 }
 
@@ -244,10 +319,13 @@ impl LineMachine for Convert<'_> {
     }
 
     fn step(&mut self, head: &[u8], pending: &mut Pending) -> Option<usize> {
-        let (line, value) = self.line(head);
-        let rest = self.push_line(head, &line, &value, pending);
-        self.scan.pass(line);
-        rest
+        match self.value(head) {
+            Some((found, value)) => self.pass_value(head, &found, &value, pending),
+            None if self.scan.is_undated(head) => {
+                self.pass_line(head, LineKind::Undated, None, pending)
+            }
+            None => self.pass_any(head, pending),
+        }
     }
 }
 
@@ -297,6 +375,7 @@ impl<'a> Command<'a> for Convert<'a> {
         &mut self,
         _source: &S,
         _size: u64,
+        _failed: &mut bool,
         _output: &mut Watched<W>,
     ) -> Result<(), RunError> {
         Ok(())

@@ -23,7 +23,10 @@ pub const DURATION_MAX: usize = 41;
 pub fn past_second(instant: i128) -> u32
     ensures nanosecond { result ≡ past_second instant }
 {
-    instant.rem_euclid(1_000_000_000) as u32
+    match i64::try_from(instant) {
+        Ok(near) => near.rem_euclid(1_000_000_000) as u32,
+        Err(_) => instant.rem_euclid(1_000_000_000) as u32,
+    }
 }
 
 /// With how many digits a nanosecond is printed that has none of its own: none, six or nine.

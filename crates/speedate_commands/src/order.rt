@@ -1,15 +1,16 @@
 //! The order of values: each one, and the one before.
 
-ghost use Rattle.std.specs.Prelude.{◌≡◌, ◌+◌, ◌++◌, ◌≤◌, length};
+ghost use Rattle.std.specs.Prelude.{◌≡◌, ◌+◌, ◌++◌, ◌≤◌, if◌then◌else◌, length};
 ghost use Rattle.arrayvec.specs.ArrayVec.{array_vec_len};
 ghost use Rattle.speedate_commands.specs.Order.{apart_text, distance_text, gap_text};
-ghost use Rattle.speedate_commands.specs.Order.{is_late, late_after, late_text, latest_of, order_after};
+ghost use Rattle.speedate_stream.specs.Watch.{one_more};
+ghost use Rattle.speedate_commands.specs.Order.{is_before, is_late, late_text, latest_of, order_after};
 ghost use Rattle.speedate_commands.specs.Order.{value_after};
 
 use crate::nanosecond::push_duration_between;
 use speedate_scan::print::push_line_place;
 use speedate_scan::reading::Found;
-use speedate_scan::scan::{Line, Scan};
+use speedate_scan::scan::{LineKind, Scan};
 use speedate_stream::{PENDING_MAX, Pending, STEP_MAX, push_bytes};
 
 /// A value, and where it stands.
@@ -51,31 +52,41 @@ impl<'a> Latest<'a> {
 }
 
 impl<'a> Order<'a> {
+    /// Whether a value at this instant is earlier than the one before.
+    fn is_before(&self, instant: i128) -> bool
+        ensures before { result ≡ is_before instant self.now.latest }
+    {
+        match &self.latest {
+            Some(latest) => instant < latest.instant,
+            None => false,
+        }
+    }
+
     /// Whether a line has a value that is earlier than the one before.
-    fn is_late(&self, line: &Line) -> bool
+    fn is_late(&self, line: &LineKind) -> bool
         ensures late { result ≡ is_late self.now line.now }
     {
-        match (line, &self.latest) {
-            (Line::Value(found), Some(latest)) => found.instant < latest.instant,
+        match line {
+            LineKind::Value(found) => self.is_before(found.instant),
             _ => false,
         }
     }
 
     /// The value before the next line.
-    fn value_after(&self, line: &Line) -> Option<Latest<'a>>
+    fn value_after(&self, line: &LineKind) -> Option<Latest<'a>>
         ensures value { result ≡ value_after self.now line.now }
     {
         match line {
-            Line::Value(found) => Some(Latest::new(&self.scan, found)),
+            LineKind::Value(found) => Some(Latest::new(&self.scan, found)),
             _ => self.latest,
         }
     }
 
-    /// How many values were earlier than the one before, after a line.
-    fn late_after(&self, line: &Line) -> u64
-        ensures late { result ≡ late_after self.now line.now }
+    /// How many values were earlier than the one before, with one more if there is one.
+    fn late_with(&self, is_late: bool) -> u64
+        ensures late { result ≡ (if is_late then one_more self.now.late else self.now.late) }
     {
-        if self.is_late(line) {
+        if is_late {
             self.late.saturating_add(1)
         } else {
             self.late
@@ -83,12 +94,23 @@ impl<'a> Order<'a> {
     }
 
     /// Compares the value of a line with the one before, and counts the line.
-    pub fn pass(&mut self, line: Line)
+    pub fn pass(&mut self, line: LineKind)
         ensures passed { self.new ≡ order_after self.old line }
     {
-        self.late = self.late_after(&line);
+        self.late = self.late_with(self.is_late(&line));
         self.latest = self.value_after(&line);
         self.scan.pass(line);
+    }
+
+    /// The same for a line with this value, by what was found of it.
+    #[inline(always)]
+    pub fn pass_value(&mut self, value: &Latest<'a>, found: &Found)
+        requires value { value.now ≡ latest_of self.old.scan found.now }
+        ensures passed { self.new ≡ order_after self.old (LineKind.Value found.now) }
+    {
+        self.late = self.late_with(self.is_before(value.instant));
+        self.latest = Some(*value);
+        self.scan.pass_value(found);
     }
 }
 

@@ -1,6 +1,6 @@
 //! Lines of a file that are found by their value, without a look at the lines before them.
 
-ghost use Rattle.std.specs.Prelude.{◌≡◌, ℕ, ℤ, ◌+◌, ◌-◌, ◌^◌, ◌<◌, ◌≤◌, ◌⊎◌, List, Option, None, IfOk, IfSome, length, min, take, drop};
+ghost use Rattle.std.specs.Prelude.{◌≡◌, ℕ, ℤ, ◌+◌, ◌-◌, ◌^◌, ◌<◌, ◌≤◌, ◌||◌, ◌⊎◌, List, Option, None, IfOk, IfSome, is_err, length, min, take, drop};
 ghost use Rattle.std.specs.Io.{ReadsAtMost};
 ghost use Rattle.std.specs.Io.KnownBytes.{ReadConsumes};
 ghost use Rattle.speedate.specs.Lines.{complete_lines};
@@ -29,6 +29,26 @@ pub trait ReadAt {
     fn read_at(&self, at: u64, buffer: &mut [u8]) -> io::Result<usize>
         ensures bound { ReadsAtMost result buffer.new }
         ensures bytes { ReadsAt (text self.now) at result buffer.new };
+}
+
+/// Reads from a byte on, and notes if that fails.
+fn read_at<S: ReadAt>(
+    source: &S,
+    at: u64,
+    buffer: &mut [u8],
+    failed: &mut bool,
+) -> io::Result<usize>
+    ensures bound { ReadsAtMost result buffer.new }
+    ensures bytes { ReadsAt (S.text source.now) at result buffer.new }
+    ensures failed { failed.new ≡ (failed.old || is_err result) }
+{
+    match source.read_at(at, buffer) {
+        Ok(count) => Ok(count),
+        Err(error) => {
+            *failed = true;
+            Err(error)
+        }
+    }
 }
 
 /// A reader of the bytes of a text from one place up to another.
@@ -120,13 +140,19 @@ impl Values<'_> {
     }
 
     /// The first line with a value after a place, if it lies in the block that is read there.
-    fn first_after<S: ReadAt>(&self, source: &S, place: u64) -> io::Result<Option<Dated>>
+    fn first_after<S: ReadAt>(
+        &self,
+        source: &S,
+        place: u64,
+        failed: &mut bool,
+    ) -> io::Result<Option<Dated>>
         ensures found { IfOk result (λ found. IfSome found (λ line. IfSome (S.text source.now)
             (λ text. HasValueAt self.now.reader self.now.has_offset text line.at line.instant))) }
         ensures after { IfOk result (λ found. IfSome found (λ line. place < line.at)) }
+        ensures failed { failed.new ≡ (failed.old || is_err result) }
     {
         let mut block = [0; BLOCK];
-        let count = source.read_at(place, &mut block)?;
+        let count = read_at(source, place, &mut block, failed)?;
         let Some(line) = self.first_of(&block[..count]) else {
             return Ok(None);
         };
@@ -140,13 +166,21 @@ impl Values<'_> {
     }
 
     /// Looks for a bound in a text whose values never fall, from one place up to another, by halves.
-    pub fn cut<S: ReadAt>(&self, source: &S, bound: i128, from: u64, to: u64) -> io::Result<Cut>
+    pub fn cut<S: ReadAt>(
+        &self,
+        source: &S,
+        bound: i128,
+        from: u64,
+        to: u64,
+        failed: &mut bool,
+    ) -> io::Result<Cut>
         ensures from { IfOk result (λ cut. from ≤ cut.before) }
         ensures before { IfOk result (λ cut. (cut.before ≡ from) ⊎ IfSome (S.text source.now)
             (λ text. IsBefore self.now.reader self.now.has_offset text cut.before bound)) }
         ensures later { IfOk result (λ cut. IfSome cut.after (λ at. from ≤ at)) }
         ensures after { IfOk result (λ cut. IfSome cut.after (λ at. IfSome (S.text source.now)
             (λ text. IsFrom self.now.reader self.now.has_offset text at bound))) }
+        ensures failed { failed.new ≡ (failed.old || is_err result) }
     {
         let mut before = from;
         let mut high = to;
@@ -156,7 +190,7 @@ impl Values<'_> {
                 break;
             }
             let middle = before + (high - before) / 2;
-            match self.first_after(source, middle)? {
+            match self.first_after(source, middle, failed)? {
                 Some(line) if line.instant < bound => before = line.at,
                 Some(line) => {
                     after = Some(line.at);
@@ -170,14 +204,15 @@ impl Values<'_> {
 }
 
 /// Where the second line of a text begins, if its first one is ended by a line feed.
-pub fn second_line<S: ReadAt>(source: &S) -> io::Result<Option<u64>>
+pub fn second_line<S: ReadAt>(source: &S, failed: &mut bool) -> io::Result<Option<u64>>
     ensures second { IfOk result (λ found. IfSome found (λ at. IfSome (S.text source.now)
         (λ text. EndsFirstLine text at))) }
+    ensures failed { failed.new ≡ (failed.old || is_err result) }
 {
     let mut block = [0; BLOCK];
     let mut at = 0u64;
     for _ in 0..u64::MAX {
-        let count = source.read_at(at, &mut block)?;
+        let count = read_at(source, at, &mut block, failed)?;
         if count == 0 {
             break;
         }
@@ -203,17 +238,24 @@ fn line_feeds(block: &[u8]) -> usize
 }
 
 /// The number of a line after those of a text from one place up to another.
-pub fn count_lines<S: ReadAt>(source: &S, number: u64, from: u64, to: u64) -> io::Result<u64>
+pub fn count_lines<S: ReadAt>(
+    source: &S,
+    number: u64,
+    from: u64,
+    to: u64,
+    failed: &mut bool,
+) -> io::Result<u64>
     requires ordered { from ≤ to }
     ensures counted { IfOk result (λ count. IfSome (S.text source.now) (λ text.
         count ≡ min (number + length (complete_lines (part text from to))) (2 ^ 64 - 1))) }
+    ensures failed { failed.new ≡ (failed.old || is_err result) }
 {
     let mut block = [0; BLOCK];
     let mut number = number;
     let mut at = from;
     while at < to {
         let room = BLOCK.min((to - at) as usize);
-        let count = source.read_at(at, &mut block[..room])?;
+        let count = read_at(source, at, &mut block[..room], failed)?;
         if count == 0 {
             break;
         }

@@ -13,7 +13,7 @@ use crate::command::{About, Command};
 use crate::search::ReadAt;
 use speedate::{CallKind, Duration, ParseError, Time};
 use speedate_scan::print::push_number;
-use speedate_scan::scan::{Line, Scan};
+use speedate_scan::scan::{LineKind, Scan};
 use speedate_stream::run::{RunError, run};
 use speedate_stream::{LineMachine, Observer, PENDING_MAX, Pending, Watched, push_bytes};
 use std::io::{Read, Write};
@@ -139,7 +139,7 @@ fn push_in_hours(duration: &Duration, pending: &mut Pending)
 
 impl Sum<'_> {
     /// Adds the duration of a line, and counts the line.
-    fn add(&mut self, amount: Result<Duration, Line>)
+    fn add(&mut self, amount: Result<Duration, LineKind>)
         ensures added { self.new ≡ sum_after self.old (result_map duration_numbers amount) }
     {
         match amount {
@@ -257,6 +257,7 @@ impl<'a> Command<'a> for Sum<'a> {
         &mut self,
         _source: &S,
         _size: u64,
+        _failed: &mut bool,
         _output: &mut Watched<W>,
     ) -> Result<(), RunError> {
         Ok(())

@@ -20,7 +20,7 @@ use crate::search::ReadAt;
 use speedate::{DateTime, DateTimeConfig, ParseError, TimeConfig, TimestampUnit};
 use speedate_scan::print::{push_line_place, push_number};
 use speedate_scan::reading::Found;
-use speedate_scan::scan::{Line, Scan};
+use speedate_scan::scan::{LineKind, Scan};
 use speedate_stream::run::{RunError, run};
 use speedate_stream::{LineMachine, Observer, PENDING_MAX, Pending, Watched, push_bytes};
 use std::io::{Read, Write};
@@ -68,10 +68,10 @@ fn one_more_if(is_one: bool, count: u64) -> u64
 }
 
 /// Whether a line has no value.
-fn is_undated(line: &Line) -> bool
+fn is_undated(line: &LineKind) -> bool
     ensures undated { result ≡ is_undated line.now }
 {
-    matches!(line, Line::Undated)
+    matches!(line, LineKind::Undated)
 }
 
 impl Gap<'_> {
@@ -139,18 +139,37 @@ impl<'a> Summary<'a> {
         }
     }
 
+    /// Adds a line with this value.
+    #[inline(always)]
+    fn add_value(&mut self, found: &Found)
+        ensures added { self.new ≡ summary_after self.old (LineKind.Value found.now) }
+    {
+        let value = Latest::new(&self.order.scan, found);
+        self.keep_earliest(&value);
+        self.keep_latest(&value);
+        self.keep_longest(&value);
+        self.lines = self.lines.saturating_add(1);
+        self.values = self.values.saturating_add(1);
+        self.order.pass_value(&value, found);
+    }
+
+    /// Adds any line, by its head.
+    #[inline(never)]
+    fn add_any(&mut self, head: &[u8])
+        ensures added { self.new ≡ summary_machine.after self.old head.now }
+    {
+        let (line, _) = self.order.scan.any_line(head);
+        self.add(line);
+    }
+
     /// Adds a line.
-    fn add(&mut self, line: Line)
+    fn add(&mut self, line: LineKind)
         ensures added { self.new ≡ summary_after self.old line }
     {
-        if let Line::Value(found) = &line {
-            let value = Latest::new(&self.order.scan, found);
-            self.keep_earliest(&value);
-            self.keep_latest(&value);
-            self.keep_longest(&value);
+        if let LineKind::Value(found) = &line {
+            return self.add_value(found);
         }
         self.lines = one_more_if(line.is_counted(), self.lines);
-        self.values = one_more_if(line.is_value(), self.values);
         self.undated = one_more_if(is_undated(&line), self.undated);
         self.order.pass(line);
     }
@@ -334,8 +353,11 @@ impl LineMachine for Summary<'_> {
     }
 
     fn step(&mut self, head: &[u8], _pending: &mut Pending) -> Option<usize> {
-        let line = self.order.scan.line(head);
-        self.add(line);
+        match self.order.scan.value(head) {
+            Some((found, _)) => self.add_value(&found),
+            None if self.order.scan.is_undated(head) => self.add(LineKind::Undated),
+            None => self.add_any(head),
+        }
         None
     }
 }
@@ -385,6 +407,7 @@ impl<'a> Command<'a> for Summary<'a> {
         &mut self,
         _source: &S,
         _size: u64,
+        _failed: &mut bool,
         _output: &mut Watched<W>,
     ) -> Result<(), RunError> {
         Ok(())

@@ -8,7 +8,7 @@ ghost use Rattle.speedate_lines.specs.Answer.{err_answer, kind_and_text, kinds, 
 ghost use Rattle.speedate_lines.specs.Answer.{ok_answer, reply_to};
 
 use speedate::{Date, DateTime, Duration, IsoOrder, Time, TimeConfig};
-use speedate_stream::{LINE_MAX, LineMachine, PENDING_MAX, Pending, push_bytes};
+use speedate_stream::{LineMachine, PENDING_MAX, Pending, SEEN_MAX, push_bytes};
 
 /// No printed value or name of an error has more bytes.
 const TEXT_MAX: usize = 32;
@@ -60,7 +60,7 @@ pub fn answer_line(line: &[u8], pending: &mut Pending)
     ensures answered { pending.new.items
         ≡ pending.old.items ++ (line_answer line.now ++ line_feed ∷ []) }
 {
-    if line.len() > LINE_MAX {
+    if line.len() > SEEN_MAX {
         return refuse("line_too_long", pending);
     }
     match kind_of(line) {

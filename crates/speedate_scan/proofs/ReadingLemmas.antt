@@ -1,20 +1,8 @@
--- A parser's answer with the place of its error, and texts that claim to be dates.
-use Rattle.std.proofs.Common.{◌≡◌, ◌≢◌, ℕ, ◌+◌, ◌==◌, Bool, true, false, ◌&&◌, nat_le, List, [], ◌∷◌, codes, slice_index, Option, Result, Ok, Err, refl, arith, if◌then◌else◌}
+-- Texts that claim to be dates.
+use Rattle.std.proofs.Common.{◌≡◌, ◌≢◌, ℕ, ◌+◌, ◌==◌, Bool, true, false, ◌&&◌, nat_le, List, [], ◌∷◌, codes, slice_index, refl, arith, if◌then◌else◌}
 use Rattle.std.proofs.lemmas.Bool.Decides.{nat_tests}
-use Rattle.speedate.specs.Base.{ParseError}
-use Rattle.speedate.specs.Requirement.{result_map}
-use Rattle.speedate.specs.Refused.{refused_place, without_place}
-use Rattle.speedate_base.specs.declared.refusal.Refused.{Refused}
 use Rattle.speedate_base.specs.Digits.{eight_at, fit_length}
-use Rattle.speedate_scan.specs.Reading.{claims_date, left_bracket, length_before_value, with_place}
-
--- what a parser says of its answer and of its error's place is its answer with that place
-pub placed_answer : {A B : Type 0} (view : A → B) (result : Result A Refused)
-    (answer : Result B ParseError) (place : Option ℕ)
-    → without_place (result_map view result) ≡ answer → refused_place result ≡ place
-    → result_map view result ≡ with_place answer place
-placed_answer view (Ok value) answer place read at_place = rw (← read) refl
-placed_answer view (Err refused) answer place read at_place = rw (← read, ← at_place) refl
+use Rattle.speedate_scan.specs.Reading.{claims_date, left_bracket, length_before_value}
 
 -- five or more of nested tests hold if and only if the first five do
 five_of : (a b c d e : Bool) (n : ℕ)

@@ -2,19 +2,21 @@
 use Rattle.std.proofs.Common.{◌≡◌, ◌∙◌, ap, sym, refl, rules, arith, codes, ℕ, ℤ, pos, ◌+◌, ◌==◌, ◌||◌, Bool, true, false, List, [], ◌∷◌, drop, slice_index, Option, Some, None, is_some, Result, Ok, Err, if◌then◌else◌}
 use Rattle.speedate.specs.Base.{Behavior, ParseError}
 use Rattle.speedate.specs.Calendar.{Ymd}
-use Rattle.speedate.specs.Date.{date_front}
-use Rattle.speedate.specs.DateTime.{DateAndTime, date_time_front, date_time_front_or, is_separator}
-use Rattle.speedate.specs.Refused.{placed, refused_place}
+use Rattle.speedate.specs.Date.{date_front, date_front_or}
+use Rattle.speedate.specs.DateTime.{DateAndTime, date_time_front, is_separator}
+use Rattle.speedate.specs.Refused.{placed}
 use Rattle.std.proofs.lemmas.Bool.{or_parts}
 use Rattle.std.proofs.lemmas.Bool.Decides.{nat_tests}
 use Rattle.std.proofs.lemmas.List.{drop-drop}
-use Rattle.speedate.specs.Requirement.{result_and_then}
-use Rattle.speedate.specs.Time.{Clock, TimeOfDay, clock_front, clock_with_offset}
+use Rattle.speedate.specs.Requirement.{refusal_map, result_and_then, shifted}
+use Rattle.speedate.specs.Time.{Clock, TimeOfDay, clock_front, clock_front_or}
+use Rattle.speedate.specs.Time.{clock_with_offset}
 use Rattle.speedate.specs.Time.{has_minus_sign, is_plus_or_minus, is_utc}
 use Rattle.speedate.specs.Time.{offset_front, signed_front}
 use Rattle.speedate.specs.Ascii.{capital_z, hyphen}
 use Rattle.speedate_base.specs.declared.refusal.Refused.{Refused}
-use Rattle.speedate_scan.specs.Reading.{relaxed_front, with_late_zone, with_place, zoned}
+use Rattle.speedate_scan.specs.Reading.{relaxed_front, with_late_zone, zoned}
+use Rattle.speedate_civil.proofs.ErrorPlaceLemmas.{clock_front-view, date_front-view}
 use Rattle.speedate_scan.specs.Zone.{begins_with, capital_g, capital_u, late_zone, may_begin_zone}
 use Rattle.speedate_scan.specs.Zone.{no_zone}
 use Rattle.speedate_scan.specs.Zone.{signed_zone, utc_zone}
@@ -118,7 +120,7 @@ dated date time = Ok (record { date = date; time = time.0 }, 11 + time.1)
 abbrev timed : Clock → Option ℤ × ℕ → Result (TimeOfDay × ℕ) ParseError
 timed clock zone = Ok (clock_with_offset clock zone.0, clock.size + zone.1)
 
-abbrev with_clock : Ymd → Clock → Result (Ymd × Clock) ParseError
+abbrev with_clock : Ymd → Clock → Result (Ymd × Clock) Refused
 with_clock date clock = Ok (date, clock)
 
 abbrev zoned_at : List ℕ → Ymd × Clock → Result (DateAndTime × ℕ) Refused
@@ -156,6 +158,10 @@ after_clock text date clock front (Err fault) there read = cc
 abbrev parted : {A : Type 0} → Bool → Result A ParseError → Result A ParseError
 parted separated next = if separated then next else Err ParseError.InvalidCharDateTimeSep
 
+abbrev parted_at : {A : Type 0} → Bool → Result A Refused → Result A Refused
+parted_at separated next =
+    if separated then next else Err (placed ParseError.InvalidCharDateTimeSep 10)
+
 abbrev library_chain : List ℕ → Result (Ymd × ℕ) ParseError → Bool → Result Clock ParseError
     → Result (DateAndTime × ℕ) ParseError
 library_chain text at_date separated at_clock =
@@ -165,24 +171,36 @@ library_chain text at_date separated at_clock =
     result_and_then (timed clock) (offset_front (drop clock.size (drop 11 text)))) at_clock)))
     at_date
 
-abbrev line_chain : List ℕ → Option ℕ → Result (Ymd × ℕ) ParseError → Bool
-    → Result Clock ParseError → Result (DateAndTime × ℕ) Refused
-line_chain text place at_date separated at_clock =
+abbrev line_chain : List ℕ → Result (Ymd × ℕ) Refused → Bool → Result Clock Refused
+    → Result (DateAndTime × ℕ) Refused
+line_chain text at_date separated at_clock =
     result_and_then (zoned_at text)
-    (with_place (result_and_then (λ (date : Ymd × ℕ).
-    result_and_then (λ (clock : Clock). with_clock date.0 clock) (parted separated at_clock))
+    (result_and_then (λ (date : Ymd × ℕ).
+    result_and_then (λ (clock : Clock). with_clock date.0 clock) (parted_at separated at_clock))
     at_date)
-    place)
 
-chained : (text : List ℕ) (place : Option ℕ) (at_date : Result (Ymd × ℕ) ParseError)
-    (separated : Bool) (at_clock : Result Clock ParseError) (front : DateAndTime × ℕ)
+-- what is read without places is read with them
+abbrev IsRead : {A : Type 0} → Result A ParseError → Result A Refused → Type 0
+IsRead {A = A} answer with_places = (value : A) → answer ≡ Ok value → with_places ≡ Ok value
+
+is_read : {A : Type 0} (answer : Result A ParseError) (with_places : Result A Refused)
+    → refusal_map (λ (refused : Refused). refused.fault) with_places ≡ answer
+    → IsRead answer with_places
+is_read answer (Ok given) same value read = cc
+is_read answer (Err refused) same value read = cc
+
+chained : (text : List ℕ) (at_date : Result (Ymd × ℕ) ParseError) (separated : Bool)
+    (at_clock : Result Clock ParseError) (line_date : Result (Ymd × ℕ) Refused)
+    (line_clock : Result Clock Refused) (front : DateAndTime × ℕ)
+    → IsRead at_date line_date → IsRead at_clock line_clock
     → library_chain text at_date separated at_clock ≡ Ok front
-    → line_chain text place at_date separated at_clock ≡ Ok (with_late_zone text front)
-chained text place (Ok date) true (Ok clock) front read =
-    after_clock text date.0 clock front _ refl (rw drop-drop at read)
-chained text place (Ok date) true (Err fault) front read = cc
-chained text place (Ok date) false at_clock front read = cc
-chained text place (Err fault) separated at_clock front read = cc
+    → line_chain text line_date separated line_clock ≡ Ok (with_late_zone text front)
+chained text (Ok date) true (Ok clock) line_date line_clock front dates clocks read =
+    rw (dates date refl, clocks clock refl)
+    (after_clock text date.0 clock front _ refl (rw drop-drop at read))
+chained text (Ok date) true (Err fault) line_date line_clock front dates clocks read = cc
+chained text (Ok date) false at_clock line_date line_clock front dates clocks read = cc
+chained text (Err fault) separated at_clock line_date line_clock front dates clocks read = cc
 
 -- a date-time that the library reads at the front of a text is the one of a line, but for a zone
 -- after a blank
@@ -191,8 +209,15 @@ pub library_is_zoned : (behavior : Behavior) (text : List ℕ) (front : DateAndT
     → relaxed_front behavior text ≡ Ok (with_late_zone text front)
 unfolding relaxed_front
 library_is_zoned behavior text front read =
-    chained text (refused_place (date_time_front_or placed behavior text)) (date_front text)
-    (is_separator (slice_index text 10)) (clock_front behavior (drop 11 text)) front read
+    let fault = λ (refused : Refused). refused.fault in
+    let rest : List ℕ = drop 11 text in
+    chained text (date_front text) (is_separator (slice_index text 10))
+    (clock_front behavior rest) (date_front_or placed text)
+    (clock_front_or (shifted 11 placed) behavior rest) front
+    (is_read (date_front text) _ (date_front-view fault placed text))
+    (is_read (clock_front behavior rest) _
+    (clock_front-view fault (shifted 11 placed) behavior rest))
+    read
 
 -- no text begins with a word whose first byte is another
 other_word : (byte first : ℕ) (bytes word : List ℕ) → (byte == first) ≡ false

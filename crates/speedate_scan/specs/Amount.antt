@@ -5,16 +5,16 @@ use Rattle.std.specs.Char.{is_ascii_digit}
 use Rattle.speedate.specs.Ascii.{capital_m, capital_p, capital_t, capital_y, colon, comma}
 use Rattle.speedate_base.specs.Digits.{is_decimal_mark}
 use Rattle.speedate.specs.Base.{Behavior, IsoOrder}
-use Rattle.speedate.specs.Duration.{duration_answer, duration_answer_or}
+use Rattle.speedate.specs.Duration.{duration_answer_or}
 use Rattle.speedate.specs.DurationNumbers.{DurationNumbers}
-use Rattle.speedate.specs.Refused.{placed, refused_place}
+use Rattle.speedate.specs.Refused.{placed}
 use Rattle.speedate_base.specs.Numbers.{has_minus, sign_size}
 use Rattle.speedate_base.specs.declared.refusal.Refused.{Refused}
 use Rattle.speedate_scan.specs.Field.{Field, mark_length, nth_field}
 use Rattle.speedate_scan.specs.Reading.{Bad, Place, Reader, Reading, Wanted, Why, alone}
 use Rattle.speedate_scan.specs.Reading.{claim_after, fields_of, is_cut, not_within, part}
-use Rattle.speedate_scan.specs.Reading.{undated_field, with_place, without_field}
-use Rattle.speedate_scan.specs.Scan.{Line, Scan, is_stopped, judged}
+use Rattle.speedate_scan.specs.Reading.{undated_field, without_field}
+use Rattle.speedate_scan.specs.Scan.{LineKind, Scan, is_stopped, judged}
 use Rattle.speedate_scan.specs.Zone.{is_boundary}
 
 -- Years and months, whose lengths differ.
@@ -82,8 +82,7 @@ seventh_digit text =
 -- the duration that a text is
 unfoldable pub duration_whole : List ℕ → Result DurationNumbers Refused
 duration_whole text =
-    with_place (duration_answer IsoOrder.Lax Behavior.Error text)
-    (refused_place (duration_answer_or placed IsoOrder.Lax Behavior.Error text))
+    duration_answer_or placed IsoOrder.Lax Behavior.Error text
 
 -- what makes a duration inexact that begins at a byte of a line, by its place, before what else may
 abbrev pub bad_at : ℕ → Why → Option ℕ → Option Bad → Option Bad
@@ -174,13 +173,13 @@ read_duration reader head = duration_in head (duration_place reader.place head)
 
 -- a duration that was read, or what the line is instead
 abbrev pub judged_amount : Scan → List ℕ → Result DurationNumbers Reading
-    → Result DurationNumbers Line
+    → Result DurationNumbers LineKind
 judged_amount scan head (Ok numbers) = Ok numbers
 judged_amount scan head (Err reading) = Err (judged scan head reading)
 
 -- the duration of a line, or what a line is that has none, by its head
-unfoldable pub amount_of : Scan → List ℕ → Result DurationNumbers Line
+unfoldable pub amount_of : Scan → List ℕ → Result DurationNumbers LineKind
 amount_of scan head =
-    if is_stopped scan.stop then Err Line.Late
-    else if scan.has_header && (scan.number == 0) then Err Line.Header
+    if is_stopped scan.stop then Err LineKind.Late
+    else if scan.has_header && (scan.number == 0) then Err LineKind.Header
     else judged_amount scan head (read_duration scan.reader head)

@@ -4,11 +4,11 @@ use Rattle.speedate.specs.Ascii.{line_feed}
 use Rattle.speedate_stream.specs.Machine.{head}
 use Rattle.speedate_stream.specs.Watch.{one_more}
 use Rattle.speedate_scan.specs.Print.{Prefix, prefix_text}
-use Rattle.speedate_scan.specs.Scan.{Line, Scan, is_value, keeps, line_of, passed}
+use Rattle.speedate_scan.specs.Scan.{LineKind, Scan, is_value, keeps, line_of, passed}
 
 -- a line of a file: what it is to the command, and how it is printed if it is
 pub record Marked : Type 0 where
-  pub what : Line
+  pub what : LineKind
   pub kept : Bool
   pub printed : List ℕ
 
@@ -18,7 +18,7 @@ printed_line prefix scan line =
     prefix_text prefix scan.name.now (one_more scan.number) ++ (line ++ line_feed ∷ [])
 
 -- a line by what is known before it
-abbrev pub mark : Prefix → Scan → List ℕ → Line → Marked
+abbrev pub mark : Prefix → Scan → List ℕ → LineKind → Marked
 mark prefix scan line what = record {
   what = what;
   kept = keeps scan what;
@@ -43,14 +43,14 @@ up_to_value [] = []
 up_to_value (line ∷ lines) = if is_value line.what then [] else line ∷ up_to_value lines
 
 -- an entry that a line begins, if it has a value, before other entries
-abbrev pub entry_and : Line → Marked → List Marked → List Entry → List Entry
-entry_and (Line.Value found) line lines others =
+abbrev pub entry_and : LineKind → Marked → List Marked → List Entry → List Entry
+entry_and (LineKind.Value found) line lines others =
     record { instant = found.instant; lines = line ∷ up_to_value lines } ∷ others
-entry_and Line.Late line lines others = others
-entry_and Line.Header line lines others = others
-entry_and (Line.Bad bad) line lines others = others
-entry_and Line.Unfit line lines others = others
-entry_and Line.Undated line lines others = others
+entry_and LineKind.Late line lines others = others
+entry_and LineKind.Header line lines others = others
+entry_and (LineKind.Bad bad) line lines others = others
+entry_and LineKind.Unfit line lines others = others
+entry_and LineKind.Undated line lines others = others
 
 -- the entries of lines; those before the first value belong to none
 abbrev pub entries : List Marked → List Entry

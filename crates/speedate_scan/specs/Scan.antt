@@ -16,7 +16,7 @@ pub use Rattle.speedate_scan.specs.declared.scan.Offsets.{Offsets}
 pub use Rattle.speedate_scan.specs.declared.scan.Stop.{Stop}
 pub use Rattle.speedate_scan.specs.declared.scan.Report.{Report}
 pub use Rattle.speedate_scan.specs.declared.scan.First.{First}
-pub use Rattle.speedate_scan.specs.declared.scan.Line.{Line}
+pub use Rattle.speedate_scan.specs.declared.scan.LineKind.{LineKind}
 pub use Rattle.speedate_scan.specs.declared.scan.Scan.{Scan}
 
 -- a value has an offset as it is to have one
@@ -68,24 +68,24 @@ unfit head found =
     else record { place = found.to; why = Why.Parse ParseError.TzRequired }
 
 -- a line whose value does not fit: if it is the first one, it does not fit the bounds
-abbrev pub unfit_line : Offsets → List ℕ → Found → Line
-unfit_line Offsets.Any head found = Line.Bad (unfit head found)
-unfit_line Offsets.AsFirst head found = Line.Bad (unfit head found)
-unfit_line (Offsets.Only has_offset) head found = Line.Bad (unfit head found)
-unfit_line (Offsets.AsBounds has_offset) head found = Line.Unfit
+abbrev pub unfit_line : Offsets → List ℕ → Found → LineKind
+unfit_line Offsets.Any head found = LineKind.Bad (unfit head found)
+unfit_line Offsets.AsFirst head found = LineKind.Bad (unfit head found)
+unfit_line (Offsets.Only has_offset) head found = LineKind.Bad (unfit head found)
+unfit_line (Offsets.AsBounds has_offset) head found = LineKind.Unfit
 
 -- a line without a value, which would begin at this byte
-abbrev pub undated_line : UndatedLines → Form → ℕ → Line
+abbrev pub undated_line : UndatedLines → Form → ℕ → LineKind
 undated_line UndatedLines.Bad form place =
-    Line.Bad (record { place = place; why = Why.Undated form })
-undated_line UndatedLines.Join form place = Line.Undated
-undated_line UndatedLines.Drop form place = Line.Undated
+    LineKind.Bad (record { place = place; why = Why.Undated form })
+undated_line UndatedLines.Join form place = LineKind.Undated
+undated_line UndatedLines.Drop form place = LineKind.Undated
 
 -- what a line is by what is read of it
-abbrev pub judged : Scan → List ℕ → Reading → Line
+abbrev pub judged : Scan → List ℕ → Reading → LineKind
 judged scan head (Reading.Value found) =
-    if fits scan.offsets found then Line.Value found else unfit_line scan.offsets head found
-judged scan head (Reading.Bad bad) = Line.Bad bad
+    if fits scan.offsets found then LineKind.Value found else unfit_line scan.offsets head found
+judged scan head (Reading.Bad bad) = LineKind.Bad bad
 judged scan head (Reading.Undated place) = undated_line scan.undated_lines scan.reader.form place
 
 -- a run has ended before its input
@@ -95,34 +95,33 @@ is_stopped Stop.AtBad = true
 is_stopped Stop.AtUnfit = true
 
 -- what a line is, by its head
-unfoldable pub line_of : Scan → List ℕ → Line
+unfoldable pub line_of : Scan → List ℕ → LineKind
 line_of scan head =
-    if is_stopped scan.stop then Line.Late
-    else if scan.has_header && (scan.number == 0) then Line.Header
+    if is_stopped scan.stop then LineKind.Late
+    else if scan.has_header && (scan.number == 0) then LineKind.Header
     else judged scan head (read scan.reader head)
 
 -- what is bad about a line, if something is
-abbrev pub bad_of : Line → Option Bad
-bad_of (Line.Bad bad) = Some bad
-bad_of (Line.Value found) = None
-bad_of Line.Late = None
-bad_of Line.Header = None
-bad_of Line.Unfit = None
-bad_of Line.Undated = None
+abbrev pub bad_of : LineKind → Option Bad
+bad_of (LineKind.Bad bad) = Some bad
+bad_of (LineKind.Value found) = None
+bad_of LineKind.Late = None
+bad_of LineKind.Header = None
+bad_of LineKind.Unfit = None
+bad_of LineKind.Undated = None
 
 -- the value of a line lies within it
-abbrev pub IsFoundWithin : Line → List ℕ → Type 0
-IsFoundWithin (Line.Value found) head = IsWithin found head
-IsFoundWithin Line.Late head = Unit {0}
-IsFoundWithin Line.Header head = Unit {0}
-IsFoundWithin (Line.Bad bad) head = Unit {0}
-IsFoundWithin Line.Unfit head = Unit {0}
-IsFoundWithin Line.Undated head = Unit {0}
+abbrev pub IsFoundWithin : LineKind → List ℕ → Type 0
+IsFoundWithin (LineKind.Value found) head = IsWithin found head
+IsFoundWithin LineKind.Late head = Unit {0}
+IsFoundWithin LineKind.Header head = Unit {0}
+IsFoundWithin (LineKind.Bad bad) head = Unit {0}
+IsFoundWithin LineKind.Unfit head = Unit {0}
+IsFoundWithin LineKind.Undated head = Unit {0}
 
 -- lines with a bad value are not left out
 abbrev pub keeps_bad : BadLines → Bool
 keeps_bad BadLines.Keep = true
-keeps_bad BadLines.Drop = false
 keeps_bad BadLines.Stop = false
 
 -- lines without a value are not left out
@@ -132,13 +131,13 @@ keeps_undated UndatedLines.Bad = true
 keeps_undated UndatedLines.Drop = false
 
 -- a line is not left out
-abbrev pub keeps : Scan → Line → Bool
-keeps scan Line.Header = true
-keeps scan (Line.Value found) = true
-keeps scan (Line.Bad bad) = keeps_bad scan.bad_lines
-keeps scan Line.Undated = keeps_undated scan.undated_lines
-keeps scan Line.Late = false
-keeps scan Line.Unfit = false
+abbrev pub keeps : Scan → LineKind → Bool
+keeps scan LineKind.Header = true
+keeps scan (LineKind.Value found) = true
+keeps scan (LineKind.Bad bad) = keeps_bad scan.bad_lines
+keeps scan LineKind.Undated = keeps_undated scan.undated_lines
+keeps scan LineKind.Late = false
+keeps scan LineKind.Unfit = false
 
 -- What is known of the lines up to the first value.
 
@@ -163,16 +162,16 @@ abbrev pub first_found : First → First
 first_found first = record first { has_value = true; has_entry = true }
 
 -- what is known after a line
-abbrev pub first_after : First → Line → First
-first_after first Line.Late = first
-first_after first Line.Header = first
-first_after first (Line.Value found) = first_found first
-first_after first (Line.Bad bad) = record first {
+abbrev pub first_after : First → LineKind → First
+first_after first LineKind.Late = first
+first_after first LineKind.Header = first
+first_after first (LineKind.Value found) = first_found first
+first_after first (LineKind.Bad bad) = record first {
   has_value = first.has_value || is_dated bad.why;
   before = before_entry first;
 }
-first_after first Line.Unfit = record first { has_value = true }
-first_after first Line.Undated = record first { before = before_entry first }
+first_after first LineKind.Unfit = record first { has_value = true }
+first_after first LineKind.Undated = record first { before = before_entry first }
 
 -- no further line of the file changes what is known of the first value
 abbrev pub is_found : First → Bool
@@ -226,26 +225,25 @@ noted scan bad = record scan {
 -- whether the run has ended at a line whose value is bad
 abbrev pub stop_at_bad : BadLines → Stop
 stop_at_bad BadLines.Keep = Stop.No
-stop_at_bad BadLines.Drop = Stop.No
 stop_at_bad BadLines.Stop = Stop.AtBad
 
 -- a line has a value
-abbrev pub is_value : Line → Bool
-is_value (Line.Value found) = true
-is_value Line.Header = false
-is_value (Line.Bad bad) = false
-is_value Line.Undated = false
-is_value Line.Late = false
-is_value Line.Unfit = false
+abbrev pub is_value : LineKind → Bool
+is_value (LineKind.Value found) = true
+is_value LineKind.Header = false
+is_value (LineKind.Bad bad) = false
+is_value LineKind.Undated = false
+is_value LineKind.Late = false
+is_value LineKind.Unfit = false
 
 -- a line is counted: it came before the run ended
-abbrev pub is_counted : Line → Bool
-is_counted Line.Late = false
-is_counted Line.Header = true
-is_counted (Line.Value found) = true
-is_counted (Line.Bad bad) = true
-is_counted Line.Unfit = true
-is_counted Line.Undated = true
+abbrev pub is_counted : LineKind → Bool
+is_counted LineKind.Late = false
+is_counted LineKind.Header = true
+is_counted (LineKind.Value found) = true
+is_counted (LineKind.Bad bad) = true
+is_counted LineKind.Unfit = true
+is_counted LineKind.Undated = true
 
 -- values are to have an offset
 abbrev pub has_offsets : Offsets → Bool
@@ -255,28 +253,28 @@ has_offsets (Offsets.Only has_offset) = has_offset
 has_offsets (Offsets.AsBounds has_offset) = has_offset
 
 -- what is known after a line
-unfoldable pub passed : Scan → Line → Scan
-passed scan Line.Late = scan
-passed scan Line.Header = counted scan
-passed scan Line.Undated =
-    record (counted scan) { first = first_after scan.first Line.Undated }
-passed scan (Line.Value found) =
+unfoldable pub passed : Scan → LineKind → Scan
+passed scan LineKind.Late = scan
+passed scan LineKind.Header = counted scan
+passed scan LineKind.Undated =
+    record (counted scan) { first = first_after scan.first LineKind.Undated }
+passed scan (LineKind.Value found) =
     record (valued scan) { offsets = settled scan.offsets found }
-passed scan (Line.Bad bad) = record (noted scan bad) {
+passed scan (LineKind.Bad bad) = record (noted scan bad) {
   stop = if is_stopped (stop_at_bad scan.bad_lines) then Stop.AtBad else scan.stop;
-  first = first_after scan.first (Line.Bad bad);
+  first = first_after scan.first (LineKind.Bad bad);
 }
-passed scan Line.Unfit = record (counted scan) {
+passed scan LineKind.Unfit = record (counted scan) {
   stop = Stop.AtUnfit;
-  first = first_after scan.first Line.Unfit;
+  first = first_after scan.first LineKind.Unfit;
 }
 
 -- the value that was parsed of a line is the one that was found in it
-abbrev pub IsLineParsed : (Found → Result (DateAndTime × ℕ) Bad) → Line → Option DateAndTime
+abbrev pub IsLineParsed : (Found → Result (DateAndTime × ℕ) Bad) → LineKind → Option DateAndTime
     → Type 0
-IsLineParsed value_of (Line.Value found) value = IsParsed value_of (Reading.Value found) value
-IsLineParsed value_of Line.Late value = Unit {0}
-IsLineParsed value_of Line.Header value = Unit {0}
-IsLineParsed value_of (Line.Bad bad) value = Unit {0}
-IsLineParsed value_of Line.Unfit value = Unit {0}
-IsLineParsed value_of Line.Undated value = Unit {0}
+IsLineParsed value_of (LineKind.Value found) value = IsParsed value_of (Reading.Value found) value
+IsLineParsed value_of LineKind.Late value = Unit {0}
+IsLineParsed value_of LineKind.Header value = Unit {0}
+IsLineParsed value_of (LineKind.Bad bad) value = Unit {0}
+IsLineParsed value_of LineKind.Unfit value = Unit {0}
+IsLineParsed value_of LineKind.Undated value = Unit {0}

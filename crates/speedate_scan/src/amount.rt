@@ -17,7 +17,7 @@ ghost use Rattle.speedate_scan.specs.Reading.{IsReadWithin, alone, fields_of};
 use crate::field::Field;
 use crate::form::relaxed;
 use crate::reading::{Bad, Reader, Reading, Why, is_cut, not_within, undated_field, without_field};
-use crate::scan::{Line, Scan};
+use crate::scan::{LineKind, Scan};
 use speedate::{Duration, MicrosecondsPrecisionOverflowBehavior, ParseError, Refused};
 use speedate_base::numbers::{byte_at, is_decimal_mark, sign};
 
@@ -71,7 +71,7 @@ fn years_or_months(text: &[u8]) -> Option<usize>
 }
 
 /// The duration that a text is.
-#[tactic(auto, using(crate::proofs::ReadingLemmas::placed_answer), unfolding(crate::specs::Amount::duration_whole))]
+#[tactic(auto, unfolding(crate::specs::Amount::duration_whole))]
 fn duration_whole(text: &[u8]) -> Result<Duration, Refused>
     ensures whole { result_map duration_numbers result ≡ duration_whole text.now }
     ensures within { IfErr result (λ refused. refused.place ≤ length text.now) }
@@ -283,20 +283,24 @@ impl Reader<'_> {
 impl Scan<'_> {
     /// The duration of a line, by its head, or what a line is that has none.
     #[tactic(auto, unfolding(crate::specs::Amount::amount_of))]
-    pub fn amount(&self, head: &[u8]) -> Result<Duration, Line>
+    pub fn amount(&self, head: &[u8]) -> Result<Duration, LineKind>
         ensures amount { result_map duration_numbers result ≡ amount_of self.now head.now }
     {
         if self.is_stopped() {
-            return Err(Line::Late);
+            return Err(LineKind::Late);
         }
         if self.has_header && self.number == 0 {
-            return Err(Line::Header);
+            return Err(LineKind::Header);
         }
         self.judged_amount(self.reader.read_duration(head), head)
     }
 
     /// A duration that was read of a line, or what the line is instead.
-    fn judged_amount(&self, read: Result<Duration, Reading>, head: &[u8]) -> Result<Duration, Line>
+    fn judged_amount(
+        &self,
+        read: Result<Duration, Reading>,
+        head: &[u8],
+    ) -> Result<Duration, LineKind>
         requires within { IfErr read (λ reading. IsReadWithin reading head.now) }
         ensures judged { result_map duration_numbers result
             ≡ judged_amount self.now head.now (result_map duration_numbers read) }

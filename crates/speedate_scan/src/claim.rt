@@ -12,7 +12,7 @@ use crate::form::Form;
 use crate::reading::{Reading, is_longer, not_within, seen};
 use crate::timestamp::{fewest_digits, whole_digits};
 use speedate_base::numbers::{byte_at, eight_bytes, fit_length, sign};
-use speedate_stream::LINE_MAX;
+use speedate_stream::SEEN_MAX;
 use std::simd::prelude::*;
 
 /// What is looked for after a word.
@@ -147,7 +147,7 @@ fn without_claim(head: &[u8]) -> Reading
     ensures bare { IsWithoutValue result }
 {
     if is_longer(head) {
-        not_within(LINE_MAX)
+        not_within(SEEN_MAX)
     } else {
         Reading::Undated(head.len())
     }

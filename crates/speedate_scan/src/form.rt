@@ -1,12 +1,11 @@
 //! What values are, and how a text is parsed as one.
 
-ghost use Rattle.std.specs.Prelude.{◌≡◌, ◌+◌, ◌≤◌, IfErr, IfOk, IfSome, IsTrue, Ok, Some, length, pos, slice_index};
-ghost use Rattle.std.specs.Option.{ForSome, unwrap_or};
+ghost use Rattle.std.specs.Prelude.{◌≡◌, ◌+◌, ◌≤◌, IfErr, IfOk, IfSome, Ok, Some, length, pos};
+ghost use Rattle.std.specs.Option.{ForSome};
 ghost use Rattle.speedate_base.specs.Offset.{IsOffset};
-ghost use Rattle.speedate.specs.Refused.{placed, refused_place};
+ghost use Rattle.speedate.specs.Refused.{placed};
 ghost use Rattle.speedate_civil.specs.Time.{clock_parts, clock_with_offset, end_fault};
-ghost use Rattle.speedate_civil.specs.DateTime.{date_time_front_or, date_time_or_timestamp};
-ghost use Rattle.speedate_civil.specs.DateTime.{date_time_or_timestamp_or, is_separator};
+ghost use Rattle.speedate_civil.specs.DateTime.{date_time_or_timestamp_or};
 ghost use Rattle.speedate_scan.specs.Reading.{date_and_clock, library_front, with_late_zone};
 ghost use Rattle.speedate.specs.Base.{Behavior, IsoOrder};
 ghost use Rattle.speedate.specs.Config.{choices, time_choices};
@@ -17,7 +16,6 @@ ghost use Rattle.speedate_scan.specs.Reading.{front_of, midnight_front, midnight
 ghost use Rattle.speedate_scan.specs.Reading.{relaxed_front, relaxed_whole, strict_front};
 ghost use Rattle.speedate_scan.specs.Reading.{strict_whole, timestamp_front, timestamp_of};
 ghost use Rattle.speedate_scan.specs.Reading.{past_64_bits, timestamp_whole, whole_front, whole_of};
-ghost use Rattle.speedate_scan.specs.Reading.{with_place};
 
 use crate::timestamp::{has_number, number_length};
 use crate::zone::{late_zone, zone_front};
@@ -67,7 +65,69 @@ impl Form {
         }
     }
 
+    /// The value at the front of a text, and how many bytes it takes, if the library reads it at once; `None` says
+    /// nothing of the text.
+    #[inline(always)]
+    pub fn accepted(
+        self,
+        text: &[u8],
+        behavior: MicrosecondsPrecisionOverflowBehavior,
+    ) -> Option<(DateTime, usize)>
+        ensures front { IfSome result (λ front. front_of self behavior text.now
+            ≡ Ok (with_size date_and_time front)) }
+        ensures size { IfSome result (λ front. front.1 ≤ length text.now) }
+    {
+        // A fraction of more than six digits is not of the form that most have.
+        if matches!(self, Form::DateTime) && !byte_at(text, 26).is_ascii_digit() {
+            if let Some((value, size)) = usual_front(text) {
+                return Some((value, size));
+            }
+        }
+        match self.any_accepted(text, behavior) {
+            Some((value, size)) => Some((value, size)),
+            None => None,
+        }
+    }
+
     /// The same, without a first look at the form that most date-times have.
+    #[inline(never)]
+    fn any_accepted(
+        self,
+        text: &[u8],
+        behavior: MicrosecondsPrecisionOverflowBehavior,
+    ) -> Option<(DateTime, usize)>
+        ensures front { IfSome result (λ front. front_of self behavior text.now
+            ≡ Ok (with_size date_and_time front)) }
+        ensures size { IfSome result (λ front. front.1 ≤ length text.now) }
+    {
+        match self {
+            Form::DateTime => accepted_front(text, behavior),
+            _ => self.front_by_parts(text, behavior).ok(),
+        }
+    }
+
+    /// The value at the front of a text, and how many bytes it takes: a date-time is read part by part, as of a text
+    /// that [`Form::accepted`] says nothing of.
+    #[inline(never)]
+    pub fn front_by_parts(
+        self,
+        text: &[u8],
+        behavior: MicrosecondsPrecisionOverflowBehavior,
+    ) -> Result<(DateTime, usize), Refused>
+        ensures front { result_map (with_size date_and_time) result
+            ≡ front_of self behavior text.now }
+        ensures size { IfOk result (λ front. front.1 ≤ length text.now) }
+        ensures within { IfErr result (λ refused. refused.place ≤ length text.now) }
+    {
+        match self {
+            Form::DateTime => front_by_parts(text, behavior),
+            Form::Strict => strict_front(text, behavior),
+            Form::Date => midnight_front(text),
+            Form::Timestamp(unit) => timestamp_front(text, unit, behavior),
+        }
+    }
+
+    /// The value at the front of a text, without a first look at the form that most date-times have.
     #[inline(never)]
     fn any_front(
         self,
@@ -81,9 +141,7 @@ impl Form {
     {
         match self {
             Form::DateTime => relaxed_front(text, behavior),
-            Form::Strict => strict_front(text, behavior),
-            Form::Date => midnight_front(text),
-            Form::Timestamp(unit) => timestamp_front(text, unit, behavior),
+            _ => self.front_by_parts(text, behavior),
         }
     }
 
@@ -155,24 +213,29 @@ fn with_late_zone(value: DateTime, size: usize, text: &[u8]) -> (DateTime, usize
 }
 
 /// A date, a separator and a clock at the front of a text.
+#[tactic(auto, using(std::proofs::lemmas::List::take_rest))]
 fn date_and_clock(
     text: &[u8],
     behavior: MicrosecondsPrecisionOverflowBehavior,
-) -> Result<(Date, PureTime), ParseError>
+) -> Result<(Date, PureTime), Refused>
     ensures front { result_map (λ front. (ymd front.0, clock_parts front.1)) result
         ≡ date_and_clock behavior text.now }
-    ensures within { IfOk result (λ front. 11 + front.1.size ≤ length text.now) }
+    ensures size { IfOk result (λ front. 11 + front.1.size ≤ length text.now) }
+    ensures within { IfErr result (λ refused. refused.place ≤ length text.now) }
 {
-    let date = match Date::parse_front(text) {
+    let date = match Date::parse_or_place_front(text) {
         Ok((date, _)) => date,
-        Err(fault) => return Err(fault),
+        Err(refused) => return Err(refused),
     };
     if !has_separator(text) {
-        return Err(ParseError::InvalidCharDateTimeSep);
+        return Err(Refused {
+            fault: ParseError::InvalidCharDateTimeSep,
+            place: 10,
+        });
     }
-    match PureTime::parse(text, 11, behavior) {
+    match PureTime::front_at(&text[11..], 11, behavior) {
         Ok(clock) => Ok((date, clock)),
-        Err(fault) => Err(fault),
+        Err(refused) => Err(refused),
     }
 }
 
@@ -186,14 +249,30 @@ fn relaxed_front(
     ensures size { IfOk result (λ front. front.1 ≤ length text.now) }
     ensures within { IfErr result (λ refused. refused.place ≤ length text.now) }
 {
-    // The library refuses what begins as an offset and is none, such as `-app`.
-    match DateTime::parse_front(text, &relaxed(behavior)) {
-        Ok((value, size)) => Ok(with_late_zone(value, size, text)),
-        Err(_) => front_by_parts(text, behavior),
+    match accepted_front(text, behavior) {
+        Some((value, size)) => Ok((value, size)),
+        None => front_by_parts(text, behavior),
     }
 }
 
-/// The same, by its date, its clock and its zone one after the other.
+/// The same, if the library reads it at once: it refuses what begins as an offset and is none, such as `-app`.
+#[inline(always)]
+fn accepted_front(
+    text: &[u8],
+    behavior: MicrosecondsPrecisionOverflowBehavior,
+) -> Option<(DateTime, usize)>
+    ensures front { IfSome result (λ front.
+        relaxed_front behavior text.now ≡ Ok (with_size date_and_time front)) }
+    ensures within { IfSome result (λ front. front.1 ≤ length text.now) }
+{
+    match DateTime::parse_front(text, &relaxed(behavior)) {
+        Ok((value, size)) => Some(with_late_zone(value, size, text)),
+        Err(_) => None,
+    }
+}
+
+/// The date-time at the front of a text, and how many bytes it takes, by its date, its clock and its zone one after the
+/// other.
 #[cold]
 #[inline(never)]
 #[tactic(auto, unfolding(crate::specs::Reading::relaxed_front))]
@@ -207,29 +286,13 @@ fn front_by_parts(
 {
     let (date, clock) = match date_and_clock(text, behavior) {
         Ok(front) => front,
-        Err(fault) => return Err(refused(text, behavior, fault)),
+        Err(refused) => return Err(refused),
     };
     let end = 11 + clock.size;
     match zone_front(&text[end..], end) {
         Ok((offset, size)) => Ok((zoned(date, &clock, offset), end + size)),
         Err(refused) => Err(refused),
     }
-}
-
-/// The refusal of a text whose date or clock has this error. Only such a text is parsed once more, for the place.
-#[cold]
-#[inline(never)]
-fn refused(
-    text: &[u8],
-    behavior: MicrosecondsPrecisionOverflowBehavior,
-    fault: ParseError,
-) -> Refused
-    ensures refused { result ≡ placed fault
-        (unwrap_or (refused_place (date_time_front_or placed behavior text.now)) 0) }
-    ensures within { result.place ≤ length text.now }
-{
-    let place = DateTime::error_place_front(text, &relaxed(behavior)).unwrap_or(0);
-    Refused { fault, place }
 }
 
 /// The date-time of a date, a clock and an offset.
@@ -339,8 +402,7 @@ fn library_timestamp(
     behavior: MicrosecondsPrecisionOverflowBehavior,
 ) -> Result<DateTime, Refused>
     ensures value { result_map date_and_time result
-        ≡ with_place (date_time_or_timestamp unit behavior (Some (pos 0)) text.now)
-        (refused_place (date_time_or_timestamp_or placed unit behavior (Some (pos 0)) text.now)) }
+        ≡ date_time_or_timestamp_or placed unit behavior (Some (pos 0)) text.now }
     ensures within { IfErr result (λ refused. refused.place ≤ length text.now) }
 {
     DateTime::parse_or_place(text, &timestamps(unit, behavior))
@@ -382,7 +444,7 @@ fn timestamp_whole(
 }
 
 /// The date-time that the library reads at the front of a text, and how many bytes it takes.
-#[tactic(auto, using(crate::proofs::ReadingLemmas::placed_answer), unfolding(crate::specs::Reading::library_front))]
+#[tactic(auto, unfolding(crate::specs::Reading::library_front))]
 fn library_front(
     text: &[u8],
     behavior: MicrosecondsPrecisionOverflowBehavior,
@@ -395,7 +457,7 @@ fn library_front(
 }
 
 /// The date-time of RFC 3339 that a text is.
-#[tactic(auto, using(crate::proofs::ReadingLemmas::placed_answer), unfolding(crate::specs::Reading::strict_whole))]
+#[tactic(auto, unfolding(crate::specs::Reading::strict_whole))]
 fn strict_whole(
     text: &[u8],
     behavior: MicrosecondsPrecisionOverflowBehavior,
@@ -427,7 +489,7 @@ fn strict_front(
 }
 
 /// The midnight of the date at the front of a text, and how many bytes the date takes.
-#[tactic(auto, using(crate::proofs::ReadingLemmas::placed_answer), unfolding(crate::specs::Reading::midnight_front))]
+#[tactic(auto, unfolding(crate::specs::Reading::midnight_front))]
 fn midnight_front(text: &[u8]) -> Result<(DateTime, usize), Refused>
     ensures front { result_map (with_size date_and_time) result ≡ midnight_front text.now }
     ensures size { IfOk result (λ front. front.1 ≤ length text.now) }
@@ -440,7 +502,7 @@ fn midnight_front(text: &[u8]) -> Result<(DateTime, usize), Refused>
 }
 
 /// The midnight of the date that a text is.
-#[tactic(auto, using(crate::proofs::ReadingLemmas::placed_answer), unfolding(crate::specs::Reading::midnight_whole))]
+#[tactic(auto, unfolding(crate::specs::Reading::midnight_whole))]
 fn midnight_whole(text: &[u8]) -> Result<DateTime, Refused>
     ensures whole { result_map date_and_time result ≡ midnight_whole text.now }
     ensures within { IfErr result (λ refused. refused.place ≤ length text.now) }

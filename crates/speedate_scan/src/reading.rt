@@ -1,12 +1,12 @@
 //! What is read of a line.
 
-ghost use Rattle.std.specs.Prelude.{◌≡◌, ◌+◌, ◌-◌, ◌≤◌, IfErr, IfOk, IfSome, length};
+ghost use Rattle.std.specs.Prelude.{◌≡◌, ◌+◌, ◌-◌, ◌≤◌, IfErr, IfOk, IfSome, None, Ok, drop, length};
 ghost use Rattle.std.specs.Option.{option_map};
 ghost use Rattle.speedate.specs.Requirement.{result_map, with_size};
 ghost use Rattle.speedate.specs.DateTime.{date_and_time};
 ghost use Rattle.speedate_scan.specs.Field.{IsFieldWithin};
-ghost use Rattle.speedate_scan.specs.Reading.{IsParsed, IsReadWithin, IsWithoutValue, alone, assumed};
-ghost use Rattle.speedate_scan.specs.Reading.{can_end, fields_of, found_at, found_from, instant_of};
+ghost use Rattle.speedate_scan.specs.Reading.{IsParsed, IsReadWithin, IsWithin, IsWithoutValue, alone, assumed};
+ghost use Rattle.speedate_scan.specs.Reading.{can_end, fields_of, found_at, found_from, front_of, instant_of};
 ghost use Rattle.speedate_scan.specs.Reading.{is_cut, is_longer, is_without_clock, lacks_clock};
 ghost use Rattle.speedate_scan.specs.Reading.{not_within, part, read, read_claim, read_field};
 ghost use Rattle.speedate_scan.specs.Reading.{read_whole, refused_at, seen, undated_field, value_at};
@@ -20,7 +20,7 @@ use crate::fraction::value_past_microsecond;
 use crate::zone::is_boundary;
 use speedate::{DateTime, MicrosecondsPrecisionOverflowBehavior, ParseError, Refused};
 use speedate_base::numbers::byte_at;
-use speedate_stream::LINE_MAX;
+use speedate_stream::SEEN_MAX;
 
 /// Where the value of a line begins.
 #[derive(Clone, Copy)]
@@ -163,25 +163,25 @@ pub fn seen(head: &[u8]) -> &[u8]
     ensures within { length result.now ≤ length head.now }
     ensures short { length result.now ≤ 4096 }
 {
-    first_bytes(head, LINE_MAX)
+    first_bytes(head, SEEN_MAX)
 }
 
 /// Whether a line is longer than what is looked at.
 pub fn is_longer(head: &[u8]) -> bool
     ensures longer { result ≡ is_longer head.now }
 {
-    head.len() > LINE_MAX
+    head.len() > SEEN_MAX
 }
 
 /// How many bytes of a longer line may stand before the end of its value. The sixteen bytes after these, which are
 /// looked at too, are enough for a zone and for what ends a value.
-const VALUE_MAX: usize = LINE_MAX - 16;
+const VALUE_MAX: usize = SEEN_MAX - 16;
 
 /// Whether a place is after the last one at which the value of a longer line may end.
 pub fn is_cut(head: &[u8], place: usize) -> bool
     ensures cut { result ≡ is_cut head.now place }
 {
-    head.len() > LINE_MAX && place > VALUE_MAX
+    head.len() > SEEN_MAX && place > VALUE_MAX
 }
 
 /// What has the fields of a line: a carriage return at its end belongs to none.
@@ -209,13 +209,24 @@ pub fn instant_of(form: Form, text: &[u8], value: &DateTime) -> i128
 }
 
 /// A value with the offset that one without gets, if it gets one.
+#[inline(always)]
 #[tactic(auto, unfolding(crate::specs::Reading::assumed))]
 pub fn assume(offset: Option<i32>, value: DateTime) -> DateTime
     ensures assumed { date_and_time result ≡ assumed offset (date_and_time value) }
 {
-    if value.time.tz_offset.is_some() {
+    if value.time.tz_offset.is_some() || offset.is_none() {
         return value;
     }
+    assume_offset(offset, value)
+}
+
+/// The same for a value without an offset.
+#[inline(never)]
+#[tactic(auto, unfolding(crate::specs::Reading::assumed))]
+fn assume_offset(offset: Option<i32>, value: DateTime) -> DateTime
+    requires without { value.time.tz_offset ≡ None }
+    ensures assumed { date_and_time result ≡ assumed offset (date_and_time value) }
+{
     match value.with_timezone_offset(offset) {
         Ok(with_offset) => with_offset,
         Err(_) => value,
@@ -253,7 +264,7 @@ pub fn without_field(head: &[u8]) -> Reading
     ensures within { IsReadWithin result head.now }
 {
     if is_longer(head) {
-        return not_within(LINE_MAX);
+        return not_within(SEEN_MAX);
     }
     Reading::Undated(fields_of(head).len())
 }
@@ -315,7 +326,47 @@ impl Reader<'_> {
         ensures read { result ≡ read self.now head.now }
         ensures within { IsReadWithin result head.now }
     {
-        self.parse(head).0
+        match self.value(head) {
+            Some((found, _)) => Reading::Value(found),
+            None => self.parse(head).0,
+        }
+    }
+
+    /// The value of a line, by its head, if the library reads it at once and it is no field; `None` says nothing of
+    /// the line.
+    #[inline(always)]
+    #[tactic(auto, unfolding(crate::specs::Reading::value_at), using(crate::proofs::SeenLemmas::seen_within))]
+    pub fn value(&self, head: &[u8]) -> Option<(Found, DateTime)>
+        ensures read { IfSome result (λ it. read self.now head.now ≡ Reading.Value it.0) }
+        ensures within { IfSome result (λ it. IsWithin it.0 head.now) }
+        ensures value { IfSome result (λ it. value_of self.now head.now it.0
+            ≡ Ok (date_and_time it.1, it.0.to)) }
+    {
+        let start = self.start(head)?;
+        let (value, size) = self.form.accepted(&seen(head)[start..], self.behavior)?;
+        let to = start + size;
+        if is_cut(head, to) || !can_end(self.form, &head[to..]) {
+            return None;
+        }
+        let value = assume(self.offset, value);
+        Some((found_at(self.form, head, &value, start, to), value))
+    }
+
+    /// The byte at which a value is claimed in a line, by its head, unless the value is a field.
+    #[inline(always)]
+    #[tactic(auto, unfolding(crate::specs::Reading::read, crate::specs::Reading::value_of))]
+    fn start(&self, head: &[u8]) -> Option<usize>
+        ensures read { IfSome result (λ start. read self.now head.now
+            ≡ read_claim self.now head.now (Ok start)) }
+        ensures value { (found : Found) → IfSome result (λ start. value_of self.now head.now found
+            ≡ value_at self.now head.now found.from) }
+        ensures within { IfSome result (λ start. start ≤ length (seen head.now)) }
+    {
+        match self.place {
+            Place::Front => front_claim(self.form, head).ok(),
+            Place::After(word) => after_claim(self.form, word, head).ok(),
+            Place::Field(_) => None,
+        }
     }
 
     /// What is read of a line, by its head, and the value that was parsed, if it has one.
@@ -363,10 +414,13 @@ impl Reader<'_> {
         ensures verdict { result ≡ verdict (read_claim self.now head.now claim) }
     {
         match claim {
-            Ok(start) => match self.value_at(head, start) {
-                Ok(_) => Verdict::Value,
-                Err(bad) => Verdict::Bad(bad),
-            },
+            Ok(start) => {
+                let front = self.form.front(&seen(head)[start..], self.behavior);
+                match self.value_at(head, start, front) {
+                    Ok(_) => Verdict::Value,
+                    Err(bad) => Verdict::Bad(bad),
+                }
+            }
             Err(reading) => reading.verdict(),
         }
     }
@@ -383,7 +437,11 @@ impl Reader<'_> {
             result.0 (option_map date_and_time result.1) }
     {
         match claim {
-            Ok(start) => read_as(self.form, head, self.value_at(head, start), start),
+            Ok(start) => {
+                let text = &seen(head)[start..];
+                let front = self.form.front_by_parts(text, self.behavior);
+                read_as(self.form, head, self.value_at(head, start, front), start)
+            }
             Err(reading) => (reading, None),
         }
     }
@@ -464,17 +522,27 @@ impl Reader<'_> {
         }
     }
 
-    /// The value that begins at a byte of a line, by its head, and the byte up to which it stands.
+    /// The value that begins at a byte of a line, by its head and what was read from that byte on, and the byte up to
+    /// which it stands.
     #[inline(always)]
-    #[tactic(auto, unfolding(crate::specs::Reading::value_at))]
-    fn value_at(&self, head: &[u8], start: usize) -> Result<(DateTime, usize), Bad>
+    #[tactic(auto, unfolding(crate::specs::Reading::value_at), using(crate::proofs::SeenLemmas::seen_within))]
+    fn value_at(
+        &self,
+        head: &[u8],
+        start: usize,
+        front: Result<(DateTime, usize), Refused>,
+    ) -> Result<(DateTime, usize), Bad>
         requires start { start ≤ length (seen head.now) }
+        requires front { result_map (with_size date_and_time) front
+            ≡ front_of self.now.form self.now.behavior (drop start (seen head.now)) }
+        requires size { IfOk front (λ front. start + front.1 ≤ length (seen head.now)) }
+        requires refused { IfErr front (λ refused. start + refused.place ≤ length (seen head.now)) }
         ensures value { result_map (with_size date_and_time) result
             ≡ value_at self.now head.now start }
         ensures ordered { IfOk result (λ found. start ≤ found.1) }
         ensures within { IfOk result (λ found. found.1 ≤ length head.now) }
     {
-        match self.form.front(&seen(head)[start..], self.behavior) {
+        match front {
             Ok((value, size)) => {
                 if is_cut(head, start + size) {
                     return Err(Bad {

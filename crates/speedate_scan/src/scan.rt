@@ -1,6 +1,6 @@
 //! What each line is to a command, and what is counted of the lines.
 
-ghost use Rattle.std.specs.Prelude.{◌≡◌, ◌+◌, ◌++◌, ◌≤◌, ◌<◌, IfSome, length, is_some, not};
+ghost use Rattle.std.specs.Prelude.{◌≡◌, ◌+◌, ◌++◌, ◌≤◌, ◌<◌, ◌==◌, ◌&&◌, IfSome, IsTrue, Ok, length, is_some, not};
 ghost use Rattle.std.specs.List.{position};
 ghost use Rattle.std.specs.Option.{option_map};
 ghost use Rattle.speedate.specs.DateTime.{date_and_time};
@@ -12,7 +12,8 @@ ghost use Rattle.speedate_scan.specs.Scan.{before_entry, begun, headers, is_date
 ghost use Rattle.speedate_scan.specs.Scan.{judged, line_of, lines_before, valued};
 ghost use Rattle.speedate_scan.specs.Scan.{is_clock_byte, noted, offset_place, passed, settled, unfit};
 
-use crate::reading::{Bad, Found, Reader, Reading, Verdict, Why};
+use crate::claim::front_claim;
+use crate::reading::{Bad, Found, Place, Reader, Reading, Verdict, Why};
 use speedate::{DateTime, ParseError};
 use speedate_base::numbers::is_decimal_mark;
 
@@ -35,8 +36,6 @@ pub enum UndatedLines {
 pub enum BadLines {
     /// They belong to the entry before them.
     Keep,
-    /// They are left out.
-    Drop,
     /// The first of them ends the run.
     Stop,
 }
@@ -88,7 +87,7 @@ pub struct First {
 
 /// What a line is to a command.
 #[derive(Clone, Copy)]
-pub enum Line {
+pub enum LineKind {
     /// A line after the run has ended.
     Late,
     /// The first line of a file that has a header.
@@ -181,21 +180,21 @@ fn headers(has_header: bool) -> u64
     if has_header { 1 } else { 0 }
 }
 
-impl Line {
+impl LineKind {
     /// Whether the line has a value.
     pub fn is_value(&self) -> bool
         ensures value { result ≡ is_value self.now }
     {
-        matches!(self, Line::Value(_))
+        matches!(self, LineKind::Value(_))
     }
 }
 
-impl Line {
+impl LineKind {
     /// Whether the line came before the run ended.
     pub fn is_counted(&self) -> bool
         ensures counted { result ≡ is_counted self.now }
     {
-        !matches!(self, Line::Late)
+        !matches!(self, LineKind::Late)
     }
 }
 
@@ -328,30 +327,76 @@ impl Scan<'_> {
 
     /// What a line is, by its head.
     #[inline(always)]
-    pub fn line(&self, head: &[u8]) -> Line
+    pub fn line(&self, head: &[u8]) -> LineKind
         ensures line { result ≡ line_of self.now head.now }
         ensures within { IsFoundWithin result head.now }
     {
-        self.line_with_value(head).0
+        match self.value(head) {
+            Some((found, _)) => LineKind::Value(found),
+            None => self.any_line(head).0,
+        }
     }
 
-    /// What a line is, by its head, and its value, if it has one.
+    /// The value of a line, by its head, if it fits and the library reads it at once; `None` says nothing of the
+    /// line.
     #[inline(always)]
     #[tactic(auto, unfolding(crate::specs::Scan::line_of))]
-    pub fn line_with_value(&self, head: &[u8]) -> (Line, Option<DateTime>)
+    pub fn value(&self, head: &[u8]) -> Option<(Found, DateTime)>
+        ensures line { IfSome result (λ it. line_of self.now head.now ≡ LineKind.Value it.0) }
+        ensures within { IfSome result (λ it. IsWithin it.0 head.now) }
+        ensures value { IfSome result (λ it. value_of self.now.reader head.now it.0
+            ≡ Ok (date_and_time it.1, it.0.to)) }
+    {
+        if self.is_stopped() || self.is_at_header() {
+            return None;
+        }
+        let (found, value) = self.reader.value(head)?;
+        if !self.offsets.fits(&found) {
+            return None;
+        }
+        Some((found, value))
+    }
+
+    /// What a line is, by its head, and its value, if it has one, without a first look at what the library reads at
+    /// once.
+    #[inline(never)]
+    #[tactic(auto, unfolding(crate::specs::Scan::line_of))]
+    pub fn any_line(&self, head: &[u8]) -> (LineKind, Option<DateTime>)
         ensures line { result.0 ≡ line_of self.now head.now }
         ensures within { IsFoundWithin result.0 head.now }
         ensures value { IsLineParsed (value_of self.now.reader head.now) result.0
             (option_map date_and_time result.1) }
     {
         if self.is_stopped() {
-            return (Line::Late, None);
+            return (LineKind::Late, None);
         }
-        if self.has_header && self.number == 0 {
-            return (Line::Header, None);
+        if self.is_at_header() {
+            return (LineKind::Header, None);
         }
         let (reading, value) = self.reader.parse(head);
         (self.judged(reading, head), value)
+    }
+
+    /// Whether a line has no value, by its head, if that is known without a search; `false` says nothing of the line.
+    #[inline(always)]
+    #[tactic(auto, unfolding(crate::specs::Scan::line_of, crate::specs::Reading::read))]
+    pub fn is_undated(&self, head: &[u8]) -> bool
+        ensures undated { IsTrue result → line_of self.now head.now ≡ LineKind.Undated }
+    {
+        if self.is_stopped() || self.is_at_header() || self.undated_lines == UndatedLines::Bad {
+            return false;
+        }
+        match self.reader.place {
+            Place::Front => front_claim(self.reader.form, head).is_err(),
+            Place::After(_) | Place::Field(_) => false,
+        }
+    }
+
+    /// Whether the next line is the header of its file.
+    fn is_at_header(&self) -> bool
+        ensures header { result ≡ (self.now.has_header && (self.now.number == 0)) }
+    {
+        self.has_header && self.number == 0
     }
 
     /// What is bad about a line, by its head, if something is, where all values fit.
@@ -361,7 +406,7 @@ impl Scan<'_> {
         requires fits { self.now.offsets ≡ Offsets.Any }
         ensures bad { result ≡ bad_of (line_of self.now head.now) }
     {
-        if self.is_stopped() || self.has_header && self.number == 0 {
+        if self.is_stopped() || self.is_at_header() {
             return None;
         }
         match self.reader.verdict(head) {
@@ -380,7 +425,7 @@ impl Scan<'_> {
 
     /// What a line is by what is read of it.
     #[inline(always)]
-    pub fn judged(&self, reading: Reading, head: &[u8]) -> Line
+    pub fn judged(&self, reading: Reading, head: &[u8]) -> LineKind
         requires within { IsReadWithin reading head.now }
         ensures judged { result ≡ judged self.now head.now reading }
         ensures within { IsFoundWithin result head.now }
@@ -388,55 +433,53 @@ impl Scan<'_> {
         match reading {
             Reading::Value(found) => {
                 if self.offsets.fits(&found) {
-                    return Line::Value(found);
+                    return LineKind::Value(found);
                 }
                 match self.offsets {
-                    Offsets::AsBounds(_) => Line::Unfit,
-                    _ => Line::Bad(unfit(&found, head)),
+                    Offsets::AsBounds(_) => LineKind::Unfit,
+                    _ => LineKind::Bad(unfit(&found, head)),
                 }
             }
-            Reading::Bad(bad) => Line::Bad(bad),
+            Reading::Bad(bad) => LineKind::Bad(bad),
             Reading::Undated(place) => {
                 if self.undated_lines == UndatedLines::Bad {
                     let why = Why::Undated(self.reader.form);
-                    Line::Bad(Bad { place, why })
+                    LineKind::Bad(Bad { place, why })
                 } else {
-                    Line::Undated
+                    LineKind::Undated
                 }
             }
         }
     }
 
-    /// Whether a line is not left out: no line after the run has ended, and no bad or undated one that
-    /// is to be dropped.
-    pub fn keeps(&self, line: &Line) -> bool
+    /// Whether a line is not left out: no line after the run has ended, no bad one that ends it, and no undated one
+    /// that is to be dropped.
+    pub fn keeps(&self, line: &LineKind) -> bool
         ensures keeps { result ≡ keeps self.now line.now }
     {
         match line {
-            Line::Header | Line::Value(_) => true,
-            Line::Bad(_) => self.bad_lines == BadLines::Keep,
-            Line::Undated => self.undated_lines != UndatedLines::Drop,
-            Line::Late | Line::Unfit => false,
+            LineKind::Header | LineKind::Value(_) => true,
+            LineKind::Bad(_) => self.bad_lines == BadLines::Keep,
+            LineKind::Undated => self.undated_lines != UndatedLines::Drop,
+            LineKind::Late | LineKind::Unfit => false,
         }
     }
 
     /// Counts a line, and notes what is bad about it.
+    #[inline(always)]
     #[tactic(auto, unfolding(crate::specs::Scan::passed))]
-    pub fn pass(&mut self, line: Line)
+    pub fn pass(&mut self, line: LineKind)
         ensures passed { self.new ≡ passed self.old line }
     {
         match line {
-            Line::Late => {}
-            Line::Header => self.count(),
-            Line::Undated => {
+            LineKind::Late => {}
+            LineKind::Header => self.count(),
+            LineKind::Undated => {
                 self.first.before = self.first.before_entry();
                 self.count();
             }
-            Line::Value(found) => {
-                self.offsets = self.offsets.settled(&found);
-                self.count_value();
-            }
-            Line::Bad(bad) => {
+            LineKind::Value(found) => self.pass_value(&found),
+            LineKind::Bad(bad) => {
                 if self.bad_lines == BadLines::Stop {
                     self.stop = Stop::AtBad;
                 }
@@ -444,12 +487,22 @@ impl Scan<'_> {
                 self.first.before = self.first.before_entry();
                 self.note(bad);
             }
-            Line::Unfit => {
+            LineKind::Unfit => {
                 self.stop = Stop::AtUnfit;
                 self.first.has_value = true;
                 self.count();
             }
         }
+    }
+
+    /// Counts a line with this value.
+    #[inline(always)]
+    #[tactic(auto, unfolding(crate::specs::Scan::passed))]
+    pub fn pass_value(&mut self, found: &Found)
+        ensures passed { self.new ≡ passed self.old (LineKind.Value found.now) }
+    {
+        self.offsets = self.offsets.settled(found);
+        self.count_value();
     }
 
     /// Counts a line that has a value.

@@ -17,7 +17,7 @@ use Rattle.speedate_stream.proofs.SentLemmas.{OnlyWrites-then}
 use Rattle.speedate_scan.specs.Print.{prefix_text, shown_name}
 use Rattle.speedate_scan.specs.Scan.{keeps, line_of, passed}
 use Rattle.speedate_scan.specs.Entries.{printed_line}
-use Rattle.speedate_sort.specs.Base.{Line, Scan}
+use Rattle.speedate_sort.specs.Base.{LineKind, Scan}
 use Rattle.speedate_sort.specs.Sort.{IsPlaced, Keyed, Keys, Place, bare_lines, file_lines, if_kept}
 use Rattle.speedate_sort.specs.Sort.{Adds, UnlessMemory, Unread, in_order}
 use Rattle.speedate_sort.specs.Sort.{instant_after, is_earlier, is_earlier_line, key_after, key_of}
@@ -89,7 +89,7 @@ kept_none false instant text is = refl
 pub one-line : (keys : Keys) (line : List ℕ) (found : ℤ) → key_of keys line ≡ Some found
     → bare_lines keys (line ∷ []) ≡ record { instant = found; text = line ++ line_feed ∷ [] } ∷ []
 one-line keys line found is =
-    let what : Line = line_of keys.scan (head line) in
+    let what : LineKind = line_of keys.scan (head line) in
     append-nil (if_kept (keeps keys.scan what) (instant_after keys.instant what)
     (printed_line no_prefix keys.scan line))
     ∙ kept_some (keeps keys.scan what) (instant_after keys.instant what) found
@@ -101,7 +101,7 @@ one-line keys line found is =
 pub no-line : (keys : Keys) (line : List ℕ) → key_of keys line ≡ None
     → bare_lines keys (line ∷ []) ≡ []
 no-line keys line is =
-    let what : Line = line_of keys.scan (head line) in
+    let what : LineKind = line_of keys.scan (head line) in
     append-nil (if_kept (keeps keys.scan what) (instant_after keys.instant what)
     (printed_line no_prefix keys.scan line))
     ∙ kept_none (keeps keys.scan what) (instant_after keys.instant what)
@@ -112,7 +112,7 @@ pub bare_lines-cons : (keys : Keys) (line : List ℕ) (lines : List (List ℕ))
     → bare_lines keys (line ∷ lines)
     ≡ bare_lines keys (line ∷ []) ++ bare_lines (key_after keys line) lines
 bare_lines-cons keys line lines =
-    let what : Line = line_of keys.scan (head line) in
+    let what : LineKind = line_of keys.scan (head line) in
     ap (λ (l : List Keyed). l ++ bare_lines (key_after keys line) lines)
     (sym (append-nil (if_kept (keeps keys.scan what) (instant_after keys.instant what)
     (printed_line no_prefix keys.scan line))))
@@ -123,7 +123,7 @@ pub bare_lines-append : (keys : Keys) (lines others : List (List ℕ))
     ≡ bare_lines keys lines ++ bare_lines (keys_after keys lines) others
 bare_lines-append keys [] others = refl
 bare_lines-append keys (line ∷ lines) others =
-    let what : Line = line_of keys.scan (head line) in
+    let what : LineKind = line_of keys.scan (head line) in
     let first = if_kept (keeps keys.scan what) (instant_after keys.instant what)
     (printed_line no_prefix keys.scan line) in
     ap (λ (l : List Keyed). first ++ l) (bare_lines-append (key_after keys line) lines others)
@@ -135,14 +135,14 @@ pub no_named-line : (keys : Keys) (line : List ℕ) → key_of keys line ≡ Non
 unfolding file_lines
 no_named-line keys line is = ap (map (prefixed (name_text keys))) (no-line keys line is)
 
-passed-name : (scan : Scan) (what : Line) → (passed scan what).name ≡ scan.name
+passed-name : (scan : Scan) (what : LineKind) → (passed scan what).name ≡ scan.name
 unfolding passed
-passed-name scan Line.Late = refl
-passed-name scan Line.Header = refl
-passed-name scan Line.Undated = refl
-passed-name scan (Line.Value found) = refl
-passed-name scan (Line.Bad bad) = refl
-passed-name scan Line.Unfit = refl
+passed-name scan LineKind.Late = refl
+passed-name scan LineKind.Header = refl
+passed-name scan LineKind.Undated = refl
+passed-name scan (LineKind.Value found) = refl
+passed-name scan (LineKind.Bad bad) = refl
+passed-name scan LineKind.Unfit = refl
 
 -- a line does not change the name of its file
 pub name-after : (keys : Keys) (line : List ℕ) → name_text (key_after keys line) ≡ name_text keys

@@ -4,7 +4,7 @@ use Rattle.speedate_stream.specs.Machine.{head}
 use Rattle.speedate_scan.specs.Scan.{is_value, keeps, line_of, passed}
 use Rattle.speedate_scan.specs.Entries.{Entry, Marked, entries, entry_and, lines_text, marked}
 use Rattle.speedate_scan.specs.Entries.{up_to_value}
-use Rattle.speedate_sort.specs.Base.{Line, Scan}
+use Rattle.speedate_sort.specs.Base.{LineKind, Scan}
 use Rattle.speedate_sort.specs.Sort.{AreKept, IsKept, Keyed, all_text, if_kept, in_order}
 use Rattle.speedate_sort.specs.Sort.{instant_after, is_earlier_entry, keyed, no_prefix}
 use Rattle.speedate_sort.specs.Sort.{sorted_entries, sorted_text, texts}
@@ -56,27 +56,27 @@ text-blocks (entry ∷ es) =
     ∙ ap (λ (text : List ℕ). text ++ texts (all_blocks es)) (text-kept entry.instant entry.lines)
     ∙ ap (λ (text : List ℕ). lines_text entry.lines ++ text) (text-blocks es)
 
-one_kept : (what : Line) (instant : ℤ) (line : Marked) (lines : List Marked)
+one_kept : (what : LineKind) (instant : ℤ) (line : Marked) (lines : List Marked)
     → if_kept line.kept (instant_after instant what) line.printed
     ++ (kept_lines (instant_after instant what) (up_to_value lines) ++ all_blocks (entries lines))
     ≡ kept_lines instant (if is_value what then [] else line ∷ up_to_value lines)
     ++ all_blocks (entry_and what line lines (entries lines))
-one_kept (Line.Value found) instant line lines =
+one_kept (LineKind.Value found) instant line lines =
     sym (append_assoc (if_kept line.kept found.instant line.printed)
     (kept_lines found.instant (up_to_value lines)) (all_blocks (entries lines)))
-one_kept Line.Late instant line lines =
+one_kept LineKind.Late instant line lines =
     sym (append_assoc (if_kept line.kept instant line.printed)
     (kept_lines instant (up_to_value lines)) (all_blocks (entries lines)))
-one_kept Line.Header instant line lines =
+one_kept LineKind.Header instant line lines =
     sym (append_assoc (if_kept line.kept instant line.printed)
     (kept_lines instant (up_to_value lines)) (all_blocks (entries lines)))
-one_kept (Line.Bad bad) instant line lines =
+one_kept (LineKind.Bad bad) instant line lines =
     sym (append_assoc (if_kept line.kept instant line.printed)
     (kept_lines instant (up_to_value lines)) (all_blocks (entries lines)))
-one_kept Line.Unfit instant line lines =
+one_kept LineKind.Unfit instant line lines =
     sym (append_assoc (if_kept line.kept instant line.printed)
     (kept_lines instant (up_to_value lines)) (all_blocks (entries lines)))
-one_kept Line.Undated instant line lines =
+one_kept LineKind.Undated instant line lines =
     sym (append_assoc (if_kept line.kept instant line.printed)
     (kept_lines instant (up_to_value lines)) (all_blocks (entries lines)))
 
@@ -109,19 +109,19 @@ some_kept : (kept : Bool) (instant : ℤ) (text : List ℕ) (others : List Keyed
 some_kept true instant text others is = tt
 some_kept false instant text others is = cc
 
-some_entry : (what : Line) (line : Marked) (lines : List Marked) → IsKept what line.kept
+some_entry : (what : LineKind) (line : Marked) (lines : List Marked) → IsKept what line.kept
     → AreSome of_entry of_line block (entries lines)
     → AreSome of_entry of_line block (entry_and what line lines (entries lines))
-some_entry (Line.Value found) line lines is some = (
+some_entry (LineKind.Value found) line lines is some = (
   some_kept line.kept found.instant line.printed
       (kept_lines found.instant (up_to_value lines)) is,
   some,
 )
-some_entry Line.Late line lines is some = some
-some_entry Line.Header line lines is some = some
-some_entry (Line.Bad bad) line lines is some = some
-some_entry Line.Unfit line lines is some = some
-some_entry Line.Undated line lines is some = some
+some_entry LineKind.Late line lines is some = some
+some_entry LineKind.Header line lines is some = some
+some_entry (LineKind.Bad bad) line lines is some = some
+some_entry LineKind.Unfit line lines is some = some
+some_entry LineKind.Undated line lines is some = some
 
 some_entries : (lines : List Marked) → AreKept lines
     → AreSome of_entry of_line block (entries lines)
@@ -139,13 +139,13 @@ entries_whole instant lines are =
     first (entries lines) (some_entries lines are))
     ∙ text-blocks (in_order is_earlier_entry (first ∷ entries lines))
 
-is_kept : (scan : Scan) (what : Line) → IsKept what (keeps scan what)
-is_kept scan (Line.Value found) = refl
-is_kept scan Line.Late = tt
-is_kept scan Line.Header = tt
-is_kept scan (Line.Bad bad) = tt
-is_kept scan Line.Unfit = tt
-is_kept scan Line.Undated = tt
+is_kept : (scan : Scan) (what : LineKind) → IsKept what (keeps scan what)
+is_kept scan (LineKind.Value found) = refl
+is_kept scan LineKind.Late = tt
+is_kept scan LineKind.Header = tt
+is_kept scan (LineKind.Bad bad) = tt
+is_kept scan LineKind.Unfit = tt
+is_kept scan LineKind.Undated = tt
 
 -- the lines of a file
 pub file-kept : (scan : Scan) (lines : List (List ℕ)) → AreKept (marked no_prefix scan lines)

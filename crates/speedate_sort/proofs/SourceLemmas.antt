@@ -16,13 +16,13 @@ use Rattle.speedate_stream.specs.Run.{AppendsBut}
 use Rattle.speedate_stream.proofs.SentLemmas.{Appends-all, AppendsBut-kept, AppendsBut-more}
 use Rattle.speedate_stream.proofs.SentLemmas.{AppendsBut-same, AppendsBut-trans}
 use Rattle.speedate_scan.specs.Scan.{keeps, line_of}
-use Rattle.speedate_sort.specs.Base.{Line, Offsets, Scan}
+use Rattle.speedate_sort.specs.Base.{LineKind, Offsets, Scan}
 use Rattle.speedate_sort.specs.Sort.{Keyed, Keys, file_lines, instant_after, key_after, key_of}
 use Rattle.speedate_sort.specs.Sort.{name_text}
 use Rattle.speedate_sort.specs.Merge.{AreAlike, AreAllInOrder, AreKnown, Best, Halt, Halted, IsLate}
-use Rattle.speedate_sort.specs.Merge.{IsLateIn, Merges, Moves, ReadsLine, Source}
-use Rattle.speedate_sort.specs.Merge.{StaysSettled, are_unlike, bare, best_of, bytes_of, due, ended}
-use Rattle.speedate_sort.specs.Merge.{number_after, number_of}
+use Rattle.speedate_sort.specs.Merge.{IsLateIn, IsUnread, IsUnreadIn, Merges, Moves, ReadsLine}
+use Rattle.speedate_sort.specs.Merge.{Source, StaysSettled, are_unlike, bare, best_of, bytes_of}
+use Rattle.speedate_sort.specs.Merge.{due, ended, number_after, number_of}
 use Rattle.speedate_sort.specs.Merge.{files_left, instant_of, instants, line_and, lines_left}
 use Rattle.speedate_sort.specs.Merge.{printed_first}
 use Rattle.speedate_sort.specs.Merge.{merged_text, unread, with_feed}
@@ -196,7 +196,7 @@ unread-kept before after keys [] reads some kept = absurd (omega (arith, some))
 unread-kept before after keys (byte ∷ bytes) reads some kept =
     let text : List ℕ = take (length (byte ∷ bytes) - 1) (byte ∷ bytes) in
     let others : List (List ℕ) = lines (bytes_of after) in
-    let what : Line = line_of keys.scan (head text) in
+    let what : LineKind = line_of keys.scan (head text) in
     let instant : ℤ = instant_after keys.instant what in
     ap (file_lines keys) reads.lines
     ∙ file_lines-cons keys text others
@@ -226,7 +226,7 @@ unread-left before after keys [] reads some left = absurd (omega (arith, some))
 unread-left before after keys (byte ∷ bytes) reads some left =
     let text : List ℕ = take (length (byte ∷ bytes) - 1) (byte ∷ bytes) in
     let others : List (List ℕ) = lines (bytes_of after) in
-    let what : Line = line_of keys.scan (head text) in
+    let what : LineKind = line_of keys.scan (head text) in
     let instant : ℤ = instant_after keys.instant what in
     let none = none_kept (keeps keys.scan what) instant
     (no_key (keeps keys.scan what) instant left) in
@@ -235,29 +235,29 @@ unread-left before after keys (byte ∷ bytes) reads some left =
     ∙ ap (λ (l : List Keyed). l ++ file_lines (key_after keys text) others)
     (no_named-line keys text none)
 
-left-instant : (scan : Scan) (instant : ℤ) (what : Line) → keeps scan what ≡ false
+left-instant : (scan : Scan) (instant : ℤ) (what : LineKind) → keeps scan what ≡ false
     → instant_after instant what ≡ instant
-left-instant scan instant (Line.Value found) left = cc
-left-instant scan instant Line.Late left = refl
-left-instant scan instant Line.Header left = refl
-left-instant scan instant (Line.Bad bad) left = refl
-left-instant scan instant Line.Unfit left = refl
-left-instant scan instant Line.Undated left = refl
+left-instant scan instant (LineKind.Value found) left = cc
+left-instant scan instant LineKind.Late left = refl
+left-instant scan instant LineKind.Header left = refl
+left-instant scan instant (LineKind.Bad bad) left = refl
+left-instant scan instant LineKind.Unfit left = refl
+left-instant scan instant LineKind.Undated left = refl
 
-left-number : (scan : Scan) (number : ℕ) (what : Line) → keeps scan what ≡ false
+left-number : (scan : Scan) (number : ℕ) (what : LineKind) → keeps scan what ≡ false
     → number_after scan number what ≡ number
-left-number scan number (Line.Value found) left = cc
-left-number scan number Line.Late left = refl
-left-number scan number Line.Header left = refl
-left-number scan number (Line.Bad bad) left = refl
-left-number scan number Line.Unfit left = refl
-left-number scan number Line.Undated left = refl
+left-number scan number (LineKind.Value found) left = cc
+left-number scan number LineKind.Late left = refl
+left-number scan number LineKind.Header left = refl
+left-number scan number (LineKind.Bad bad) left = refl
+left-number scan number LineKind.Unfit left = refl
+left-number scan number LineKind.Undated left = refl
 
 -- it changes neither the value of the entry nor the number of the last line that has one
 pub left-same : (keys : Keys) (number : ℕ) (text : List ℕ) → is_some (key_of keys text) ≡ false
     → ((key_after keys text).instant ≡ keys.instant) × (number_of keys number text ≡ number)
 left-same keys number text left =
-    let what : Line = line_of keys.scan (head text) in
+    let what : LineKind = line_of keys.scan (head text) in
     let gone = no_key (keeps keys.scan what) (instant_after keys.instant what) left in
     (left-instant keys.scan keys.instant what gone, left-number keys.scan number what gone)
 
@@ -409,14 +409,13 @@ sources-alike offsets sources index new is alike =
     alike
 
 -- the source that is named
-instant-at : {R : Type 0} (sources : List (Source R)) (index : ℕ) (new : Source R)
-    → index < length sources
-    → slice_get (map (λ source. source.keys.instant) (set sources index new)) index
-    ≡ Some new.keys.instant
-instant-at [] index new below = absurd (omega (arith, below))
-instant-at (source ∷ sources) zero new below = refl
-instant-at (source ∷ sources) (suc index) new below =
-    instant-at sources index new (omega (arith, below))
+what-at : {R A : Type 0} (what : Source R → A) (sources : List (Source R)) (index : ℕ)
+    (new : Source R) → index < length sources
+    → slice_get (map what (set sources index new)) index ≡ Some (what new)
+what-at what [] index new below = absurd (omega (arith, below))
+what-at what (source ∷ sources) zero new below = refl
+what-at what (source ∷ sources) (suc index) new below =
+    what-at what sources index new (omega (arith, below))
 
 pub late-in : {R : Type 0} (halt : Halt) (sources : List (Source R)) (index : ℕ) (old : Keys)
     (number : ℕ) (new : Source R) → index < length sources → IsLate halt old number new.keys
@@ -426,7 +425,14 @@ late-in Halt.Bad sources index old number new below late = tt
 late-in Halt.Unlike sources index old number new below late = tt
 late-in (Halt.Late before) sources index old number new below late =
     subst (λ (o : Option ℤ). IfSome o (λ instant. int_lt instant before.instant ≡ true))
-    (sym (instant-at sources index new below)) late.1
+    (sym (what-at (λ source. source.keys.instant) sources index new below)) late.1
+
+pub unread-in : {R : Type 0} (halt : Halt) (sources : List (Source R)) (index : ℕ)
+    (new : Source R) → index < length sources → IsUnread halt new.failed
+    → IsUnreadIn (record { index = index; halt = halt }) (set sources index new)
+unread-in halt sources index new below unread =
+    subst (λ (o : Option Bool). IfSome o (IsUnread halt))
+    (sym (what-at (λ source. source.failed) sources index new below)) unread
 
 -- The end of a merge.
 

@@ -6,8 +6,9 @@ use Rattle.speedate_stream.specs.Machine.{head}
 use Rattle.speedate_stream.specs.Run.{AppendsBut}
 use Rattle.speedate_stream.specs.Watch.{one_more}
 use Rattle.speedate_scan.specs.Scan.{is_value, line_of}
-use Rattle.speedate_sort.specs.Base.{Line, Offsets, Scan}
-use Rattle.speedate_sort.specs.Sort.{Keyed, Keys, file_lines, key_after, name_text, sorted_text}
+use Rattle.speedate_sort.specs.Base.{LineKind, Offsets, Scan}
+use Rattle.speedate_sort.specs.Sort.{Keyed, Keys, Unread, file_lines, key_after, name_text}
+use Rattle.speedate_sort.specs.Sort.{sorted_text}
 pub use Rattle.speedate_sort.specs.declared.merge.Before.{Before}
 pub use Rattle.speedate_sort.specs.declared.merge.Best.{Best}
 pub use Rattle.speedate_sort.specs.declared.merge.Halt.{Halt}
@@ -132,8 +133,16 @@ IsLate (Halt.Unread cause) old number new = Unit {0}
 IsLate Halt.Bad old number new = Unit {0}
 IsLate Halt.Unlike old number new = Unit {0}
 
+-- a read has failed, if that ended the lines
+abbrev pub IsUnread : Halt → Bool → Type 0
+IsUnread (Halt.Unread Unread.Read) failed = failed ≡ true
+IsUnread (Halt.Unread Unread.Memory) failed = Unit {0}
+IsUnread Halt.Bad failed = Unit {0}
+IsUnread (Halt.Late before) failed = Unit {0}
+IsUnread Halt.Unlike failed = Unit {0}
+
 -- the number of the last line that has a value, after a line
-abbrev pub number_after : Scan → ℕ → Line → ℕ
+abbrev pub number_after : Scan → ℕ → LineKind → ℕ
 number_after scan number line = if is_value line then one_more scan.number else number
 
 -- the same by the text of the line
@@ -231,3 +240,8 @@ IsLateAs Halt.Unlike instant = Unit {0}
 abbrev pub IsLateIn : {R : Type 0} → Halted → List (Source R) → Type 0
 IsLateIn halted sources = IsLateAs halted.halt
     (slice_get (map (λ source. source.keys.instant) sources) halted.index)
+
+-- of the source that is named a read has failed, if that ended the merge
+abbrev pub IsUnreadIn : {R : Type 0} → Halted → List (Source R) → Type 0
+IsUnreadIn halted sources =
+    IfSome (slice_get (map (λ source. source.failed) sources) halted.index) (IsUnread halted.halt)

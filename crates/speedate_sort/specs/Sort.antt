@@ -5,7 +5,7 @@ use Rattle.speedate_stream.specs.Machine.{head}
 use Rattle.speedate_scan.specs.Print.{shown_name, with_colon}
 use Rattle.speedate_scan.specs.Scan.{keeps, line_of, passed}
 use Rattle.speedate_scan.specs.Entries.{Entry, Marked, entries, lines_text, marked, up_to_value}
-use Rattle.speedate_sort.specs.Base.{Line, Prefix}
+use Rattle.speedate_sort.specs.Base.{LineKind, Prefix}
 pub use Rattle.speedate_sort.specs.declared.sort.Keys.{Keys}
 pub use Rattle.speedate_sort.specs.declared.sort.Place.{Place}
 pub use Rattle.speedate_sort.specs.declared.sort.Unread.{Unread}
@@ -50,13 +50,13 @@ pub record Keyed : Type 0 where
   pub text : List ℕ
 
 -- the value of the entry of a line
-abbrev pub instant_after : ℤ → Line → ℤ
-instant_after instant (Line.Value found) = found.instant
-instant_after instant Line.Late = instant
-instant_after instant Line.Header = instant
-instant_after instant (Line.Bad bad) = instant
-instant_after instant Line.Unfit = instant
-instant_after instant Line.Undated = instant
+abbrev pub instant_after : ℤ → LineKind → ℤ
+instant_after instant (LineKind.Value found) = found.instant
+instant_after instant LineKind.Late = instant
+instant_after instant LineKind.Header = instant
+instant_after instant (LineKind.Bad bad) = instant
+instant_after instant LineKind.Unfit = instant
+instant_after instant LineKind.Undated = instant
 
 -- a line, unless it is left out
 abbrev pub if_kept : Bool → ℤ → List ℕ → List Keyed
@@ -71,13 +71,13 @@ keyed instant (line ∷ lines) =
     if_kept line.kept next line.printed ++ keyed next lines
 
 -- a line that has a value is not left out
-abbrev pub IsKept : Line → Bool → Type 0
-IsKept (Line.Value found) kept = kept ≡ true
-IsKept Line.Late kept = Unit {0}
-IsKept Line.Header kept = Unit {0}
-IsKept (Line.Bad bad) kept = Unit {0}
-IsKept Line.Unfit kept = Unit {0}
-IsKept Line.Undated kept = Unit {0}
+abbrev pub IsKept : LineKind → Bool → Type 0
+IsKept (LineKind.Value found) kept = kept ≡ true
+IsKept LineKind.Late kept = Unit {0}
+IsKept LineKind.Header kept = Unit {0}
+IsKept (LineKind.Bad bad) kept = Unit {0}
+IsKept LineKind.Unfit kept = Unit {0}
+IsKept LineKind.Undated kept = Unit {0}
 
 -- the lines of files are such that none of those with a value is left out
 abbrev pub AreKept : List Marked → Type 0
@@ -111,7 +111,7 @@ key_after keys line =
     record keys { scan = passed keys.scan what; instant = instant_after keys.instant what }
 
 -- the value of the entry of a line by what it is, unless the line is left out
-abbrev pub kept_instant : Keys → Line → Option ℤ
+abbrev pub kept_instant : Keys → LineKind → Option ℤ
 kept_instant keys what =
     if keeps keys.scan what then Some (instant_after keys.instant what) else None
 

@@ -3,7 +3,7 @@
 ghost use Rattle.std.specs.Prelude.{◌≡◌, ◌<◌, ◌++◌, ◌||◌, Err, IfErr, IfOk, IfSome, IsNone, IsSome, None, Ok, OnErr, OnOk, false, is_err, is_some, length, true};
 ghost use Rattle.std.specs.Io.KnownBytes.{Appends};
 ghost use Rattle.speedate_sort.specs.Merge.{AreAlike, AreAllInOrder, AreKnown, Halt, IsLate};
-ghost use Rattle.speedate_sort.specs.Merge.{IsLateIn, IsNumbered, Merges, Moves, ReadsLine};
+ghost use Rattle.speedate_sort.specs.Merge.{IsLateIn, IsNumbered, IsUnread, IsUnreadIn, Merges, Moves, ReadsLine};
 ghost use Rattle.speedate_sort.specs.Merge.{StaysSettled, are_unlike, bare, best_of, better, due};
 ghost use Rattle.speedate_sort.specs.Merge.{ended, files_left, instant_of, instants, merged_text};
 ghost use Rattle.speedate_sort.specs.Merge.{number_of, printed_first};
@@ -76,6 +76,8 @@ pub struct Source<'a, R> {
     pub line: Vec<u8>,
     /// The number of the last line that has a value.
     pub number: u64,
+    /// Whether a read has failed.
+    pub failed: bool,
 }
 
 /// Ends a line by a line feed, if none ends it.
@@ -90,10 +92,12 @@ fn end_line(line: &mut Vec<u8>) -> Result<(), AllocError>
 }
 
 /// Reads the next line in place of another. A last line without line feed gets one; the line is empty if
-/// there is none.
-fn read_line<R: BufRead>(input: &mut R, line: &mut Vec<u8>) -> Result<(), Unread>
-    ensures { OnOk result (IsSome (R.remaining input.old) →
+/// there is none. It is noted if the read fails.
+fn read_line<R: BufRead>(input: &mut R, line: &mut Vec<u8>, failed: &mut bool) -> Result<(), Unread>
+    ensures line { OnOk result (IsSome (R.remaining input.old) →
         ReadsLine (R.remaining input.old) (R.remaining input.new) line.new.items) }
+    ensures intact { OnOk result (failed.new ≡ failed.old) }
+    ensures unread { IfErr result (λ unread. IsUnread (Halt.Unread unread) failed.new) }
 {
     line.clear();
     match input.read_until(b'\n', line) {
@@ -108,6 +112,7 @@ fn read_line<R: BufRead>(input: &mut R, line: &mut Vec<u8>) -> Result<(), Unread
             if error.kind() == ErrorKind::OutOfMemory {
                 return Err(Unread::Memory);
             }
+            *failed = true;
             Err(Unread::Read)
         }
     }
@@ -131,12 +136,14 @@ impl<'a, R> Source<'a, R> {
     pub fn new(keys: Keys<'a>, input: R, alloc: Global) -> Self
         ensures input { result.input ≡ input }
         ensures keys { result.keys ≡ keys.entry }
+        ensures intact { result.failed ≡ false }
     {
         Source {
             input,
             keys,
             line: Vec::new(alloc),
             number: 0,
+            failed: false,
         }
     }
 }
@@ -163,6 +170,9 @@ impl<R: BufRead> Source<'_, R> {
             are_unlike offsets.old self.new.keys.scan.offsets ≡ true }
         ensures alike { OnOk result (are_unlike offsets.old self.new.keys.scan.offsets ≡ false) }
         ensures settled { StaysSettled offsets.old offsets.new }
+        // A read has failed if and only if the answer says so.
+        ensures intact { OnOk result (self.new.failed ≡ self.old.failed) }
+        ensures unread { IfErr result (λ halt. IsUnread halt self.new.failed) }
     {
         let told = self.keys.scan.bad;
         let advanced = self.advance();
@@ -195,9 +205,11 @@ impl<R: BufRead> Source<'_, R> {
             is_stopped self.new.keys.scan.stop ≡ false) }
         ensures bad { result ≡ Err Halt.Bad → is_stopped self.new.keys.scan.stop ≡ true }
         ensures alike { result ≡ Err Halt.Unlike → ⊥ }
+        ensures intact { OnOk result (self.new.failed ≡ self.old.failed) }
+        ensures unread { IfErr result (λ halt. IsUnread halt self.new.failed) }
     {
         for _ in 0..u64::MAX {
-            if let Err(unread) = read_line(&mut self.input, &mut self.line) {
+            if let Err(unread) = read_line(&mut self.input, &mut self.line, &mut self.failed) {
                 return Err(Halt::Unread(unread));
             }
             if self.line.is_empty() {
@@ -219,7 +231,8 @@ impl<R: BufRead> Source<'_, R> {
                 return Ok(());
             }
         }
-        Err(Halt::Unread(Unread::Read))
+        // No further line can be counted.
+        Err(Halt::Unread(Unread::Memory))
     }
 }
 
@@ -314,6 +327,7 @@ fn step<R: BufRead, W: Write, P: Reporter>(
     ensures alike { IfOk result (λ halt. IsNone halt →
         are_unlike offsets.old source.new.keys.scan.offsets ≡ false) }
     ensures settled { StaysSettled offsets.old offsets.new }
+    ensures unread { IfOk result (λ halt. IfSome halt (λ halt. IsUnread halt source.new.failed)) }
 {
     pass_named(&source.keys, &source.line, pending, output)?;
     Ok(match source.next(offsets, reporter) {
@@ -341,6 +355,7 @@ fn merge_lines<R: BufRead, W: Write, P: Reporter>(
     ensures late { IfOk result (λ halted. IfSome halted (λ halted. IsLateIn halted sources.new)) }
     ensures alike { IfOk result (λ halted. IsNone halted → AreAlike offsets.old sources.old
         → AreAlike offsets.old sources.new) }
+    ensures unread { IfOk result (λ halted. IfSome halted (λ halted. IsUnreadIn halted sources.new)) }
 {
     for _ in 0..u64::MAX {
         let Some(best) = choose(sources) else {
@@ -353,9 +368,10 @@ fn merge_lines<R: BufRead, W: Write, P: Reporter>(
             }));
         }
     }
+    // No further line can be counted.
     Ok(Some(Halted {
         index: 0,
-        halt: Halt::Unread(Unread::Read),
+        halt: Halt::Unread(Unread::Memory),
     }))
 }
 
@@ -386,6 +402,8 @@ pub fn merge<R: BufRead, W: Write, P: Reporter>(
     ensures alike { result ≡ Ok None → AreAlike offsets sources.old → AreAlike offsets sources.new }
     // The last line of the source that is named is earlier than the line before it.
     ensures late { IfOk result (λ halted. IfSome halted (λ halted. IsLateIn halted sources.new)) }
+    // A read of the source that is named has failed.
+    ensures unread { IfOk result (λ halted. IfSome halted (λ halted. IsUnreadIn halted sources.new)) }
     ensures flushed { OnOk result (output.new.flushed ≡ true) }
     ensures failed { output.new.failed ≡ (output.old.failed || is_err result) }
 {

@@ -12,12 +12,12 @@ ghost use Rattle.speedate_sort.specs.Sort.{instant_after, is_earlier, kept_insta
 ghost use Rattle.speedate_sort.specs.Sort.{key_of, keyed, keys_after, line_at, lines_at, part};
 ghost use Rattle.speedate_sort.specs.Sort.{FailsRead, IsBegun, Reads, UnlessMemory};
 ghost use Rattle.speedate_sort.specs.Sort.{sorted_entries, sorted_text, texts};
-ghost use Rattle.speedate_scan.specs.Scan.{passed};
+ghost use Rattle.speedate_scan.specs.Scan.{line_of, passed};
 ghost use Rattle.speedate_stream.specs.Run.{AppendsBeginning, OnlyWrites, Writes};
 
 use speedate::line_end;
-use speedate_scan::reading::seen;
-use speedate_scan::scan::{Line, Scan};
+use speedate_scan::reading::{Found, seen};
+use speedate_scan::scan::{LineKind, Scan};
 use speedate_stream::run::{head, pass, send};
 use speedate_stream::{Failed, Pending, Watched};
 use std::alloc::{AllocError, Global};
@@ -67,13 +67,13 @@ pub enum Unsorted {
 
 /// Lines in memory, each with the value of its entry.
 #[derive(Drop)]
-pub struct Lines {
+pub struct KeyedLines {
     text: Vec<u8>,
     places: Vec<Place>,
     alloc: Global,
 }
 
-impl Model for Lines {
+impl Model for KeyedLines {
     ghost Value = { List Keyed };
 
     ghost view = { λ lines. lines_at lines.text.items lines.places.items };
@@ -83,11 +83,11 @@ impl Model for Lines {
 
 impl Keys<'_> {
     /// The value of the entry of a line.
-    fn instant_after(&self, line: &Line) -> i128
+    fn instant_after(&self, line: &LineKind) -> i128
         ensures instant { result ≡ instant_after self.now.instant line.now }
     {
         match line {
-            Line::Value(found) => found.instant,
+            LineKind::Value(found) => found.instant,
             _ => self.instant,
         }
     }
@@ -97,13 +97,44 @@ impl Keys<'_> {
         ensures key { result ≡ key_of self.old line.now }
         ensures after { self.new ≡ key_after self.old line.now }
     {
-        let line = self.scan.line(head(line));
+        let head = head(line);
+        match self.scan.value(head) {
+            Some((found, _)) => Some(self.pass_value(&found)),
+            None if self.scan.is_undated(head) => self.pass_line(LineKind::Undated),
+            None => self.pass_any(head),
+        }
+    }
+
+    /// Counts a line with this value, and returns the value.
+    #[inline(always)]
+    fn pass_value(&mut self, found: &Found) -> i128
+        ensures instant { result ≡ found.now.instant }
+        ensures after { self.new ≡ record self.old {
+          scan = passed self.old.scan (LineKind.Value found.now);
+          instant = found.now.instant;
+        } }
+    {
+        self.scan.pass_value(found);
+        self.instant = found.instant;
+        found.instant
+    }
+
+    /// Counts a line by its head, and returns the value of its entry, or `None` if the line is left out.
+    #[inline(never)]
+    fn pass_any(&mut self, head: &[u8]) -> Option<i128>
+        ensures key { result ≡ kept_instant self.old (line_of self.old.scan head.now) }
+        ensures after { self.new ≡ record self.old {
+          scan = passed self.old.scan (line_of self.old.scan head.now);
+          instant = instant_after self.old.instant (line_of self.old.scan head.now);
+        } }
+    {
+        let (line, _) = self.scan.any_line(head);
         self.pass_line(line)
     }
 
     /// Counts a line by what it is, and returns the value of its entry, or `None` if the line is left
     /// out.
-    pub fn pass_line(&mut self, line: Line) -> Option<i128>
+    pub fn pass_line(&mut self, line: LineKind) -> Option<i128>
         ensures key { result ≡ kept_instant self.old line }
         ensures after { self.new ≡ record self.old {
           scan = passed self.old.scan line;
@@ -316,12 +347,12 @@ fn read_all<R: Read>(input: &mut Watched<R>, text: &mut Vec<u8>) -> Result<(), U
     }
 }
 
-impl Lines {
+impl KeyedLines {
     /// No lines.
     pub fn new(alloc: Global) -> Self
         ensures empty { result ≡ [] }
     {
-        Lines {
+        KeyedLines {
             text: Vec::new(alloc),
             places: Vec::new(alloc),
             alloc,
@@ -368,7 +399,7 @@ impl Lines {
         let Ok(prefix) = name_prefix(keys.scan.name, self.alloc) else {
             return Err(Unread::Memory);
         };
-        let mut bare = Lines::new(self.alloc);
+        let mut bare = KeyedLines::new(self.alloc);
         let added = bare.add_bare(keys, input);
         if self.append(&bare, &prefix).is_err() {
             return Err(Unread::Memory);
@@ -377,7 +408,7 @@ impl Lines {
     }
 
     /// Adds other lines, each after a prefix.
-    fn append(&mut self, others: &Lines, prefix: &[u8]) -> Result<(), AllocError>
+    fn append(&mut self, others: &KeyedLines, prefix: &[u8]) -> Result<(), AllocError>
         ensures appended { OnOk result (self.new
             ≡ self.old ++ map (prefixed prefix.now) others.now) }
     {

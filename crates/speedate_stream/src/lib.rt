@@ -8,5 +8,5 @@ pub mod run;
 mod watched;
 
 pub use buffer::{PENDING_MAX, Pending, STEP_MAX, push_bytes};
-pub use machine::{HEAD_MAX, LINE_MAX, LineMachine, NoObserver, Observer};
+pub use machine::{HEAD_MAX, LineMachine, NoObserver, Observer, SEEN_MAX};
 pub use watched::{Failed, Watched};

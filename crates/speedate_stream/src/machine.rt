@@ -3,10 +3,10 @@
 use crate::buffer::{PENDING_MAX, Pending, STEP_MAX};
 
 /// How many bytes a line may have of which a machine sees all.
-pub const LINE_MAX: usize = 4096;
+pub const SEEN_MAX: usize = 4096;
 
 /// How many bytes a machine sees of a line: of a longer one enough to show that it is longer.
-pub const HEAD_MAX: usize = LINE_MAX + 1;
+pub const HEAD_MAX: usize = SEEN_MAX + 1;
 
 /// What a program prints for each line, one after the other.
 pub trait LineMachine {

@@ -13,7 +13,7 @@ ghost use Rattle.speedate_stream.specs.Run.{PrintsProgress, PrintsBeginning};
 ghost use Rattle.speedate_stream.specs.Watch.{one_more};
 
 use crate::buffer::{PENDING_MAX, Pending, STEP_MAX, push_bytes};
-use crate::machine::{HEAD_MAX, LINE_MAX, LineMachine, Observer};
+use crate::machine::{HEAD_MAX, LineMachine, Observer, SEEN_MAX};
 use crate::watched::{Failed, Watched};
 use speedate::line_end;
 use std::io::{Read, Write};
@@ -315,7 +315,7 @@ fn begin_line<M: LineMachine, W: Write>(
 fn is_passed<M: LineMachine>(machine: &M, line: &[u8]) -> bool
     ensures passed { result ≡ is_passed M.machine machine.now line.now }
 {
-    line.len() > LINE_MAX && machine.passes(head(line))
+    line.len() > SEEN_MAX && machine.passes(head(line))
 }
 
 /// What a machine sees of a line: all of it, or its first 4,097 bytes.

@@ -1,5 +1,4 @@
 mod FallingLemmas
-mod LengthsLemmas
 mod LogLemmas
 mod OrderLemmas
 mod ScheduleLemmas

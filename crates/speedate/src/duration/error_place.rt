@@ -2,7 +2,7 @@
 
 ghost use Rattle.std.specs.Prelude.{◌≡◌, ◌+◌, ◌≤◌, IfErr, IfSome, is_err, is_some, length};
 ghost use Rattle.speedate_base.specs.Config.{time_choices};
-ghost use Rattle.speedate_base.specs.Refused.{placed, refused_place, without_place};
+ghost use Rattle.speedate_base.specs.Refused.{placed, refused_place};
 ghost use Rattle.speedate_base.specs.Requirement.{first_place, result_map, shifted};
 ghost use Rattle.speedate.specs.Duration.{duration_answer, duration_answer_or, duration_numbers};
 ghost use Rattle.speedate.specs.Duration.{signed_form_or};
@@ -47,11 +47,8 @@ impl Duration {
     /// 4 for `b"P1D1Q"`.
     #[tactic(auto, using(std::proofs::lemmas::List::take_rest))]
     pub fn parse_or_place(bytes: &[u8], config: &TimeConfig) -> Result<Self, Refused>
-        ensures answer { without_place (result_map duration_numbers result)
-            ≡ duration_answer (time_choices config.now).order (time_choices config.now).behavior
-            bytes.now }
-        ensures place { refused_place result ≡ refused_place (duration_answer_or placed
-            (time_choices config.now).order (time_choices config.now).behavior bytes.now) }
+        ensures answer { result_map duration_numbers result ≡ duration_answer_or placed
+            (time_choices config.now).order (time_choices config.now).behavior bytes.now }
         ensures within { IfErr result (λ refused. refused.place ≤ length bytes.now) }
     {
         let order = config.iso_order;

@@ -1,17 +1,21 @@
 //! Parsers that write the part for which a text is refused as a date, as C sees them.
 
 ghost use Rattle.std.specs.Prelude.{◌≡◌};
+ghost use Rattle.speedate.specs.Requirement.{result_map, with_size};
+ghost use Rattle.speedate.specs.Config.{choices};
+ghost use Rattle.speedate.specs.Date.{date_or_timestamp_or, ymd};
+ghost use Rattle.speedate.specs.Refused.{placed};
 ghost use Rattle.speedate_c.specs.Code.{config_out_of_range};
 ghost use Rattle.speedate_c.specs.Config.{choices_of};
 ghost use Rattle.speedate_c.specs.Date.{date_reading, shown_date};
-ghost use Rattle.speedate_c.specs.Written.{no_part, with_option, without_size};
-ghost use Rattle.speedate_c.specs.Written.{written_answer, written_part};
+ghost use Rattle.speedate_c.specs.Written.{no_part, part_beside, with_option};
+ghost use Rattle.speedate_c.specs.Written.{written_front, written_part};
 
 use super::SpeedateDate;
-use crate::code::{CONFIG_OUT_OF_RANGE, FRONT, OR_TIMESTAMP, TEXT};
+use crate::code::{CONFIG_OUT_OF_RANGE, FRONT, OR_TIMESTAMP, SUCCESS, TEXT};
 use crate::config::SpeedateConfig;
-use crate::part::{NO_PART, SpeedatePart};
-use speedate::{CallKind, Date, DateConfig};
+use crate::part::{NO_PART, SpeedatePart, whole, write_part};
+use speedate::{CallKind, Date, DateConfig, DateTimeConfig, Refused};
 
 /// Parses a date in a form, under a configuration, and writes the part for which the text is refused:
 /// 5 to 7 for `2020-13-01`. The part of an accepted text is from 0 to the end of its value; there is none for
@@ -27,39 +31,103 @@ pub extern "C" fn speedate_date_parse_or_part(
     ensures answer { (result, out.new)
         ≡ with_option (choices_of config) (config_out_of_range, out.old)
         (λ config. with_option (date_reading form config text.now) (config_out_of_range, out.old)
-        (λ reading. written_answer shown_date out.old (without_size reading.answer))) }
+        (λ reading. written_front shown_date out.old reading.answer)) }
     ensures part { part.new ≡ with_option (choices_of config) no_part
         (λ config. with_option (date_reading form config text.now) no_part
-        (λ reading. written_part result reading text.now)) }
+        (λ reading. written_part text.now reading)) }
 {
-    let Some(config) = config.to_config() else {
-        *part = NO_PART;
-        return CONFIG_OUT_OF_RANGE;
-    };
-    match form {
-        TEXT => write_or_part!(
-            Date::parse_or_place_rfc3339(text),
-            CallKind::Date,
-            text => SpeedateDate, out, part
-        ),
-        OR_TIMESTAMP => {
-            let config = DateConfig {
-                timestamp_unit: config.timestamp_unit,
-            };
-            write_or_part!(
-                Date::parse_or_place(text, &config),
-                CallKind::DateOrTimestamp,
-                text => SpeedateDate, out, part
-            )
+    match config.to_config() {
+        Some(config) => parse_form(text, form, &config, out, part),
+        None => {
+            *part = NO_PART;
+            CONFIG_OUT_OF_RANGE
         }
-        FRONT => write_or_part!(
-            front Date::parse_or_place_front(text),
+    }
+}
+
+/// Parses a date in a form, if the type has it, and writes its part.
+#[inline(always)]
+#[tactic(auto, using(crate::proofs::PartLemmas::whole_seen))]
+fn parse_form(
+    text: &[u8],
+    form: i32,
+    config: &DateTimeConfig,
+    out: &mut SpeedateDate,
+    part: &mut SpeedatePart,
+) -> i32
+    ensures answer { (result, out.new)
+        ≡ with_option (date_reading form (choices config.now) text.now)
+        (config_out_of_range, out.old)
+        (λ reading. written_front shown_date out.old reading.answer) }
+    ensures part { part.new
+        ≡ with_option (date_reading form (choices config.now) text.now) no_part
+        (λ reading. written_part text.now reading) }
+{
+    match form {
+        TEXT => write_front(
+            whole(Date::parse_or_place_rfc3339(text), text),
             CallKind::Date,
-            text => SpeedateDate, out, part
+            text,
+            out,
+            part,
+        ),
+        OR_TIMESTAMP => write_front(
+            whole(date_or_timestamp(text, config), text),
+            CallKind::DateOrTimestamp,
+            text,
+            out,
+            part,
+        ),
+        FRONT => write_front(
+            Date::parse_or_place_front(text),
+            CallKind::Date,
+            text,
+            out,
+            part,
         ),
         _ => {
             *part = NO_PART;
             CONFIG_OUT_OF_RANGE
         }
+    }
+}
+
+/// Parses a date, or the date of a timestamp in its place, by the unit of a configuration of date-times.
+#[inline(always)]
+fn date_or_timestamp(text: &[u8], config: &DateTimeConfig) -> Result<Date, Refused>
+    ensures answer { result_map ymd result
+        ≡ date_or_timestamp_or placed (choices config.now).unit text.now }
+{
+    let config = DateConfig {
+        timestamp_unit: config.timestamp_unit,
+    };
+    Date::parse_or_place(text, &config)
+}
+
+/// Writes the date that a call of a kind read, with its size as the part's end, or the part for which the call
+/// refuses the text, and gives the code.
+#[inline(always)]
+fn write_front(
+    front: Result<(Date, usize), Refused>,
+    kind: CallKind,
+    text: &[u8],
+    out: &mut SpeedateDate,
+    part: &mut SpeedatePart,
+) -> i32
+    ensures answer { (result, out.new)
+        ≡ written_front shown_date out.old (result_map (with_size ymd) front) }
+    ensures part { part.new ≡ part_beside kind text.now (result_map (with_size ymd) front) }
+{
+    match front {
+        Ok((value, end)) => {
+            *out = SpeedateDate::from_value(&value);
+            *part = SpeedatePart {
+                start: 0,
+                end,
+                kind: 0,
+            };
+            SUCCESS
+        }
+        Err(refused) => write_part(refused, kind, text, part),
     }
 }

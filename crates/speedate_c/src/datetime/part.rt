@@ -1,17 +1,20 @@
 //! Parsers that write the part for which a text is refused as a date-time, as C sees them.
 
 ghost use Rattle.std.specs.Prelude.{◌≡◌};
+ghost use Rattle.speedate.specs.Config.{choices};
+ghost use Rattle.speedate.specs.Requirement.{result_map, with_size};
+ghost use Rattle.speedate.specs.DateTime.{date_and_time};
 ghost use Rattle.speedate_c.specs.Code.{config_out_of_range};
 ghost use Rattle.speedate_c.specs.Config.{choices_of};
 ghost use Rattle.speedate_c.specs.DateTime.{date_time_reading, shown_date_time};
-ghost use Rattle.speedate_c.specs.Written.{no_part, with_option, without_size};
-ghost use Rattle.speedate_c.specs.Written.{written_answer, written_part};
+ghost use Rattle.speedate_c.specs.Written.{no_part, part_beside, with_option};
+ghost use Rattle.speedate_c.specs.Written.{written_front, written_part};
 
 use super::SpeedateDateTime;
-use crate::code::{CONFIG_OUT_OF_RANGE, FRONT, OR_TIMESTAMP, STRICT, TEXT};
+use crate::code::{CONFIG_OUT_OF_RANGE, FRONT, OR_TIMESTAMP, STRICT, SUCCESS, TEXT};
 use crate::config::SpeedateConfig;
-use crate::part::{NO_PART, SpeedatePart};
-use speedate::{CallKind, DateTime};
+use crate::part::{NO_PART, SpeedatePart, whole, write_part};
+use speedate::{CallKind, DateTime, DateTimeConfig, Refused};
 
 /// Parses a date-time in a form, under a configuration, and writes the part for which the text is refused:
 /// 17 to 19 for `2020-02-29T12:13:60`. The part of an accepted text is from 0 to the end of its value; there is none for
@@ -27,42 +30,104 @@ pub extern "C" fn speedate_datetime_parse_or_part(
     ensures answer { (result, out.new)
         ≡ with_option (choices_of config) (config_out_of_range, out.old)
         (λ config. with_option (date_time_reading form config text.now) (config_out_of_range, out.old)
-        (λ reading. written_answer shown_date_time out.old (without_size reading.answer))) }
+        (λ reading. written_front shown_date_time out.old reading.answer)) }
     ensures part { part.new ≡ with_option (choices_of config) no_part
         (λ config. with_option (date_time_reading form config text.now) no_part
-        (λ reading. written_part result reading text.now)) }
+        (λ reading. written_part text.now reading)) }
 {
-    let Some(config) = config.to_config() else {
-        *part = NO_PART;
-        return CONFIG_OUT_OF_RANGE;
-    };
+    match config.to_config() {
+        Some(config) => parse_form(text, form, &config, out, part),
+        None => {
+            *part = NO_PART;
+            CONFIG_OUT_OF_RANGE
+        }
+    }
+}
+
+/// Parses a date-time in a form, if the type has it, and writes its part.
+#[inline(always)]
+#[tactic(auto, using(crate::proofs::PartLemmas::whole_seen))]
+fn parse_form(
+    text: &[u8],
+    form: i32,
+    config: &DateTimeConfig,
+    out: &mut SpeedateDateTime,
+    part: &mut SpeedatePart,
+) -> i32
+    ensures answer { (result, out.new)
+        ≡ with_option (date_time_reading form (choices config.now) text.now)
+        (config_out_of_range, out.old)
+        (λ reading. written_front shown_date_time out.old reading.answer) }
+    ensures part { part.new
+        ≡ with_option (date_time_reading form (choices config.now) text.now) no_part
+        (λ reading. written_part text.now reading) }
+{
     match form {
-        TEXT => write_or_part!(
-            DateTime::parse_or_place_rfc3339(text, &config.time_config),
+        TEXT => write_front(
+            whole(
+                DateTime::parse_or_place_rfc3339(text, &config.time_config),
+                text,
+            ),
             CallKind::DateTime,
-            text => SpeedateDateTime, out, part
+            text,
+            out,
+            part,
         ),
-        OR_TIMESTAMP => write_or_part!(
-            DateTime::parse_or_place(text, &config),
+        OR_TIMESTAMP => write_front(
+            whole(DateTime::parse_or_place(text, config), text),
             CallKind::DateTimeOrTimestamp,
-            text => SpeedateDateTime, out, part
+            text,
+            out,
+            part,
         ),
         STRICT => {
             let behavior = config.time_config.microseconds_precision_overflow_behavior;
-            write_or_part!(
-                DateTime::parse_or_place_strict(text, behavior),
+            write_front(
+                whole(DateTime::parse_or_place_strict(text, behavior), text),
                 CallKind::DateTimeStrict,
-                text => SpeedateDateTime, out, part
+                text,
+                out,
+                part,
             )
         }
-        FRONT => write_or_part!(
-            front DateTime::parse_or_place_front(text, &config.time_config),
+        FRONT => write_front(
+            DateTime::parse_or_place_front(text, &config.time_config),
             CallKind::DateTime,
-            text => SpeedateDateTime, out, part
+            text,
+            out,
+            part,
         ),
         _ => {
             *part = NO_PART;
             CONFIG_OUT_OF_RANGE
         }
+    }
+}
+
+/// Writes the date-time that a call of a kind read, with its size as the part's end, or the part for which the call
+/// refuses the text, and gives the code.
+#[inline(always)]
+fn write_front(
+    front: Result<(DateTime, usize), Refused>,
+    kind: CallKind,
+    text: &[u8],
+    out: &mut SpeedateDateTime,
+    part: &mut SpeedatePart,
+) -> i32
+    ensures answer { (result, out.new)
+        ≡ written_front shown_date_time out.old (result_map (with_size date_and_time) front) }
+    ensures part { part.new ≡ part_beside kind text.now (result_map (with_size date_and_time) front) }
+{
+    match front {
+        Ok((value, end)) => {
+            *out = SpeedateDateTime::from_value(&value);
+            *part = SpeedatePart {
+                start: 0,
+                end,
+                kind: 0,
+            };
+            SUCCESS
+        }
+        Err(refused) => write_part(refused, kind, text, part),
     }
 }

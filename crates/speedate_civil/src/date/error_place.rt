@@ -2,7 +2,7 @@
 
 ghost use Rattle.std.specs.Prelude.{◌≡◌, ◌≤◌, IfErr, IfOk, IfSome, is_err, is_some, length};
 ghost use Rattle.speedate_base.specs.Requirement.{result_map, with_size};
-ghost use Rattle.speedate_base.specs.Refused.{placed, without_place, refused_place};
+ghost use Rattle.speedate_base.specs.Refused.{placed, refused_place};
 ghost use Rattle.speedate_civil.specs.Date.{date_answer, date_answer_or, date_front, date_front_or};
 ghost use Rattle.speedate_civil.specs.Date.{date_or_timestamp, date_or_timestamp_or, ymd};
 
@@ -58,10 +58,8 @@ impl Date {
     /// Those of [`Date::parse_bytes_with_config`], each with its place: `OutOfRangeMonth` and 5 for
     /// `b"2020-13-01"`.
     pub fn parse_or_place(bytes: &[u8], config: &DateConfig) -> Result<Self, Refused>
-        ensures answer { without_place (result_map ymd result)
-            ≡ date_or_timestamp config.now.timestamp_unit bytes.now }
-        ensures place { refused_place result ≡ refused_place
-            (date_or_timestamp_or placed config.now.timestamp_unit bytes.now) }
+        ensures answer { result_map ymd result
+            ≡ date_or_timestamp_or placed config.now.timestamp_unit bytes.now }
         ensures within { IfErr result (λ refused. refused.place ≤ length bytes.now) }
     {
         Self::whole_or_timestamp(bytes, config)
@@ -75,8 +73,7 @@ impl Date {
     /// Those of [`Date::parse_bytes_rfc3339`], each with its place: `ExtraCharacters` and 10 for
     /// `b"2020-01-01T12:13"`.
     pub fn parse_or_place_rfc3339(bytes: &[u8]) -> Result<Self, Refused>
-        ensures answer { without_place (result_map ymd result) ≡ date_answer bytes.now }
-        ensures place { refused_place result ≡ refused_place (date_answer_or placed bytes.now) }
+        ensures answer { result_map ymd result ≡ date_answer_or placed bytes.now }
         ensures within { IfErr result (λ refused. refused.place ≤ length bytes.now) }
     {
         Self::whole(bytes)
@@ -89,8 +86,7 @@ impl Date {
     ///
     /// Those of [`Date::parse_front`], each with its place: `TooShort` and 9 for `b"2026-11-2"`.
     pub fn parse_or_place_front(bytes: &[u8]) -> Result<(Self, usize), Refused>
-        ensures answer { without_place (result_map (with_size ymd) result) ≡ date_front bytes.now }
-        ensures place { refused_place result ≡ refused_place (date_front_or placed bytes.now) }
+        ensures answer { result_map (with_size ymd) result ≡ date_front_or placed bytes.now }
         ensures within { IfErr result (λ refused. refused.place ≤ length bytes.now) }
         ensures size { IfOk result (λ front. front.1 ≤ length bytes.now) }
     {

@@ -4,7 +4,7 @@ ghost use Rattle.std.specs.Prelude.{◌≡◌, ◌≤◌, IfErr, IfOk, IfSome, i
 ghost use Rattle.speedate_base.specs.Config.{choices, time_choices};
 ghost use Rattle.speedate_base.specs.Requirement.{result_map, with_size};
 ghost use Rattle.speedate_base.specs.Offset.{IsWholeMinutes};
-ghost use Rattle.speedate_base.specs.Refused.{placed, refused_place, without_place};
+ghost use Rattle.speedate_base.specs.Refused.{placed, refused_place};
 ghost use Rattle.speedate_civil.specs.DateTime.{date_and_time, date_time_answer};
 ghost use Rattle.speedate_civil.specs.DateTime.{date_time_answer_or, date_time_by_config};
 ghost use Rattle.speedate_civil.specs.DateTime.{date_time_by_config_or, date_time_front};
@@ -93,10 +93,8 @@ impl DateTime {
     /// Those of [`DateTime::parse_bytes_with_config`], each with its place: `OutOfRangeSecond` and 17 for
     /// `b"2020-02-29T12:13:60"`.
     pub fn parse_or_place(bytes: &[u8], config: &DateTimeConfig) -> Result<Self, Refused>
-        ensures answer { without_place (result_map date_and_time result)
-            ≡ date_time_by_config config.now bytes.now }
-        ensures place { refused_place result
-            ≡ refused_place (date_time_by_config_or placed config.now bytes.now) }
+        ensures answer { result_map date_and_time result
+            ≡ date_time_by_config_or placed config.now bytes.now }
         ensures within { IfErr result (λ refused. refused.place ≤ length bytes.now) }
         ensures minutes { IsWholeMinutes (choices config.now).offset
             → IfOk result (λ value. IsWholeMinutes value.time.tz_offset) }
@@ -113,11 +111,8 @@ impl DateTime {
     /// Those of [`DateTime::parse_bytes_rfc3339_with_config`], each with its place:
     /// `InvalidCharDateTimeSep` and 10 for `b"2020-02-29"`.
     pub fn parse_or_place_rfc3339(bytes: &[u8], config: &TimeConfig) -> Result<Self, Refused>
-        ensures answer { without_place (result_map date_and_time result)
-            ≡ date_time_answer (time_choices config.now).behavior bytes.now }
-        ensures place { refused_place result
-            ≡ refused_place
-            (date_time_answer_or placed (time_choices config.now).behavior bytes.now) }
+        ensures answer { result_map date_and_time result
+            ≡ date_time_answer_or placed (time_choices config.now).behavior bytes.now }
         ensures within { IfErr result (λ refused. refused.place ≤ length bytes.now) }
         ensures minutes { IfOk result (λ value. IsWholeMinutes value.time.tz_offset) }
     {
@@ -136,10 +131,8 @@ impl DateTime {
         bytes: &[u8],
         behavior: MicrosecondsPrecisionOverflowBehavior,
     ) -> Result<Self, Refused>
-        ensures answer { without_place (result_map date_and_time result)
-            ≡ strict_date_time_answer behavior bytes.now }
-        ensures place { refused_place result
-            ≡ refused_place (strict_date_time_answer_or placed behavior bytes.now) }
+        ensures answer { result_map date_and_time result
+            ≡ strict_date_time_answer_or placed behavior bytes.now }
         ensures within { IfErr result (λ refused. refused.place ≤ length bytes.now) }
         ensures minutes { IfOk result (λ value. IsWholeMinutes value.time.tz_offset) }
     {
@@ -155,11 +148,8 @@ impl DateTime {
     /// Those of [`DateTime::parse_front`], each with its place: `InvalidCharTzHour` and 20 for
     /// `b"2026-11-22T12:00:00-ERROR"`.
     pub fn parse_or_place_front(bytes: &[u8], config: &TimeConfig) -> Result<(Self, usize), Refused>
-        ensures answer { without_place (result_map (with_size date_and_time) result)
-            ≡ date_time_front (time_choices config.now).behavior bytes.now }
-        ensures place { refused_place result
-            ≡ refused_place
-            (date_time_front_or placed (time_choices config.now).behavior bytes.now) }
+        ensures answer { result_map (with_size date_and_time) result
+            ≡ date_time_front_or placed (time_choices config.now).behavior bytes.now }
         ensures within { IfErr result (λ refused. refused.place ≤ length bytes.now) }
         ensures size { IfOk result (λ front. front.1 ≤ length bytes.now) }
         ensures minutes { IfOk result (λ front. IsWholeMinutes front.0.time.tz_offset) }

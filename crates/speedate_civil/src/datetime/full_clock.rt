@@ -1,20 +1,23 @@
 //! Date-times, and their instants, at the front of texts that have a clock with its second, as most have.
 
-ghost use Rattle.std.specs.Prelude.{◌≡◌, ◌==◌, ◌≤◌, IfSome, IsTrue, None, Ok, Some, length, if◌then◌else◌};
+ghost use Rattle.std.specs.Prelude.{◌≡◌, ◌==◌, ◌<◌, ◌≤◌, IfSome, IsTrue, None, Ok, Some, length, slice_index, take, true, if◌then◌else◌};
 ghost use Rattle.speedate_civil.specs.Base.{Behavior};
-ghost use Rattle.speedate_civil.specs.DateTime.{IsUtcFront, date_and_time, date_time_front};
+ghost use Rattle.speedate_civil.specs.DateTime.{IsUtcFront, date_and_time, date_time_front, is_separator};
 ghost use Rattle.speedate_civil.specs.ParserParts.{HasFullClock};
 
 use super::DateTime;
 use super::parse::{TIME_PLACE, has_separator};
 use crate::date::Date;
-use crate::time::{PureTime, offset_or_utc};
+use crate::time::{PureTime, offset_or_utc, unsigned_offset};
 use speedate_base::numbers::are_between;
 use std::simd::prelude::*;
 
 /// How many bytes are loaded at most: a date, a separator, a clock with six digits after its
 /// second, a sign, and eight more.
 const FULL_LENGTH: usize = 35;
+
+/// How many bytes a date, a separator and a clock with its second have.
+const BARE_LENGTH: usize = 19;
 
 /// The microseconds from 1970-01-01T00:00:00 in UTC to the date-time at the front of a text, and how many
 /// bytes it takes, if the text has 35 bytes or more and the date-time the form that most have: seconds,
@@ -27,7 +30,7 @@ const FULL_LENGTH: usize = 35;
 pub fn utc_front(bytes: &[u8], assumes_utc: bool) -> Option<(i64, usize)>
     ensures front { IfSome result (IsUtcFront assumes_utc bytes.now) }
 {
-    if !has_full_clock(bytes) || !has_separator(bytes) {
+    if bytes.len() < FULL_LENGTH || !has_full_clock(bytes) || !has_separator(bytes) {
         return None;
     }
     let date = Date::of_digits(bytes)?;
@@ -39,13 +42,88 @@ pub fn utc_front(bytes: &[u8], assumes_utc: bool) -> Option<(i64, usize)>
     Some((number, TIME_PLACE + (clock.size + size)))
 }
 
-/// The date-time at the front of a text, and how many bytes it takes, under the conditions of [`utc_front`];
-/// its offset may be missing, and is then `None`. It is 1970-01-01T00:00:01Z, and 20, from
+/// The date-time at the front of a text of any length, and how many bytes it takes, if it has the form that
+/// [`utc_front`] reads; its offset may be missing, and is then `None`. It is 1970-01-01T00:00:01Z, and 20, from
 /// `b"1970-01-01T00:00:01Z\n1970-01-01T00:00Z"`.
 ///
 /// `None` says nothing of the text: it may begin with a date-time all the same.
 #[inline(always)]
 pub fn full_front(bytes: &[u8]) -> Option<(DateTime, usize)>
+    ensures front { (behavior : Behavior) → IfSome result (λ front.
+        date_time_front behavior bytes.now ≡ Ok (date_and_time front.0, front.1)) }
+    ensures within { IfSome result (λ front. front.1 ≤ length bytes.now) }
+{
+    if bytes.len() < FULL_LENGTH {
+        return short_front(bytes);
+    }
+    long_front(bytes)
+}
+
+/// The same, of a text that is shorter than what is loaded.
+#[inline(always)]
+fn short_front(bytes: &[u8]) -> Option<(DateTime, usize)>
+    requires short { length bytes.now < 35 }
+    ensures front { (behavior : Behavior) → IfSome result (λ front.
+        date_time_front behavior bytes.now ≡ Ok (date_and_time front.0, front.1)) }
+    ensures within { IfSome result (λ front. front.1 ≤ length bytes.now) }
+{
+    if !has_full_clock(bytes) || !has_separator(bytes) {
+        return None;
+    }
+    match bare_front(bytes) {
+        Some((value, size)) => Some((value, size)),
+        None => copied_front(bytes),
+    }
+}
+
+/// The same, of a text that begins so, if neither a fraction nor a sign follows the second.
+#[inline(always)]
+fn bare_front(bytes: &[u8]) -> Option<(DateTime, usize)>
+    requires looks { HasFullClock bytes.now }
+    requires parted { is_separator (slice_index bytes.now 10) ≡ true }
+    ensures front { (behavior : Behavior) → IfSome result (λ front.
+        date_time_front behavior bytes.now ≡ Ok (date_and_time front.0, front.1)) }
+    ensures within { IfSome result (λ front. front.1 ≤ length bytes.now) }
+{
+    let date = Date::of_digits(bytes)?;
+    let rest = &bytes[TIME_PLACE..];
+    let clock = PureTime::without_fraction(rest)?;
+    let (offset, size) = unsigned_offset(rest, clock.size)?;
+    let offset = some_offset(offset, size);
+    let time = clock.at_offset(offset);
+    Some((DateTime { date, time }, TIME_PLACE + (clock.size + size)))
+}
+
+/// The same, of a text that is copied before line feeds, which end every date-time.
+#[inline(never)]
+fn copied_front(bytes: &[u8]) -> Option<(DateTime, usize)>
+    requires short { length bytes.now < 35 }
+    ensures front { (behavior : Behavior) → IfSome result (λ front.
+        date_time_front behavior bytes.now ≡ Ok (date_and_time front.0, front.1)) }
+    ensures within { IfSome result (λ front. front.1 ≤ length bytes.now) }
+{
+    match long_front(&before_line_feeds(bytes)) {
+        Some((value, size)) if size <= bytes.len() => Some((value, size)),
+        _ => None,
+    }
+}
+
+/// A text and as many line feeds as make it as long as what is loaded.
+#[inline(always)]
+fn before_line_feeds(bytes: &[u8]) -> [u8; FULL_LENGTH]
+    requires short { length bytes.now < 35 }
+    ensures front { take (length bytes.now) result ≡ bytes.now }
+    ensures size { length result ≡ 35 }
+{
+    let mut longer = [b'\n'; FULL_LENGTH];
+    longer[..bytes.len()].copy_from_slice(bytes);
+    longer
+}
+
+/// The same, of a text of 35 bytes or more.
+#[inline(always)]
+fn long_front(bytes: &[u8]) -> Option<(DateTime, usize)>
+    requires long { 35 ≤ length bytes.now }
     ensures front { (behavior : Behavior) → IfSome result (λ front.
         date_time_front behavior bytes.now ≡ Ok (date_and_time front.0, front.1)) }
     ensures within { IfSome result (λ front. front.1 ≤ length bytes.now) }
@@ -72,12 +150,12 @@ fn some_offset(offset: i32, size: usize) -> Option<i32>
 
 /// Whether a text begins as a date looks and, after a byte from a space to `t`, as a clock with its second
 /// does, whose minute and second are below 60: true for `b"2020-02-29T12:13:14Z"` and for
-/// `b"2020-19-39 29:59:59"`, with 15 and 16 bytes more.
+/// `b"2020-19-39 29:59:59"`.
 #[inline(always)]
 fn has_full_clock(bytes: &[u8]) -> bool
     ensures looks { IsTrue result → HasFullClock bytes.now }
 {
-    if bytes.len() < FULL_LENGTH {
+    if bytes.len() < BARE_LENGTH {
         return false;
     }
     let front = are_between(

@@ -3,7 +3,7 @@
 ghost use Rattle.std.specs.Prelude.{◌≡◌, ◌≤◌, IfErr, IfOk, IfSome, is_err, is_some, length};
 ghost use Rattle.speedate_base.specs.Config.{time_choices};
 ghost use Rattle.speedate_base.specs.Offset.{IsWholeMinutes};
-ghost use Rattle.speedate_base.specs.Refused.{placed, refused_place, without_place};
+ghost use Rattle.speedate_base.specs.Refused.{placed, refused_place};
 ghost use Rattle.speedate_base.specs.Requirement.{result_map, with_size};
 ghost use Rattle.speedate_civil.specs.Strict.{strict_time_answer, strict_time_answer_or};
 ghost use Rattle.speedate_civil.specs.Time.{time_answer, time_answer_or, time_front, time_front_or};
@@ -69,10 +69,8 @@ impl Time {
     /// Those of [`Time::parse_bytes_with_config`], each with its place: `OutOfRangeSecond` and 6 for
     /// `b"12:13:60"`.
     pub fn parse_or_place(bytes: &[u8], config: &TimeConfig) -> Result<Self, Refused>
-        ensures answer { without_place (result_map time_of_day result)
-            ≡ time_answer (time_choices config.now).behavior bytes.now }
-        ensures place { refused_place result
-            ≡ refused_place (time_answer_or placed (time_choices config.now).behavior bytes.now) }
+        ensures answer { result_map time_of_day result
+            ≡ time_answer_or placed (time_choices config.now).behavior bytes.now }
         ensures within { IfErr result (λ refused. refused.place ≤ length bytes.now) }
         ensures minutes { IfOk result (λ value. IsWholeMinutes value.tz_offset) }
     {
@@ -90,10 +88,8 @@ impl Time {
         bytes: &[u8],
         behavior: MicrosecondsPrecisionOverflowBehavior,
     ) -> Result<Self, Refused>
-        ensures answer { without_place (result_map time_of_day result)
-            ≡ strict_time_answer behavior bytes.now }
-        ensures place { refused_place result
-            ≡ refused_place (strict_time_answer_or placed behavior bytes.now) }
+        ensures answer { result_map time_of_day result
+            ≡ strict_time_answer_or placed behavior bytes.now }
         ensures within { IfErr result (λ refused. refused.place ≤ length bytes.now) }
         ensures minutes { IfOk result (λ value. IsWholeMinutes value.tz_offset) }
     {
@@ -108,10 +104,8 @@ impl Time {
     /// Those of [`Time::parse_front`], each with its place: `InvalidCharTzHour` and 9 for
     /// `b"12:00:00-ERROR"`.
     pub fn parse_or_place_front(bytes: &[u8], config: &TimeConfig) -> Result<(Self, usize), Refused>
-        ensures answer { without_place (result_map (with_size time_of_day) result)
-            ≡ time_front (time_choices config.now).behavior bytes.now }
-        ensures place { refused_place result
-            ≡ refused_place (time_front_or placed (time_choices config.now).behavior bytes.now) }
+        ensures answer { result_map (with_size time_of_day) result
+            ≡ time_front_or placed (time_choices config.now).behavior bytes.now }
         ensures within { IfErr result (λ refused. refused.place ≤ length bytes.now) }
         ensures size { IfOk result (λ front. front.1 ≤ length bytes.now) }
         ensures minutes { IfOk result (λ front. IsWholeMinutes front.0.tz_offset) }

@@ -1,6 +1,6 @@
 //! Offsets from UTC, after a time.
 
-ghost use Rattle.std.specs.Prelude.{◌≡◌, ◌≤◌, ◌+◌, ◌<◌, ◌∷◌, ◌*◌, ◌++◌, ◌==◌, ◌||◌, ℕ, IfErr, IfOk, IfSome, Ok, Some, IsTrue, length, drop, codes, if◌then◌else◌, unsigned_abs};
+ghost use Rattle.std.specs.Prelude.{true, ◌≡◌, ◌≤◌, ◌+◌, ◌<◌, ◌∷◌, ◌*◌, ◌++◌, ◌==◌, ◌||◌, ℕ, IfErr, IfOk, IfSome, Ok, Some, IsTrue, length, drop, codes, if◌then◌else◌, unsigned_abs};
 ghost use Rattle.std.specs.Int.{is_negative};
 ghost use Rattle.std.specs.Option.{ForSome};
 ghost use Rattle.arrayvec.specs.ArrayString.{array_string_len};
@@ -82,6 +82,23 @@ pub(crate) fn offset_or_utc(bytes: &[u8], place: usize, assumes_utc: bool) -> Op
     } else {
         None
     }
+}
+
+/// The same, of a text that may end after `place`, if no sign begins there: UTC in no byte if no offset does.
+#[inline(always)]
+pub(crate) fn unsigned_offset(bytes: &[u8], place: usize) -> Option<(i32, usize)>
+    requires place { place ≤ length bytes.now }
+    ensures offset { IfSome result (IsOffsetOrUtc true (drop place bytes.now)) }
+    ensures within { IfSome result (λ front. place + front.1 ≤ length bytes.now) }
+{
+    let first = byte_at(bytes, place);
+    if is_utc(first) {
+        return Some((0, 1));
+    }
+    if is_sign(first) || first == 0xe2 {
+        return None;
+    }
+    Some((0, 0))
 }
 
 /// What [`is_plus_or_minus`] tells, by two tests: where no other byte is looked for before, the compiler

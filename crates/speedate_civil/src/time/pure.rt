@@ -82,13 +82,12 @@ impl PureTime {
         Self::front_at(&bytes[place..], 0, behavior)
     }
 
-    /// Parses the clock at the front of a text, which begins at `start` of the whole, whatever follows it.
+    /// Parses the clock at the front of a text, which begins at `start` of the whole, whatever follows it: 12:13:14,
+    /// in eight bytes, from `b"12:13:14Z"`.
+    ///
+    /// The errors are as in [`PureTime::parse`], each with its place in the whole.
     #[inline(always)]
-    pub(super) fn front_at<E: Refusal>(
-        text: &[u8],
-        start: usize,
-        behavior: Behavior,
-    ) -> Result<Self, E>
+    pub fn front_at<E: Refusal>(text: &[u8], start: usize, behavior: Behavior) -> Result<Self, E>
         requires { start + length text.now + 16 ≤ usize.MAX }
         ensures answer { result_map clock_parts result
             ≡ clock_front_or (shifted start E.refusal) behavior text.now }
@@ -182,6 +181,31 @@ impl PureTime {
             second,
             microsecond: fraction.microsecond,
             size: 9 + fraction.length,
+        })
+    }
+
+    /// The same, if no fraction follows its second.
+    #[inline(always)]
+    pub(crate) fn without_fraction(text: &[u8]) -> Option<Self>
+        requires long { 8 ≤ length text.now }
+        requires looks { fit_length (codes "00:00:00") (eight_at text.now 0) ≡ 8 }
+        requires minute { two_digit_value text.now 3 ≤ 59 }
+        requires second { two_digit_value text.now 6 ≤ 59 }
+        ensures clock { IfSome result (λ clock. (behavior : Behavior)
+            → clock_front behavior text.now ≡ Ok (clock_parts clock)) }
+        ensures size { IfSome result (λ clock. clock.size ≡ 8) }
+    {
+        let form = u8x8::from_array(*b"00:00:00");
+        let [hour, _, _, minute, _, _, second, _] = digit_pairs(first_eight(text), form, LANES);
+        if hour >= 24 || is_decimal_mark(byte_at(text, 8)) {
+            return None;
+        }
+        Some(PureTime {
+            hour,
+            minute,
+            second,
+            microsecond: 0,
+            size: 8,
         })
     }
 

@@ -2,9 +2,9 @@
 
 use super::ends::Sink;
 use super::words_of;
+use crate::commands::{first_between, first_check};
 use crate::files::{Files, run_each};
-use speedate_options::commands::{first_between, first_check};
-use speedate_options::program::program;
+use crate::program::program;
 use speedate_stream::Watched;
 use std::alloc::AllocError;
 use std::io::{self, Cursor, ErrorKind, Read, Seek, SeekFrom};

@@ -3,8 +3,8 @@
 use super::ends::{Sink, Source};
 use super::sorted::Breaking;
 use super::words_of;
-use speedate_options::commands::first_merge;
-use speedate_options::program::program;
+use crate::commands::first_merge;
+use crate::program::program;
 use speedate_scan::scan::{Offsets, Scan};
 use speedate_sort::merge::{Before, Halt, Halted, Reporter, Source as FileSource, merge};
 use speedate_sort::sort::{Keys, Unread};

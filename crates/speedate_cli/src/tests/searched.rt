@@ -2,12 +2,12 @@
 
 use super::ends::Sink;
 use super::{whole, words_of};
+use crate::commands::first_between;
+use crate::program::program;
 use crate::seeking::Seeking;
 use speedate_commands::command::Command;
 use speedate_commands::in_order::between_in_order;
 use speedate_commands::search::ReadAt;
-use speedate_options::commands::first_between;
-use speedate_options::program::program;
 use speedate_scan::scan::Report;
 use speedate_stream::Watched;
 use speedate_stream::run::RunError;
@@ -73,7 +73,9 @@ fn search_text<R: AllocGlobal + Abort, S: ReadAt>(
     let mut command = first_between(given).ok().expect(rt, words);
     command.begin(b"app.log");
     let mut output = Watched::new(Sink::new(rt.alloc(), usize::MAX));
-    let result = between_in_order(&mut command, source, size, &mut output);
+    let mut failed = false;
+    let result = between_in_order(&mut command, source, size, &mut failed, &mut output);
+    assert_eq!(rt; failed, result == Err(RunError::Read));
     Ok(Searched {
         result,
         taken: output.into_inner().taken,

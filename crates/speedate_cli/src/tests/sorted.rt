@@ -3,9 +3,9 @@
 use super::ends::{Sink, Source};
 use super::rows::{CLOCKS, LOG};
 use super::words_of;
-use speedate_options::commands::first_keys;
-use speedate_options::program::program;
-use speedate_sort::sort::{Keys, Lines, Unread, Unsorted};
+use crate::commands::first_keys;
+use crate::program::program;
+use speedate_sort::sort::{KeyedLines, Keys, Unread, Unsorted};
 use speedate_stream::Watched;
 use std::alloc::AllocError;
 use std::io::{self, ErrorKind, Read};
@@ -94,7 +94,7 @@ struct Printed {
 }
 
 /// Adds an input to lines.
-fn add<R: Abort>(rt: &R, keys: &mut Keys<'_>, lines: &mut Lines, text: &str, step: usize) {
+fn add<R: Abort>(rt: &R, keys: &mut Keys<'_>, lines: &mut KeyedLines, text: &str, step: usize) {
     keys.scan.begin(b"app.log");
     let mut input = Watched::new(Source::new(text.as_bytes(), step));
     let added = lines.add(keys, &mut input);
@@ -102,7 +102,7 @@ fn add<R: Abort>(rt: &R, keys: &mut Keys<'_>, lines: &mut Lines, text: &str, ste
 }
 
 /// Prints lines.
-fn print(lines: &mut Lines, sink: Sink) -> Printed {
+fn print(lines: &mut KeyedLines, sink: Sink) -> Printed {
     let mut output = Watched::new(sink);
     let result = lines.print(&mut output);
     let taken = output.into_inner().taken;
@@ -122,7 +122,7 @@ fn sorted<R: AllocGlobal + Abort>(
     let matches = matches.ok().expect(rt, words);
     let (_, given) = matches.subcommand().expect(rt, words);
     let mut keys = first_keys(given).ok().expect(rt, words);
-    let mut lines = Lines::new(rt.alloc());
+    let mut lines = KeyedLines::new(rt.alloc());
     for input in inputs {
         add(rt, &mut keys, &mut lines, input, step);
     }
@@ -142,7 +142,7 @@ fn sorted_log<R: AllocGlobal + Abort, I: Read + Drop>(
     let (_, given) = matches.subcommand().expect(rt, "sort");
     let mut keys = first_keys(given).ok().expect(rt, "sort");
     keys.scan.begin(b"app.log");
-    let mut lines = Lines::new(rt.alloc());
+    let mut lines = KeyedLines::new(rt.alloc());
     let added = lines.add(&mut keys, &mut Watched::new(input));
     Ok((added, print(&mut lines, sink)))
 }

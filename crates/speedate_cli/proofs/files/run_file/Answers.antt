@@ -18,7 +18,7 @@ returns g c =
         entry = c.as_bytes.result;
         named = c.as_bytes.ensures.value;
         ended = Some ended;
-        status_is = c.file_status.ensures.status
+        status_is = c.tell_file.ensures.status
             ∙ ap (file_status ended) (c.is_without_value-is_without_value.ensures.without
             ∙ ap is_without_value c.scan-2.ensures.scan);
         left = subst (λ before. Leaves g.C.LineMachine.machine g.C.Command.scan g.C.Command.begun

@@ -1,4 +1,5 @@
 use Rattle.std.proofs.Common.{◌≡◌, ◌+◌, ◌≤◌, ◌∙◌, List, ℕ, ap, subst, sym, arith, drop, length, min, take}
+use Rattle.std.proofs.Math.Bool.{or-false}
 use Rattle.std.proofs.lemmas.Grind.{elements}
 use Rattle.std.proofs.lemmas.List.{take-append-le}
 use Rattle.speedate.specs.Lines.{complete_lines}
@@ -21,6 +22,8 @@ loop-at-preserved g c =
     record {
       ordered = omega (arith, c.loop-at.invariant.ordered);
       within = grind (arith, elements);
+      failed = c.in_ok-count.ensures.failed ∙ or-false c.loop-at.failed
+          ∙ c.loop-at.invariant.failed;
       counted = subst (IsCounted known c.args.number c.args.from (c.loop-at.at + count)) (sym sum)
           (counted-more known buffer c.args.number c.args.from c.loop-at.at count c.loop-at.number
           c.loop-at.invariant.ordered c.in_ok-count.ensures.bytes c.loop-at.invariant.counted);

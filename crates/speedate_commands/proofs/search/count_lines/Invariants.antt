@@ -1,4 +1,4 @@
-use Rattle.std.proofs.Common.{◌-◌, ◌≤◌}
+use Rattle.std.proofs.Common.{◌≡◌, ◌-◌, ◌≤◌}
 use Rattle.speedate_commands.proofs.SearchLemmas.{IsCounted}
 use Rattle.speedate_commands.proofs.search.count_lines.Given as goal
 
@@ -6,6 +6,7 @@ abbrev pub invariant-loop-at : goal.invariant-loop-at
 invariant-loop-at g l = record {
   ordered : l.from ≤ l.at;
   within : l.at ≤ l.to;
+  failed : l.failed ≡ l.initial.failed;
   counted : IsCounted (g.S.ReadAt.text l.source) l.fn.number l.from l.at l.number;
 }
 

@@ -8,7 +8,7 @@ use Rattle.speedate_sort.specs.Merge.{AreKnown, Best, due, files_left, printed_f
 use Rattle.speedate_sort.proofs.SourceLemmas.{late-in, settled-alike, settled-trans, source-known}
 use Rattle.speedate_sort.proofs.SourceLemmas.{sources-alike, sources-known}
 use Rattle.speedate_sort.proofs.SourceLemmas.{sources-line}
-use Rattle.speedate_sort.proofs.SourceLemmas.{sources-none, sources-step}
+use Rattle.speedate_sort.proofs.SourceLemmas.{sources-none, sources-step, unread-in}
 use Rattle.speedate_sort.proofs.merge.merge_lines.Goals as goal
 
 pub returns-in_default-clause-merged : goal.returns-in_default-clause-merged
@@ -60,6 +60,12 @@ returns-in-Some-2-clause-late g c =
     let late = rw c.in-Some-2.is at c.in_ok-halt.ensures.late in
     late-in c.in-Some-2.halt c.loop.sources best.index source.keys source.number c.step.new.source
     c.in-Some.ensures.within late
+
+pub returns-in-Some-2-clause-unread : goal.returns-in-Some-2-clause-unread
+returns-in-Some-2-clause-unread g c =
+    let unread = rw c.in-Some-2.is at c.in_ok-halt.ensures.unread in
+    unread-in c.in-Some-2.halt c.loop.sources c.in-Some.best.index c.step.new.source
+    c.in-Some.ensures.within unread
 
 pub loop-preserved : goal.loop-preserved
 loop-preserved g c =

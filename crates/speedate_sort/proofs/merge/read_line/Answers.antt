@@ -4,8 +4,8 @@ use Rattle.speedate_sort.proofs.SortLemmas.{ok_part}
 use Rattle.speedate_sort.proofs.SourceLemmas.{reads-line}
 use Rattle.speedate_sort.proofs.merge.read_line.Goals as goal
 
-pub returns-else-is_err : goal.returns-else-is_err
-returns-else-is_err g c =
+pub returns-else-is_err-clause-line : goal.returns-else-is_err-clause-line
+returns-else-is_err-clause-line g c =
     let before = g.R.Read.remaining c.args.input.now in
     let after = g.R.Read.remaining c.read_until.new.self in
     let line : List ℕ = c.read_until.new.buf.items in

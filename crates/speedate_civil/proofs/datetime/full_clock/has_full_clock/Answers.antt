@@ -7,7 +7,7 @@ pub returns : goal.returns
 returns c = record {
   looks = λ both.
       let parts = and_parts c.are_between-front.result c.are_between-end.result both in
-      full-clock c.args.bytes.now c.if-bytes-lt-FULL_LENGTH.false
+      full-clock c.args.bytes.now c.if-bytes-lt-BARE_LENGTH.false
       (sym c.are_between-front.ensures.between ∙ parts.0)
       (sym c.are_between-end.ensures.between ∙ parts.1);
 }

@@ -1,4 +1,4 @@
-use Rattle.std.proofs.Common.{rules, ◌∙◌, ap, sym, SFits, w32}
+use Rattle.std.proofs.Common.{rules, ◌∙◌, ap, sym, SFits, w32, arith, ◌+◌, ◌≤◌}
 use Rattle.std.proofs.lemmas.Int.{to_z-of_z}
 use Rattle.std.proofs.lemmas.List.{take_rest}
 use Rattle.speedate_civil.specs.Date.{ymd}
@@ -16,13 +16,16 @@ returns c =
     let looks = c.has_full_clock.ensures.looks c.if-not-has_full_clock.false in
     let full : IsFullFront c.args.assumes_utc bytes date clock
     (c.in_ok-offset.offset, c.in_ok-offset.size) = record {
-      long = looks.long;
       dated = c.in_ok-date.ensures.date;
       parted = sym c.has_separator.ensures.value ∙ c.if-not-has_separator.false;
       timed = rw (take_rest bytes 11) at c.in_ok-clock.ensures.clock;
-      short = c.in_ok-clock.ensures.short;
       found = rw (take_rest bytes 11) at c.in_ok-offset.ensures.offset;
-      few = c.in_ok-offset.ensures.short;
+      within = omega (
+        arith,
+        c.if-bytes-lt-FULL_LENGTH.false,
+        c.in_ok-clock.ensures.short,
+        c.in_ok-offset.ensures.short,
+      );
     } in
     let fits : SFits w32 c.in_ok-offset.offset = search rules in
     let time = rw (to_z-of_z w32 c.in_ok-offset.offset fits) at c.at_offset-time.ensures.time in

@@ -29,7 +29,7 @@ returns-then-is_kept-clause-moves g c =
     ap (λ (l : List ℕ). is_some (key_of keys l)) (sym text) ∙ sym c.if-is_kept.ensures.kept in
     let order : int_lt new.instant keys.instant ≡ false = search rules in
     λ known.
-    let reads = c.in_default.ensures (c.loop.invariant.known known) in
+    let reads = c.in_default.ensures.line (c.loop.invariant.known known) in
     moves-line (g.R.Read.remaining c.args.self.now.input) (g.R.Read.remaining c.loop.self.input)
     (g.R.Read.remaining c.read_line.new.input) c.args.self.now.keys keys new line reads some
     (c.loop.invariant.lines known) c.loop.invariant.instant is kept order
@@ -40,7 +40,7 @@ returns-then-is_empty-clause-moves g c =
     let none : line ≡ [] =
     empty_list line (sym c.read_line.new.line.ok.0) (sym c.if-is_empty.ensures) in
     λ known.
-    let reads = c.in_default.ensures (c.loop.invariant.known known) in
+    let reads = c.in_default.ensures.line (c.loop.invariant.known known) in
     moves-end (g.R.Read.remaining c.args.self.now.input) (g.R.Read.remaining c.loop.self.input)
     (g.R.Read.remaining c.read_line.new.input) c.args.self.now.keys c.loop.self.keys line none reads
     (c.loop.invariant.lines known) c.loop.invariant.instant
@@ -71,13 +71,14 @@ loop-preserved g c =
     c.if-is_kept.ensures.number
     ∙ ap (number_of keys c.loop.self.number) text in
     record {
-      known = λ known. (c.in_default.ensures (c.loop.invariant.known known)).known;
+      known = λ known. (c.in_default.ensures.line (c.loop.invariant.known known)).known;
       lines = λ known. c.loop.invariant.lines known
           ∙ unread-left (g.R.Read.remaining c.loop.self.input)
           (g.R.Read.remaining c.read_line.new.input) keys line
-          (c.in_default.ensures (c.loop.invariant.known known)) some left
+          (c.in_default.ensures.line (c.loop.invariant.known known)) some left
           ∙ ap (unread (g.R.Read.remaining c.read_line.new.input)) (sym is);
       stopped = λ goes_on. sym c.if-is_stopped.ensures.stopped;
       instant = ap (λ (now : Keys). now.instant) is ∙ same.0 ∙ c.loop.invariant.instant;
       number = number ∙ same.1 ∙ c.loop.invariant.number;
+      failed = c.in_default.ensures.intact ∙ c.loop.invariant.failed;
     }

@@ -15,4 +15,5 @@ invariant-loop g l = record {
       → is_stopped l.self.keys.scan.stop ≡ false;
   instant : l.self.keys.instant ≡ l.initial.self.keys.instant;
   number : l.self.number ≡ l.initial.self.number;
+  failed : l.self.failed ≡ l.initial.self.failed;
 }

@@ -1,0 +1,141 @@
+//! Each command before its first line, by what was given.
+
+use crate::idle::Kind;
+use crate::options::Refusal::Usage;
+use crate::options::{self, Options, Refusal};
+use clap::ArgMatches;
+use speedate::MicrosecondsPrecisionOverflowBehavior::{Error, Truncate};
+use speedate_commands::between::Between;
+use speedate_commands::check::Check;
+use speedate_commands::convert::Convert;
+use speedate_commands::order::Order;
+use speedate_commands::sum::Sum;
+use speedate_commands::summary::Summary;
+use speedate_scan::reading::{Bad, Why};
+use speedate_scan::scan::{First, Offsets, REPORTS_MAX, Report, Scan, Stop};
+use speedate_sort::sort::Keys;
+
+/// The command `between` before the first line.
+pub fn first_between<'a>(given: &ArgMatches<'a>) -> Result<Between<'a>, Refusal> {
+    let options = options::common(given, Kind::Prints, Truncate)?;
+    let (bounds, offsets) = options::bounds(given, &options.reader)?;
+    Ok(Between {
+        scan: first_scan(&options, offsets),
+        bounds,
+        prefix: options.prefix,
+        is_kept: false,
+        is_in_order: given.get_flag("in-order"),
+    })
+}
+
+/// The command `check` before the first line.
+pub fn first_check<'a>(given: &ArgMatches<'a>) -> Result<Check<'a>, Refusal> {
+    let options = options::common(given, Kind::Checks, options::behavior(given)?)?;
+    let reports_late = given.get_flag("order");
+    let gap = options::gap(given)?;
+    let offsets = if reports_late || gap.is_some() {
+        Offsets::AsFirst
+    } else {
+        Offsets::Any
+    };
+    Ok(Check {
+        order: first_order(first_scan(&options, offsets)),
+        reports_late,
+        gap,
+        gaps: 0,
+    })
+}
+
+/// The command `convert` before the first line.
+pub fn first_convert<'a>(given: &ArgMatches<'a>) -> Result<Convert<'a>, Refusal> {
+    let options = options::common(given, Kind::Prints, Truncate)?;
+    Ok(Convert {
+        scan: first_scan(&options, Offsets::Any),
+        prefix: options.prefix,
+        target: options::target(given)?,
+        digits: options::fraction_digits(given)?,
+    })
+}
+
+/// What the command `merge` knows before the first line of each file.
+pub fn first_merge<'a>(given: &ArgMatches<'a>) -> Result<Keys<'a>, Refusal> {
+    let keys = first_keys(given)?;
+    let mut is_given = false;
+    for &name in given.get_strs("FILE").unwrap_or(&[]) {
+        if name == "-" && is_given {
+            return Err(Usage("standard input can be merged once"));
+        }
+        is_given = is_given || name == "-";
+    }
+    Ok(keys)
+}
+
+/// What is known of the order of values before the first line.
+fn first_order(scan: Scan<'_>) -> Order<'_> {
+    Order {
+        scan,
+        latest: None,
+        late: 0,
+    }
+}
+
+/// The command `sum` before the first line.
+pub fn first_sum<'a>(given: &ArgMatches<'a>) -> Result<Sum<'a>, Refusal> {
+    let options = options::common(given, Kind::Reports, Error)?;
+    Ok(Sum {
+        scan: first_scan(&options, Offsets::Any),
+        total: Some(0),
+        has_hours: options::has_hours(given)?,
+    })
+}
+
+/// What the command `sort` knows before the first line.
+pub fn first_keys<'a>(given: &ArgMatches<'a>) -> Result<Keys<'a>, Refusal> {
+    let options = options::common(given, Kind::Prints, Truncate)?;
+    if options.has_header && given.get_strs("FILE").unwrap_or(&[]).len() > 1 {
+        return Err(Usage("--header goes with one FILE"));
+    }
+    Ok(Keys {
+        scan: first_scan(&options, Offsets::AsFirst),
+        instant: i128::MIN,
+        has_name: options.prefix.has_name,
+    })
+}
+
+/// The command `summary` before the first line.
+pub fn first_summary<'a>(given: &ArgMatches<'a>) -> Result<Summary<'a>, Refusal> {
+    let options = options::common(given, Kind::Reports, Truncate)?;
+    Ok(Summary {
+        order: first_order(first_scan(&options, Offsets::AsFirst)),
+        lines: 0,
+        values: 0,
+        undated: 0,
+        earliest: None,
+        latest: None,
+        longest: None,
+    })
+}
+
+/// What is known before the first line.
+fn first_scan<'a>(options: &Options<'a>, offsets: Offsets) -> Scan<'a> {
+    let nothing = Report {
+        number: 0,
+        bad: Bad {
+            place: 0,
+            why: Why::Within,
+        },
+    };
+    Scan {
+        reader: options.reader,
+        undated_lines: options.undated_lines,
+        bad_lines: options.bad_lines,
+        has_header: options.has_header,
+        name: b"-",
+        number: 0,
+        offsets,
+        stop: Stop::No,
+        first: First::NOTHING,
+        bad: 0,
+        reports: [nothing; REPORTS_MAX],
+    }
+}

@@ -1,0 +1,13 @@
+use Rattle.std.proofs.Common.{rules, ◌≡◌, false}
+use Rattle.speedate_sort.proofs.SortLemmas.{adds-bare, on_ok}
+use Rattle.speedate_sort.proofs.sort.KeyedLines.add.Goals as goal
+
+pub returns-clause-added : goal.returns-clause-added
+returns-clause-added g c =
+    let none : c.args.keys.now.has_name ≡ false = search rules in
+    on_ok c.add_bare.result c.add_bare.ensures.added (adds-bare none)
+
+pub returns-clause-read_failed : goal.returns-clause-read_failed
+returns-clause-read_failed g c =
+    let none : c.args.keys.now.has_name ≡ false = search rules in
+    λ failed. adds-bare none (c.add_bare.ensures.read_failed failed)
