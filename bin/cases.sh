@@ -14,6 +14,9 @@ done
 (cd "$here" && tar cf - --exclude=out bench/src bin c crates crates.txt docs CHANGELOG.md HANDLES LICENSE) |
     tar xf - -C "$all/sources"
 
+# The manual page, with its commands as a shell takes them.
+page() { sed 's/\\-/-/g; s/\\e/\\/g' "$here/bin/speedate_lines.1"; }
+
 # Makes a clone and a kit. The kit's `rt run` reads all its input, does what the file `during` says, and makes a program that
 # prints the file `mark`, its arguments and its input, and ends with the status $STATUS. Its `rt lib` makes a library of that
 # file for a target, and so does its rattle, from libraries. Its `rt ci` does what the file `during` says, and leaves the same
