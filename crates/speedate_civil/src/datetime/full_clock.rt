@@ -60,7 +60,7 @@ pub fn full_front(bytes: &[u8]) -> Option<(DateTime, usize)>
 }
 
 /// The same, of a text that is shorter than what is loaded.
-#[inline(always)]
+#[inline(never)]
 fn short_front(bytes: &[u8]) -> Option<(DateTime, usize)>
     requires short { length bytes.now < 35 }
     ensures front { (behavior : Behavior) → IfSome result (λ front.
