@@ -12,7 +12,7 @@ use crate::command::{About, Command};
 use crate::in_order::between_in_order;
 use crate::search::ReadAt;
 use speedate_scan::print::{PREFIX_MAX, Prefix};
-use speedate_scan::reading::Found;
+use speedate_scan::reading::{Found, Glance};
 use speedate_scan::scan::{LineKind, Scan};
 use speedate_stream::run::{RunError, run};
 use speedate_stream::{LineMachine, Observer, PENDING_MAX, Pending, STEP_MAX, Watched};
@@ -175,10 +175,13 @@ impl LineMachine for Between<'_> {
     }
 
     fn step(&mut self, head: &[u8], pending: &mut Pending) -> Option<usize> {
-        match self.scan.value(head) {
-            Some((found, _)) => self.pass_value(&found, pending),
-            None if self.scan.is_undated(head) => self.pass_line(LineKind::Undated, pending),
-            None => self.pass_any(head, pending),
+        match self.scan.glance(head) {
+            Glance::Value(value, from, to) => {
+                let found = self.scan.reader.found(head, &value, from, to);
+                self.pass_value(&found, pending)
+            }
+            Glance::Undated(_) => self.pass_line(LineKind::Undated, pending),
+            Glance::Unknown => self.pass_any(head, pending),
         }
     }
 }

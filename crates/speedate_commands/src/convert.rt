@@ -9,8 +9,8 @@ ghost use Rattle.speedate_commands.specs.Convert.{convert_line, convert_machine}
 ghost use Rattle.speedate_commands.specs.Convert.{convert_rest, convert_text, library_digits, own_digits};
 ghost use Rattle.speedate_commands.specs.Convert.{target_place, targeted, text_of, text_with, written_digits};
 ghost use Rattle.speedate_commands.specs.Convert.{written_of, written_text, written_value};
-ghost use Rattle.speedate_scan.specs.Reading.{IsWithin};
-ghost use Rattle.speedate_scan.specs.Scan.{IsFoundWithin, passed};
+ghost use Rattle.speedate_scan.specs.Reading.{IsWithin, value_of};
+ghost use Rattle.speedate_scan.specs.Scan.{IsFoundWithin, line_of, passed};
 
 use crate::command::{About, Command};
 use crate::nanosecond::{DATE_TIME_MAX, past_second, push_date_time};
@@ -19,7 +19,7 @@ use speedate::{DateTime, FractionDigits};
 use speedate_scan::form::Form;
 use speedate_scan::fraction::fraction_size;
 use speedate_scan::print::Prefix;
-use speedate_scan::reading::{Bad, Found, Why};
+use speedate_scan::reading::{Bad, Found, Glance, Why};
 use speedate_scan::scan::{LineKind, Scan};
 use speedate_stream::run::{RunError, run};
 use speedate_stream::{LineMachine, Observer, PENDING_MAX, Pending, STEP_MAX, Watched, push_bytes};
@@ -173,19 +173,20 @@ impl Convert<'_> {
         push_value(form, count, found.instant, value, pending);
     }
 
-    /// The value of a line, and as it is written, if the library reads it at once and it can be written; `None` says
-    /// nothing of the line.
+    /// The value of a line as it is written, if it can be written.
     #[inline(always)]
     #[tactic(auto, unfolding(crate::specs::Convert::written_value))]
-    fn value(&self, head: &[u8]) -> Option<(Found, DateTime)>
-        ensures line { IfSome result (λ it. convert_line self.now head.now ≡ LineKind.Value it.0) }
-        ensures within { IfSome result (λ it. IsWithin it.0 head.now) }
-        ensures value { IfSome result (λ it. written_value self.now head.now it.0
-            ≡ Ok (date_and_time it.1)) }
+    fn written(&self, head: &[u8], found: &Found, value: DateTime) -> Option<DateTime>
+        requires line { line_of self.now.scan head.now ≡ LineKind.Value found.now }
+        requires value { value_of self.now.scan.reader head.now found.now
+            ≡ Ok (date_and_time value, found.now.to) }
+        ensures line { IfSome result (λ it. convert_line self.now head.now
+            ≡ LineKind.Value found.now) }
+        ensures value { IfSome result (λ it. written_value self.now head.now found.now
+            ≡ Ok (date_and_time it)) }
     {
-        let (found, value) = self.scan.value(head)?;
-        match self.target.targeted(&found, value) {
-            Ok(value) => Some((found, value)),
+        match self.target.targeted(found, value) {
+            Ok(written) => Some(written),
             Err(_) => None,
         }
     }
@@ -319,12 +320,16 @@ impl LineMachine for Convert<'_> {
     }
 
     fn step(&mut self, head: &[u8], pending: &mut Pending) -> Option<usize> {
-        match self.value(head) {
-            Some((found, value)) => self.pass_value(head, &found, &value, pending),
-            None if self.scan.is_undated(head) => {
-                self.pass_line(head, LineKind::Undated, None, pending)
+        match self.scan.glance(head) {
+            Glance::Value(value, from, to) => {
+                let found = self.scan.reader.found(head, &value, from, to);
+                match self.written(head, &found, value) {
+                    Some(value) => self.pass_value(head, &found, &value, pending),
+                    None => self.pass_any(head, pending),
+                }
             }
-            None => self.pass_any(head, pending),
+            Glance::Undated(_) => self.pass_line(head, LineKind::Undated, None, pending),
+            Glance::Unknown => self.pass_any(head, pending),
         }
     }
 }

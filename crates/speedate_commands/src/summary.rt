@@ -19,7 +19,7 @@ use crate::order::{Latest, Order};
 use crate::search::ReadAt;
 use speedate::{DateTime, DateTimeConfig, ParseError, TimeConfig, TimestampUnit};
 use speedate_scan::print::{push_line_place, push_number};
-use speedate_scan::reading::Found;
+use speedate_scan::reading::{Found, Glance};
 use speedate_scan::scan::{LineKind, Scan};
 use speedate_stream::run::{RunError, run};
 use speedate_stream::{LineMachine, Observer, PENDING_MAX, Pending, Watched, push_bytes};
@@ -353,10 +353,13 @@ impl LineMachine for Summary<'_> {
     }
 
     fn step(&mut self, head: &[u8], _pending: &mut Pending) -> Option<usize> {
-        match self.order.scan.value(head) {
-            Some((found, _)) => self.add_value(&found),
-            None if self.order.scan.is_undated(head) => self.add(LineKind::Undated),
-            None => self.add_any(head),
+        match self.order.scan.glance(head) {
+            Glance::Value(value, from, to) => {
+                let found = self.order.scan.reader.found(head, &value, from, to);
+                self.add_value(&found);
+            }
+            Glance::Undated(_) => self.add(LineKind::Undated),
+            Glance::Unknown => self.add_any(head),
         }
         None
     }

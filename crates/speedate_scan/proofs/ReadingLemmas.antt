@@ -1,7 +1,9 @@
 -- Texts that claim to be dates.
-use Rattle.std.proofs.Common.{◌≡◌, ◌≢◌, ℕ, ◌+◌, ◌==◌, Bool, true, false, ◌&&◌, nat_le, List, [], ◌∷◌, codes, slice_index, refl, arith, if◌then◌else◌}
+use Rattle.std.proofs.Common.{◌≡◌, ◌≢◌, ℕ, ◌+◌, ◌==◌, Bool, true, false, ◌&&◌, nat_le, List, [], ◌∷◌, codes, slice_index, refl, arith, rules, Ok, if◌then◌else◌}
 use Rattle.std.proofs.lemmas.Bool.Decides.{nat_tests}
 use Rattle.speedate_base.specs.Digits.{eight_at, fit_length}
+use Rattle.speedate.specs.Base.{Behavior}
+use Rattle.speedate.specs.DateTime.{DateAndTime, date_time_front}
 use Rattle.speedate_scan.specs.Reading.{claims_date, left_bracket, length_before_value}
 
 -- five or more of nested tests hold if and only if the first five do
@@ -30,3 +32,9 @@ no_mark_begins (byte ∷ bytes) bracket mark =
     let no_mark : (239 == byte) ≡ false = grind (arith, nat_tests) in
     let no_bracket : (byte == left_bracket) ≡ false = grind (arith, nat_tests) in
     rw (no_mark, no_bracket) refl
+
+-- a text that begins with a date-time claims to be one
+pub date_time_claims : (behavior : Behavior) (text : List ℕ) (front : DateAndTime × ℕ)
+    → date_time_front behavior text ≡ Ok front → claims_date text ≡ true
+unfolding claims_date
+date_time_claims behavior text front read = search rules

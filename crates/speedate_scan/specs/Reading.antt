@@ -12,6 +12,7 @@ use Rattle.speedate_base.specs.declared.refusal.Refused.{Refused}
 use Rattle.speedate.specs.Calendar.{Ymd}
 use Rattle.speedate.specs.Date.{date_answer_or, date_front_or}
 use Rattle.speedate.specs.DateTime.{DateAndTime}
+use Rattle.speedate_civil.specs.declared.datetime.DateTime.{DateTime}
 use Rattle.speedate.specs.DateTime.{date_time_front_or, date_time_with_offset, separator_table}
 use Rattle.speedate.specs.DateTime.{date_time_or_timestamp_or}
 use Rattle.speedate.specs.DateTime.{utc_microsecond}
@@ -31,7 +32,7 @@ pub use Rattle.speedate_scan.specs.declared.reading.Why.{Why}
 pub use Rattle.speedate_scan.specs.declared.reading.Bad.{Bad}
 pub use Rattle.speedate_scan.specs.declared.reading.Found.{Found}
 pub use Rattle.speedate_scan.specs.declared.reading.Reading.{Reading}
-pub use Rattle.speedate_scan.specs.declared.reading.Verdict.{Verdict}
+pub use Rattle.speedate_scan.specs.declared.reading.Glance.{Glance}
 
 -- Values at the front of a text.
 
@@ -410,12 +411,6 @@ read_at reader head (Place.Field which) =
 unfoldable pub read : Reader → List ℕ → Reading
 read reader head = read_at reader head reader.place
 
--- what is read of a line, but for its value
-abbrev pub verdict : Reading → Verdict
-verdict (Reading.Value found) = Verdict.Value
-verdict (Reading.Bad bad) = Verdict.Bad bad
-verdict (Reading.Undated place) = Verdict.Undated place
-
 -- the value that was found in a line, and the byte up to which it stands
 abbrev pub value_again : Reader → List ℕ → Found → Place → Result (DateAndTime × ℕ) Bad
 value_again reader head found Place.Front = value_at reader head found.from
@@ -436,6 +431,18 @@ abbrev pub IsReadWithin : Reading → List ℕ → Type 0
 IsReadWithin (Reading.Value found) head = IsWithin found head
 IsReadWithin (Reading.Bad bad) head = Unit {0}
 IsReadWithin (Reading.Undated place) head = Unit {0}
+
+-- this holds of the value that a glance finds, and of where it stands
+abbrev pub IfValue : Glance → (DateTime → ℕ → ℕ → Type 0) → Type 0
+IfValue (Glance.Value value from to) Holds = Holds value from to
+IfValue (Glance.Undated place) Holds = Unit {0}
+IfValue Glance.Unknown Holds = Unit {0}
+
+-- this holds of the byte at which a value would begin, if a glance finds that there is none
+abbrev pub IfUndated : Glance → (ℕ → Type 0) → Type 0
+IfUndated (Glance.Value value from to) Holds = Unit {0}
+IfUndated (Glance.Undated place) Holds = Holds place
+IfUndated Glance.Unknown Holds = Unit {0}
 
 -- what is read is no value
 abbrev pub IsWithoutValue : Reading → Type 0

@@ -1,6 +1,6 @@
 //! Where the value of a line begins.
 
-ghost use Rattle.std.specs.Prelude.{◌≡◌, ◌+◌, ◌≤◌, IfErr, IfOk, IfSome, IsTrue, length};
+ghost use Rattle.std.specs.Prelude.{◌≡◌, ◌+◌, ◌≤◌, IfErr, IfOk, IfSome, IsTrue, false, length};
 ghost use Rattle.speedate_scan.specs.Reading.{IsReadWithin, IsWithoutValue, after_claim, begins_claim};
 ghost use Rattle.speedate_scan.specs.Reading.{claim_after, claims, claims_date, claims_duration};
 ghost use Rattle.speedate_scan.specs.Reading.{claims_wanted, field_claims, front_claim};
@@ -27,13 +27,16 @@ pub enum Wanted {
 /// How many bytes of a text stand before a value at its front: a byte order mark, a `[`, both, or nothing.
 #[inline(always)]
 #[tactic(auto, using(crate::proofs::ReadingLemmas::no_mark_begins))]
-fn length_before_value(text: &[u8]) -> usize
+pub fn length_before_value(text: &[u8]) -> usize
     ensures length { result ≡ length_before_value text.now }
     ensures within { result ≤ length text.now }
 {
     // Most lines have neither.
     let first = byte_at(text, 0);
-    if first != b'[' && first != BYTE_ORDER_MARK[0] {
+    if first == b'[' {
+        return 1;
+    }
+    if first != BYTE_ORDER_MARK[0] {
         return 0;
     }
     mark_and_bracket(text)
@@ -75,9 +78,18 @@ pub fn claims_date(text: &[u8]) -> bool
     fit_length(eight_bytes(text, 0), u8x8::from_array(*b"0000-00-")) >= 5
 }
 
+/// Whether a text may claim to be a value of this form, by its first byte.
+#[inline(always)]
+#[tactic(auto, unfolding(crate::specs::Reading::claims_date))]
+pub fn may_claim(form: Form, text: &[u8]) -> bool
+    ensures claims { result ≡ false → claims form text.now ≡ false }
+{
+    matches!(form, Form::Timestamp(_)) || byte_at(text, 0).is_ascii_digit()
+}
+
 /// Whether a text claims to be a value of this form.
 #[inline(always)]
-fn claims(form: Form, text: &[u8]) -> bool
+pub fn claims(form: Form, text: &[u8]) -> bool
     ensures claims { result ≡ claims form text.now }
 {
     match form {

@@ -1,12 +1,13 @@
 //! What values are, and how a text is parsed as one.
 
-ghost use Rattle.std.specs.Prelude.{◌≡◌, ◌+◌, ◌≤◌, IfErr, IfOk, IfSome, Ok, Some, length, pos};
+ghost use Rattle.std.specs.Prelude.{◌≡◌, ◌+◌, ◌≤◌, IfErr, IfOk, IfSome, Ok, Some, length, pos, true};
 ghost use Rattle.std.specs.Option.{ForSome};
 ghost use Rattle.speedate_base.specs.Offset.{IsOffset};
 ghost use Rattle.speedate.specs.Refused.{placed};
 ghost use Rattle.speedate_civil.specs.Time.{clock_parts, clock_with_offset, end_fault};
 ghost use Rattle.speedate_civil.specs.DateTime.{date_time_or_timestamp_or};
-ghost use Rattle.speedate_scan.specs.Reading.{date_and_clock, library_front, with_late_zone};
+ghost use Rattle.speedate_scan.specs.Reading.{claims, claims_date, date_and_clock, library_front};
+ghost use Rattle.speedate_scan.specs.Reading.{with_late_zone};
 ghost use Rattle.speedate.specs.Base.{Behavior, IsoOrder};
 ghost use Rattle.speedate.specs.Config.{choices, time_choices};
 ghost use Rattle.speedate.specs.Requirement.{result_map, with_size};
@@ -17,6 +18,7 @@ ghost use Rattle.speedate_scan.specs.Reading.{relaxed_front, relaxed_whole, stri
 ghost use Rattle.speedate_scan.specs.Reading.{strict_whole, timestamp_front, timestamp_of};
 ghost use Rattle.speedate_scan.specs.Reading.{past_64_bits, timestamp_whole, whole_front, whole_of};
 
+use crate::claim::claims;
 use crate::timestamp::{has_number, number_length};
 use crate::zone::{late_zone, zone_front};
 use speedate::{
@@ -41,33 +43,25 @@ pub enum Form {
 }
 
 impl Form {
-    /// The value at the front of a text, and how many bytes it takes.
+    /// The value at the front of a text, and how many bytes it takes, if it is a date-time of the form that most have;
+    /// `None` says nothing of the text.
     #[inline(always)]
-    pub fn front(
-        self,
-        text: &[u8],
-        behavior: MicrosecondsPrecisionOverflowBehavior,
-    ) -> Result<(DateTime, usize), Refused>
-        ensures front { result_map (with_size date_and_time) result
-            ≡ front_of self behavior text.now }
-        ensures size { IfOk result (λ front. front.1 ≤ length text.now) }
-        ensures within { IfErr result (λ refused. refused.place ≤ length text.now) }
+    pub fn usual(self, text: &[u8]) -> Option<(DateTime, usize)>
+        ensures front { (behavior : Behavior) → IfSome result (λ front.
+            front_of self behavior text.now ≡ Ok (with_size date_and_time front)) }
+        ensures claims { IfSome result (λ front. claims self text.now ≡ true) }
+        ensures size { IfSome result (λ front. front.1 ≤ length text.now) }
     {
-        if matches!(self, Form::DateTime) {
-            if let Some((value, size)) = usual_front(text) {
-                return Ok((value, size));
-            }
+        // A fraction of more than six digits is not of that form.
+        if !matches!(self, Form::DateTime) || byte_at(text, 26).is_ascii_digit() {
+            return None;
         }
-        // Taken apart, or the compiler keeps the values of both ways in memory.
-        match self.any_front(text, behavior) {
-            Ok((value, size)) => Ok((value, size)),
-            Err(refused) => Err(refused),
-        }
+        usual_front(text)
     }
 
-    /// The value at the front of a text, and how many bytes it takes, if the library reads it at once; `None` says
-    /// nothing of the text.
-    #[inline(always)]
+    /// The value at the front of a text that claims to be one, and how many bytes it takes, if the library reads it at
+    /// once; `None` says nothing of the text.
+    #[inline(never)]
     pub fn accepted(
         self,
         text: &[u8],
@@ -75,41 +69,22 @@ impl Form {
     ) -> Option<(DateTime, usize)>
         ensures front { IfSome result (λ front. front_of self behavior text.now
             ≡ Ok (with_size date_and_time front)) }
+        ensures claims { IfSome result (λ front. claims self text.now ≡ true) }
         ensures size { IfSome result (λ front. front.1 ≤ length text.now) }
     {
-        // A fraction of more than six digits is not of the form that most have.
-        if matches!(self, Form::DateTime) && !byte_at(text, 26).is_ascii_digit() {
-            if let Some((value, size)) = usual_front(text) {
-                return Some((value, size));
-            }
+        if !claims(self, text) {
+            return None;
         }
-        match self.any_accepted(text, behavior) {
-            Some((value, size)) => Some((value, size)),
-            None => None,
-        }
-    }
-
-    /// The same, without a first look at the form that most date-times have.
-    #[inline(never)]
-    fn any_accepted(
-        self,
-        text: &[u8],
-        behavior: MicrosecondsPrecisionOverflowBehavior,
-    ) -> Option<(DateTime, usize)>
-        ensures front { IfSome result (λ front. front_of self behavior text.now
-            ≡ Ok (with_size date_and_time front)) }
-        ensures size { IfSome result (λ front. front.1 ≤ length text.now) }
-    {
         match self {
             Form::DateTime => accepted_front(text, behavior),
-            _ => self.front_by_parts(text, behavior).ok(),
+            _ => self.front(text, behavior).ok(),
         }
     }
 
     /// The value at the front of a text, and how many bytes it takes: a date-time is read part by part, as of a text
     /// that [`Form::accepted`] says nothing of.
     #[inline(never)]
-    pub fn front_by_parts(
+    pub fn front(
         self,
         text: &[u8],
         behavior: MicrosecondsPrecisionOverflowBehavior,
@@ -124,24 +99,6 @@ impl Form {
             Form::Strict => strict_front(text, behavior),
             Form::Date => midnight_front(text),
             Form::Timestamp(unit) => timestamp_front(text, unit, behavior),
-        }
-    }
-
-    /// The value at the front of a text, without a first look at the form that most date-times have.
-    #[inline(never)]
-    fn any_front(
-        self,
-        text: &[u8],
-        behavior: MicrosecondsPrecisionOverflowBehavior,
-    ) -> Result<(DateTime, usize), Refused>
-        ensures front { result_map (with_size date_and_time) result
-            ≡ front_of self behavior text.now }
-        ensures size { IfOk result (λ front. front.1 ≤ length text.now) }
-        ensures within { IfErr result (λ refused. refused.place ≤ length text.now) }
-    {
-        match self {
-            Form::DateTime => relaxed_front(text, behavior),
-            _ => self.front_by_parts(text, behavior),
         }
     }
 
@@ -175,11 +132,13 @@ pub fn relaxed(behavior: MicrosecondsPrecisionOverflowBehavior) -> TimeConfig
     }
 }
 
-/// The date-time at the front of a text, and how many bytes it takes, if it has the form that most have.
+/// The date-time at the front of a text, and how many bytes it takes, if it has the form that most have; `None` says
+/// nothing of the text.
 #[inline(always)]
 fn usual_front(text: &[u8]) -> Option<(DateTime, usize)>
     ensures front { (behavior : Behavior) → IfSome result (λ front.
         relaxed_front behavior text.now ≡ Ok (with_size date_and_time front)) }
+    ensures claims { IfSome result (λ front. claims_date text.now ≡ true) }
     ensures within { IfSome result (λ front. front.1 ≤ length text.now) }
 {
     match full_front(text) {

@@ -1,19 +1,23 @@
 //! What is read of a line.
 
-ghost use Rattle.std.specs.Prelude.{◌≡◌, ◌+◌, ◌-◌, ◌≤◌, IfErr, IfOk, IfSome, None, Ok, drop, length};
+ghost use Rattle.std.specs.Prelude.{◌≡◌, ◌+◌, ◌-◌, ◌≤◌, IfErr, IfOk, IfSome, None, Ok, drop, false, length, true};
 ghost use Rattle.std.specs.Option.{option_map};
 ghost use Rattle.speedate.specs.Requirement.{result_map, with_size};
 ghost use Rattle.speedate.specs.DateTime.{date_and_time};
 ghost use Rattle.speedate_scan.specs.Field.{IsFieldWithin};
-ghost use Rattle.speedate_scan.specs.Reading.{IsParsed, IsReadWithin, IsWithin, IsWithoutValue, alone, assumed};
-ghost use Rattle.speedate_scan.specs.Reading.{can_end, fields_of, found_at, found_from, front_of, instant_of};
+ghost use Rattle.speedate_scan.specs.Reading.{IfUndated, IfValue, IsParsed, IsReadWithin, IsWithin};
+ghost use Rattle.speedate_scan.specs.Reading.{IsWithoutValue, alone, assumed, can_end, claims, fields_of};
+ghost use Rattle.speedate_scan.specs.Reading.{found_at, found_from, front_of, instant_of};
 ghost use Rattle.speedate_scan.specs.Reading.{is_cut, is_longer, is_without_clock, lacks_clock};
 ghost use Rattle.speedate_scan.specs.Reading.{not_within, part, read, read_claim, read_field};
 ghost use Rattle.speedate_scan.specs.Reading.{read_whole, refused_at, seen, undated_field, value_at};
-ghost use Rattle.speedate_scan.specs.Reading.{value_between, value_of, verdict};
+ghost use Rattle.speedate_scan.specs.Reading.{value_between, value_of};
 ghost use Rattle.speedate_scan.specs.Reading.{without_field};
 
-use crate::claim::{after_claim, field_claims, front_claim};
+use crate::claim::{
+    Wanted, after_claim, claim_after, claims, field_claims, front_claim, length_before_value,
+    may_claim,
+};
 use crate::field::{Field, NthField, first_bytes};
 use crate::form::Form;
 use crate::fraction::value_past_microsecond;
@@ -103,15 +107,15 @@ pub enum Reading {
     Undated(usize),
 }
 
-/// What is read of a line, but for its value.
+/// What is known of a line at a glance.
 #[derive(Clone, Copy)]
-pub enum Verdict {
-    /// A value.
-    Value,
-    /// A value that is refused.
-    Bad(Bad),
-    /// No value: the byte at which one would begin.
+pub enum Glance {
+    /// It has this value, which stands from one byte up to another.
+    Value(DateTime, usize, usize),
+    /// It has no value: the byte at which one would begin.
     Undated(usize),
+    /// It has to be read.
+    Unknown,
 }
 
 /// Whether a value of this form can end before a text: a timestamp before a colon, too.
@@ -307,66 +311,109 @@ fn read_as(
     }
 }
 
-impl Reading {
-    /// What is read of a line, but for its value.
-    fn verdict(&self) -> Verdict
-        ensures verdict { result ≡ verdict self.now }
-    {
-        match self {
-            Reading::Value(_) => Verdict::Value,
-            Reading::Bad(bad) => Verdict::Bad(*bad),
-            Reading::Undated(place) => Verdict::Undated(*place),
-        }
-    }
-}
-
 impl Reader<'_> {
     /// What is read of a line, by its head.
     pub fn read(&self, head: &[u8]) -> Reading
         ensures read { result ≡ read self.now head.now }
         ensures within { IsReadWithin result head.now }
     {
-        match self.value(head) {
-            Some((found, _)) => Reading::Value(found),
-            None => self.parse(head).0,
+        match self.glance(head) {
+            Glance::Value(value, from, to) => Reading::Value(self.found(head, &value, from, to)),
+            _ => self.parse(head).0,
         }
     }
 
-    /// The value of a line, by its head, if the library reads it at once and it is no field; `None` says nothing of
-    /// the line.
+    /// What is known of a line, by its head, without parsing its value part by part.
     #[inline(always)]
     #[tactic(auto, unfolding(crate::specs::Reading::value_at), using(crate::proofs::SeenLemmas::seen_within))]
-    pub fn value(&self, head: &[u8]) -> Option<(Found, DateTime)>
-        ensures read { IfSome result (λ it. read self.now head.now ≡ Reading.Value it.0) }
-        ensures within { IfSome result (λ it. IsWithin it.0 head.now) }
-        ensures value { IfSome result (λ it. value_of self.now head.now it.0
-            ≡ Ok (date_and_time it.1, it.0.to)) }
+    pub fn glance(&self, head: &[u8]) -> Glance
+        ensures read { IfValue result (λ value from to. read self.now head.now
+            ≡ Reading.Value (found_at self.now.form head.now (date_and_time value) from to)) }
+        ensures value { IfValue result (λ value from to. value_of self.now head.now
+            (found_at self.now.form head.now (date_and_time value) from to)
+            ≡ Ok (date_and_time value, to)) }
+        ensures within { IfValue result (λ value from to. IsWithin
+            (found_at self.now.form head.now (date_and_time value) from to) head.now) }
+        ensures undated { IfUndated result (λ place. read self.now head.now
+            ≡ Reading.Undated place) }
     {
-        let start = self.start(head)?;
-        let (value, size) = self.form.accepted(&seen(head)[start..], self.behavior)?;
+        let start = match self.start(head) {
+            Ok(start) => start,
+            Err(glance) => return glance,
+        };
+        let text = &seen(head)[start..];
+        // Most lines without a value begin otherwise.
+        if !may_claim(self.form, text) {
+            return self.unclaimed(start);
+        }
+        let (value, size) = match self.form.usual(text) {
+            Some((value, size)) => (value, size),
+            None => {
+                if !claims(self.form, text) {
+                    return self.unclaimed(start);
+                }
+                match self.form.accepted(text, self.behavior) {
+                    Some((value, size)) => (value, size),
+                    None => return Glance::Unknown,
+                }
+            }
+        };
         let to = start + size;
         if is_cut(head, to) || !can_end(self.form, &head[to..]) {
-            return None;
+            return Glance::Unknown;
         }
-        let value = assume(self.offset, value);
-        Some((found_at(self.form, head, &value, start, to), value))
+        Glance::Value(assume(self.offset, value), start, to)
     }
 
-    /// The byte at which a value is claimed in a line, by its head, unless the value is a field.
+    /// The byte at which a value would begin in a line, by its head, or what is known of a line in which none is claimed.
     #[inline(always)]
     #[tactic(auto, unfolding(crate::specs::Reading::read, crate::specs::Reading::value_of))]
-    fn start(&self, head: &[u8]) -> Option<usize>
-        ensures read { IfSome result (λ start. read self.now head.now
-            ≡ read_claim self.now head.now (Ok start)) }
-        ensures value { (found : Found) → IfSome result (λ start. value_of self.now head.now found
+    fn start(&self, head: &[u8]) -> Result<usize, Glance>
+        ensures read { IfOk result (λ start.
+            claims self.now.form (drop start (seen head.now)) ≡ true
+            → read self.now head.now ≡ read_claim self.now head.now (Ok start)) }
+        ensures value { (found : Found) → IfOk result (λ start. value_of self.now head.now found
             ≡ value_at self.now head.now found.from) }
-        ensures within { IfSome result (λ start. start ≤ length (seen head.now)) }
+        ensures within { IfOk result (λ start. start ≤ length (seen head.now)) }
+        ensures bare { IfOk result (λ start. self.now.place ≡ Place.Front
+            → claims self.now.form (drop start (seen head.now)) ≡ false
+            → read self.now head.now ≡ Reading.Undated start) }
+        ensures none { IfErr result (λ glance. IfValue glance (λ value from to. ⊥)) }
+        ensures undated { IfErr result (λ glance. IfUndated glance (λ place. read self.now head.now
+            ≡ Reading.Undated place)) }
     {
         match self.place {
-            Place::Front => front_claim(self.form, head).ok(),
-            Place::After(word) => after_claim(self.form, word, head).ok(),
-            Place::Field(_) => None,
+            Place::Front => Ok(length_before_value(seen(head))),
+            Place::After(word) => match claim_after(Wanted::Value(self.form), word, seen(head)) {
+                Some(start) => Ok(start),
+                None if is_longer(head) => Err(Glance::Unknown),
+                None => Err(Glance::Undated(head.len())),
+            },
+            Place::Field(_) => Err(Glance::Unknown),
         }
+    }
+
+    /// What is known of a line in which no value is claimed at the byte at which one would begin.
+    #[inline(always)]
+    fn unclaimed(&self, start: usize) -> Glance
+        ensures none { IfValue result (λ value from to. ⊥) }
+        ensures front { IfUndated result (λ place. self.now.place ≡ Place.Front) }
+        ensures start { IfUndated result (λ place. place ≡ start) }
+    {
+        match self.place {
+            Place::Front => Glance::Undated(start),
+            Place::After(_) | Place::Field(_) => Glance::Unknown,
+        }
+    }
+
+    /// A value that was found from one byte of a line up to another, by the head of the line.
+    #[inline(always)]
+    pub fn found(&self, head: &[u8], value: &DateTime, from: usize, to: usize) -> Found
+        requires ordered { from ≤ to }
+        requires within { to ≤ length head.now }
+        ensures found { result ≡ found_at self.now.form head.now (date_and_time value.now) from to }
+    {
+        found_at(self.form, head, value, from, to)
     }
 
     /// What is read of a line, by its head, and the value that was parsed, if it has one.
@@ -381,48 +428,13 @@ impl Reader<'_> {
         let claim = match self.place {
             Place::Front => front_claim(self.form, head),
             Place::After(word) => after_claim(self.form, word, head),
-            // Taken apart for the same reason as in [`Form::front`].
+            // Taken apart, or the compiler keeps the values of both ways in memory.
             Place::Field(which) => {
                 let (reading, value) = self.parse_field(head, which.find(fields_of(head)));
                 return (reading, value);
             }
         };
         self.parse_claim(head, claim)
-    }
-
-    /// What is read of a line, by its head, but for its value, whose instant is not calculated outside a field.
-    #[inline(always)]
-    #[tactic(auto, unfolding(crate::specs::Reading::read))]
-    pub fn verdict(&self, head: &[u8]) -> Verdict
-        ensures verdict { result ≡ verdict (read self.now head.now) }
-    {
-        let claim = match self.place {
-            Place::Front => front_claim(self.form, head),
-            Place::After(word) => after_claim(self.form, word, head),
-            Place::Field(which) => {
-                let (reading, _) = self.parse_field(head, which.find(fields_of(head)));
-                return reading.verdict();
-            }
-        };
-        self.claim_verdict(head, claim)
-    }
-
-    /// The same, by the byte at which a value is claimed.
-    #[inline(always)]
-    fn claim_verdict(&self, head: &[u8], claim: Result<usize, Reading>) -> Verdict
-        requires start { IfOk claim (λ start. start ≤ length (seen head.now)) }
-        ensures verdict { result ≡ verdict (read_claim self.now head.now claim) }
-    {
-        match claim {
-            Ok(start) => {
-                let front = self.form.front(&seen(head)[start..], self.behavior);
-                match self.value_at(head, start, front) {
-                    Ok(_) => Verdict::Value,
-                    Err(bad) => Verdict::Bad(bad),
-                }
-            }
-            Err(reading) => reading.verdict(),
-        }
     }
 
     /// What is read of a line, by its head and the byte at which a value is claimed.
@@ -439,7 +451,7 @@ impl Reader<'_> {
         match claim {
             Ok(start) => {
                 let text = &seen(head)[start..];
-                let front = self.form.front_by_parts(text, self.behavior);
+                let front = self.form.front(text, self.behavior);
                 read_as(self.form, head, self.value_at(head, start, front), start)
             }
             Err(reading) => (reading, None),

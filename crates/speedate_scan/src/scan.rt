@@ -5,15 +5,15 @@ ghost use Rattle.std.specs.List.{position};
 ghost use Rattle.std.specs.Option.{option_map};
 ghost use Rattle.speedate.specs.DateTime.{date_and_time};
 ghost use Rattle.speedate_stream.specs.Watch.{one_more};
-ghost use Rattle.speedate_scan.specs.Reading.{IsReadWithin, IsWithin, value_of};
+ghost use Rattle.speedate_scan.specs.Reading.{Found, IfUndated, IfValue, IsReadWithin, IsWithin, found_at};
+ghost use Rattle.speedate_scan.specs.Reading.{value_of};
 ghost use Rattle.speedate_scan.specs.Scan.{IsFoundWithin, IsLineParsed, has_offsets, is_counted, keeps};
 ghost use Rattle.speedate_scan.specs.Scan.{Offsets, bad_of, counted, fits, is_stopped, is_value};
 ghost use Rattle.speedate_scan.specs.Scan.{before_entry, begun, headers, is_dated, is_found, is_without_value};
 ghost use Rattle.speedate_scan.specs.Scan.{judged, line_of, lines_before, valued};
 ghost use Rattle.speedate_scan.specs.Scan.{is_clock_byte, noted, offset_place, passed, settled, unfit};
 
-use crate::claim::front_claim;
-use crate::reading::{Bad, Found, Place, Reader, Reading, Verdict, Why};
+use crate::reading::{Bad, Found, Glance, Reader, Reading, Why};
 use speedate::{DateTime, ParseError};
 use speedate_base::numbers::is_decimal_mark;
 
@@ -199,14 +199,14 @@ impl LineKind {
 }
 
 impl Offsets {
-    /// Whether a value fits.
-    fn fits(self, found: &Found) -> bool
-        ensures fits { result ≡ fits self found.now }
+    /// Whether a value with this offset fits.
+    fn fits(self, offset: Option<i32>) -> bool
+        ensures fits { (found : Found) → found.offset ≡ offset → result ≡ fits self found }
     {
         match self {
             Offsets::Any | Offsets::AsFirst => true,
             Offsets::Only(has_offset) | Offsets::AsBounds(has_offset) => {
-                found.offset.is_some() == has_offset
+                offset.is_some() == has_offset
             }
         }
     }
@@ -331,30 +331,40 @@ impl Scan<'_> {
         ensures line { result ≡ line_of self.now head.now }
         ensures within { IsFoundWithin result head.now }
     {
-        match self.value(head) {
-            Some((found, _)) => LineKind::Value(found),
-            None => self.any_line(head).0,
+        match self.glance(head) {
+            Glance::Value(value, from, to) => {
+                LineKind::Value(self.reader.found(head, &value, from, to))
+            }
+            _ => self.any_line(head).0,
         }
     }
 
-    /// The value of a line, by its head, if it fits and the library reads it at once; `None` says nothing of the
-    /// line.
+    /// What is known of a line, by its head, without parsing its value part by part: a value that fits, or that it has
+    /// none and is not bad for that.
     #[inline(always)]
     #[tactic(auto, unfolding(crate::specs::Scan::line_of))]
-    pub fn value(&self, head: &[u8]) -> Option<(Found, DateTime)>
-        ensures line { IfSome result (λ it. line_of self.now head.now ≡ LineKind.Value it.0) }
-        ensures within { IfSome result (λ it. IsWithin it.0 head.now) }
-        ensures value { IfSome result (λ it. value_of self.now.reader head.now it.0
-            ≡ Ok (date_and_time it.1, it.0.to)) }
+    pub fn glance(&self, head: &[u8]) -> Glance
+        ensures line { IfValue result (λ value from to. line_of self.now head.now ≡ LineKind.Value
+            (found_at self.now.reader.form head.now (date_and_time value) from to)) }
+        ensures value { IfValue result (λ value from to. value_of self.now.reader head.now
+            (found_at self.now.reader.form head.now (date_and_time value) from to)
+            ≡ Ok (date_and_time value, to)) }
+        ensures within { IfValue result (λ value from to. IsWithin
+            (found_at self.now.reader.form head.now (date_and_time value) from to) head.now) }
+        ensures undated { IfUndated result (λ place. line_of self.now head.now
+            ≡ LineKind.Undated) }
     {
         if self.is_stopped() || self.is_at_header() {
-            return None;
+            return Glance::Unknown;
         }
-        let (found, value) = self.reader.value(head)?;
-        if !self.offsets.fits(&found) {
-            return None;
+        let may_be_undated = self.undated_lines != UndatedLines::Bad;
+        match self.reader.glance(head) {
+            Glance::Value(value, from, to) if self.offsets.fits(value.time.tz_offset) => {
+                Glance::Value(value, from, to)
+            }
+            Glance::Undated(place) if may_be_undated => Glance::Undated(place),
+            _ => Glance::Unknown,
         }
-        Some((found, value))
     }
 
     /// What a line is, by its head, and its value, if it has one, without a first look at what the library reads at
@@ -377,21 +387,6 @@ impl Scan<'_> {
         (self.judged(reading, head), value)
     }
 
-    /// Whether a line has no value, by its head, if that is known without a search; `false` says nothing of the line.
-    #[inline(always)]
-    #[tactic(auto, unfolding(crate::specs::Scan::line_of, crate::specs::Reading::read))]
-    pub fn is_undated(&self, head: &[u8]) -> bool
-        ensures undated { IsTrue result → line_of self.now head.now ≡ LineKind.Undated }
-    {
-        if self.is_stopped() || self.is_at_header() || self.undated_lines == UndatedLines::Bad {
-            return false;
-        }
-        match self.reader.place {
-            Place::Front => front_claim(self.reader.form, head).is_err(),
-            Place::After(_) | Place::Field(_) => false,
-        }
-    }
-
     /// Whether the next line is the header of its file.
     fn is_at_header(&self) -> bool
         ensures header { result ≡ (self.now.has_header && (self.now.number == 0)) }
@@ -399,27 +394,25 @@ impl Scan<'_> {
         self.has_header && self.number == 0
     }
 
-    /// What is bad about a line, by its head, if something is, where all values fit.
+    /// What is bad about a line, by its head, if something is.
     #[inline(always)]
-    #[tactic(auto, unfolding(crate::specs::Scan::line_of))]
     pub fn what_is_bad(&self, head: &[u8]) -> Option<Bad>
-        requires fits { self.now.offsets ≡ Offsets.Any }
         ensures bad { result ≡ bad_of (line_of self.now head.now) }
     {
-        if self.is_stopped() || self.is_at_header() {
-            return None;
+        match self.glance(head) {
+            Glance::Value(_, _, _) | Glance::Undated(_) => None,
+            Glance::Unknown => self.any_bad(head),
         }
-        match self.reader.verdict(head) {
-            Verdict::Value => None,
-            Verdict::Bad(bad) => Some(bad),
-            Verdict::Undated(place) => {
-                if self.undated_lines == UndatedLines::Bad {
-                    let why = Why::Undated(self.reader.form);
-                    Some(Bad { place, why })
-                } else {
-                    None
-                }
-            }
+    }
+
+    /// The same, without a first look at what is known at a glance.
+    #[inline(never)]
+    fn any_bad(&self, head: &[u8]) -> Option<Bad>
+        ensures bad { result ≡ bad_of (line_of self.now head.now) }
+    {
+        match self.any_line(head).0 {
+            LineKind::Bad(bad) => Some(bad),
+            _ => None,
         }
     }
 
@@ -432,7 +425,7 @@ impl Scan<'_> {
     {
         match reading {
             Reading::Value(found) => {
-                if self.offsets.fits(&found) {
+                if self.offsets.fits(found.offset) {
                     return LineKind::Value(found);
                 }
                 match self.offsets {

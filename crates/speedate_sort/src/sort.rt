@@ -16,7 +16,7 @@ ghost use Rattle.speedate_scan.specs.Scan.{line_of, passed};
 ghost use Rattle.speedate_stream.specs.Run.{AppendsBeginning, OnlyWrites, Writes};
 
 use speedate::line_end;
-use speedate_scan::reading::{Found, seen};
+use speedate_scan::reading::{Found, Glance, seen};
 use speedate_scan::scan::{LineKind, Scan};
 use speedate_stream::run::{head, pass, send};
 use speedate_stream::{Failed, Pending, Watched};
@@ -98,10 +98,13 @@ impl Keys<'_> {
         ensures after { self.new ≡ key_after self.old line.now }
     {
         let head = head(line);
-        match self.scan.value(head) {
-            Some((found, _)) => Some(self.pass_value(&found)),
-            None if self.scan.is_undated(head) => self.pass_line(LineKind::Undated),
-            None => self.pass_any(head),
+        match self.scan.glance(head) {
+            Glance::Value(value, from, to) => {
+                let found = self.scan.reader.found(head, &value, from, to);
+                Some(self.pass_value(&found))
+            }
+            Glance::Undated(_) => self.pass_line(LineKind::Undated),
+            Glance::Unknown => self.pass_any(head),
         }
     }
 
