@@ -175,9 +175,9 @@ impl LineMachine for Between<'_> {
     }
 
     fn step(&mut self, head: &[u8], pending: &mut Pending) -> Option<usize> {
-        match self.scan.glance(head) {
+        match &self.scan.glance(head) {
             Glance::Value(value, from, to) => {
-                let found = self.scan.reader.found(head, &value, from, to);
+                let found = self.scan.reader.found(head, value, *from, *to);
                 self.pass_value(&found, pending)
             }
             Glance::Undated(_) => self.pass_line(LineKind::Undated, pending),

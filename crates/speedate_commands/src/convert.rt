@@ -320,10 +320,10 @@ impl LineMachine for Convert<'_> {
     }
 
     fn step(&mut self, head: &[u8], pending: &mut Pending) -> Option<usize> {
-        match self.scan.glance(head) {
+        match &self.scan.glance(head) {
             Glance::Value(value, from, to) => {
-                let found = self.scan.reader.found(head, &value, from, to);
-                match self.written(head, &found, value) {
+                let found = self.scan.reader.found(head, value, *from, *to);
+                match self.written(head, &found, *value) {
                     Some(value) => self.pass_value(head, &found, &value, pending),
                     None => self.pass_any(head, pending),
                 }

@@ -353,9 +353,9 @@ impl LineMachine for Summary<'_> {
     }
 
     fn step(&mut self, head: &[u8], _pending: &mut Pending) -> Option<usize> {
-        match self.order.scan.glance(head) {
+        match &self.order.scan.glance(head) {
             Glance::Value(value, from, to) => {
-                let found = self.order.scan.reader.found(head, &value, from, to);
+                let found = self.order.scan.reader.found(head, value, *from, *to);
                 self.add_value(&found);
             }
             Glance::Undated(_) => self.add(LineKind::Undated),

@@ -22,7 +22,7 @@ use crate::field::{Field, NthField, first_bytes};
 use crate::form::Form;
 use crate::fraction::value_past_microsecond;
 use crate::zone::is_boundary;
-use speedate::{DateTime, MicrosecondsPrecisionOverflowBehavior, ParseError, Refused};
+use speedate::{DateTime, MicrosecondsPrecisionOverflowBehavior, ParseError, Refused, Time};
 use speedate_base::numbers::byte_at;
 use speedate_stream::SEEN_MAX;
 
@@ -221,7 +221,24 @@ pub fn assume(offset: Option<i32>, value: DateTime) -> DateTime
     if value.time.tz_offset.is_some() || offset.is_none() {
         return value;
     }
-    assume_offset(offset, value)
+    taken_apart(&assume_offset(offset, value))
+}
+
+/// A value field by field: what a function returns stays in memory, and with it each value that may be returned in its
+/// place.
+#[inline(always)]
+fn taken_apart(value: &DateTime) -> DateTime
+    ensures same { date_and_time result ≡ date_and_time value.now }
+{
+    let time = Time {
+        hour: value.time.hour,
+        minute: value.time.minute,
+        second: value.time.second,
+        microsecond: value.time.microsecond,
+        tz_offset: value.time.tz_offset,
+    };
+    let date = value.date;
+    DateTime { date, time }
 }
 
 /// The same for a value without an offset.
@@ -317,8 +334,8 @@ impl Reader<'_> {
         ensures read { result ≡ read self.now head.now }
         ensures within { IsReadWithin result head.now }
     {
-        match self.glance(head) {
-            Glance::Value(value, from, to) => Reading::Value(self.found(head, &value, from, to)),
+        match &self.glance(head) {
+            Glance::Value(value, from, to) => Reading::Value(self.found(head, value, *from, *to)),
             _ => self.parse(head).0,
         }
     }

@@ -199,15 +199,14 @@ impl LineKind {
 }
 
 impl Offsets {
-    /// Whether a value with this offset fits.
-    fn fits(self, offset: Option<i32>) -> bool
-        ensures fits { (found : Found) → found.offset ≡ offset → result ≡ fits self found }
+    /// Whether a value fits that has an offset, or has none.
+    fn fits(self, is_zoned: bool) -> bool
+        ensures fits { (found : Found) → is_some found.offset ≡ is_zoned
+            → result ≡ fits self found }
     {
         match self {
             Offsets::Any | Offsets::AsFirst => true,
-            Offsets::Only(has_offset) | Offsets::AsBounds(has_offset) => {
-                offset.is_some() == has_offset
-            }
+            Offsets::Only(has_offset) | Offsets::AsBounds(has_offset) => { is_zoned == has_offset }
         }
     }
 
@@ -331,9 +330,9 @@ impl Scan<'_> {
         ensures line { result ≡ line_of self.now head.now }
         ensures within { IsFoundWithin result head.now }
     {
-        match self.glance(head) {
+        match &self.glance(head) {
             Glance::Value(value, from, to) => {
-                LineKind::Value(self.reader.found(head, &value, from, to))
+                LineKind::Value(self.reader.found(head, value, *from, *to))
             }
             _ => self.any_line(head).0,
         }
@@ -357,14 +356,13 @@ impl Scan<'_> {
         if self.is_stopped() || self.is_at_header() {
             return Glance::Unknown;
         }
-        let may_be_undated = self.undated_lines != UndatedLines::Bad;
-        match self.reader.glance(head) {
-            Glance::Value(value, from, to) if self.offsets.fits(value.time.tz_offset) => {
-                Glance::Value(value, from, to)
-            }
-            Glance::Undated(place) if may_be_undated => Glance::Undated(place),
-            _ => Glance::Unknown,
-        }
+        let glance = self.reader.glance(head);
+        let is_known = match &glance {
+            Glance::Value(value, _, _) => self.offsets.fits(value.time.tz_offset.is_some()),
+            Glance::Undated(_) => self.undated_lines != UndatedLines::Bad,
+            Glance::Unknown => false,
+        };
+        if is_known { glance } else { Glance::Unknown }
     }
 
     /// What a line is, by its head, and its value, if it has one, without a first look at what the library reads at
@@ -425,7 +423,7 @@ impl Scan<'_> {
     {
         match reading {
             Reading::Value(found) => {
-                if self.offsets.fits(found.offset) {
+                if self.offsets.fits(found.offset.is_some()) {
                     return LineKind::Value(found);
                 }
                 match self.offsets {

@@ -98,9 +98,9 @@ impl Keys<'_> {
         ensures after { self.new ≡ key_after self.old line.now }
     {
         let head = head(line);
-        match self.scan.glance(head) {
+        match &self.scan.glance(head) {
             Glance::Value(value, from, to) => {
-                let found = self.scan.reader.found(head, &value, from, to);
+                let found = self.scan.reader.found(head, value, *from, *to);
                 Some(self.pass_value(&found))
             }
             Glance::Undated(_) => self.pass_line(LineKind::Undated),
