@@ -224,6 +224,19 @@ pub fn assume(offset: Option<i32>, value: DateTime) -> DateTime
     taken_apart(&assume_offset(offset, value))
 }
 
+/// The same for a value without an offset.
+#[inline(never)]
+#[tactic(auto, unfolding(crate::specs::Reading::assumed))]
+fn assume_offset(offset: Option<i32>, value: DateTime) -> DateTime
+    requires without { value.time.tz_offset ≡ None }
+    ensures assumed { date_and_time result ≡ assumed offset (date_and_time value) }
+{
+    match value.with_timezone_offset(offset) {
+        Ok(with_offset) => with_offset,
+        Err(_) => value,
+    }
+}
+
 /// A value field by field: what a function returns stays in memory, and with it each value that may be returned in its
 /// place.
 #[inline(always)]
@@ -239,19 +252,6 @@ fn taken_apart(value: &DateTime) -> DateTime
     };
     let date = value.date;
     DateTime { date, time }
-}
-
-/// The same for a value without an offset.
-#[inline(never)]
-#[tactic(auto, unfolding(crate::specs::Reading::assumed))]
-fn assume_offset(offset: Option<i32>, value: DateTime) -> DateTime
-    requires without { value.time.tz_offset ≡ None }
-    ensures assumed { date_and_time result ≡ assumed offset (date_and_time value) }
-{
-    match value.with_timezone_offset(offset) {
-        Ok(with_offset) => with_offset,
-        Err(_) => value,
-    }
 }
 
 /// A value that was found from one byte of a line up to another, by the head of the line.
