@@ -1,5 +1,6 @@
 -- The first place at which a word stands in a text.
-use Rattle.std.proofs.Common.{◌≡◌, ◌∙◌, ℕ, ◌+◌, ◌-◌, ◌<◌, ◌≤◌, List, [], ◌∷◌, length, take, drop, true, false, Option, Some, None, refl, ap, sym, add-one, arith, get_or, drop-cons}
+use Rattle.std.proofs.Common.{◌≡◌, ◌∙◌, ℕ, zero, suc, ◌+◌, ◌-◌, ◌<◌, ◌≤◌, ◌==◌, List, [], ◌∷◌, length, take, drop, not, Bool, true, false, Option, Some, None, refl, ap, sym, add-one, arith, rules, get_or, drop-cons}
+use Rattle.std.specs.List.{prefix_len}
 use Rattle.std.proofs.lemmas.List.{drop_all, take_rest}
 use Rattle.speedate_scan.specs.Reading.{Wanted, begins_claim, claim_after, moved_place}
 
@@ -83,3 +84,59 @@ pub search_fails : (wanted : Wanted) (word text : List ℕ) (place : ℕ)
 search_fails wanted word text place searched ended =
     sym (searched.found ∙ ap (λ (l : List ℕ). moved_place place (claim_after wanted word l))
     (drop_all place text ended) ∙ ap (moved_place place) (nothing_at_end wanted word))
+
+-- how many of the first bytes of a text come before the first that is this one
+abbrev pub before : ℕ → ℕ → List ℕ → ℕ
+before byte count text = prefix_len (λ other. not (other == byte)) (take count text)
+
+-- a word whose first byte is another begins no text
+other_begins_no : (wanted : Wanted) (first byte : ℕ) (rest bytes : List ℕ)
+    → (byte == first) ≡ false
+    → begins_claim wanted (first ∷ rest) (byte ∷ bytes) ≡ false
+other_begins_no wanted first byte rest bytes other = search rules
+
+one_byte_further : (place : ℕ) (found : Option ℕ)
+    → moved_place 1 (moved_place place found) ≡ moved_place (suc place) found
+one_byte_further place None = refl
+one_byte_further place (Some p) = ap Some (omega arith)
+
+suc_of : (n : ℕ) → 1 + n ≡ suc n
+suc_of n = omega arith
+
+passes_one : (wanted : Wanted) (first byte : ℕ) (rest bytes : List ℕ) (count : ℕ) (same : Bool)
+    → (byte == first) ≡ same
+    → claim_after wanted (first ∷ rest) bytes
+    ≡ moved_place (before first count bytes)
+    (claim_after wanted (first ∷ rest) (drop (before first count bytes) bytes))
+    → claim_after wanted (first ∷ rest) (byte ∷ bytes)
+    ≡ moved_place (before first (suc count) (byte ∷ bytes))
+    (claim_after wanted (first ∷ rest) (drop (before first (suc count) (byte ∷ bytes)) (byte ∷ bytes)))
+passes_one wanted first byte rest bytes count true is later =
+    rw is (nothing_passed (claim_after wanted (first ∷ rest) (byte ∷ bytes)))
+passes_one wanted first byte rest bytes count false is later =
+    rw (is, suc_of (before first count bytes))
+    (word_later wanted (first ∷ rest) (byte ∷ bytes) bytes byte refl
+    (other_begins_no wanted first byte rest bytes is)
+    ∙ ap (moved_place 1) later
+    ∙ one_byte_further (before first count bytes)
+    (claim_after wanted (first ∷ rest) (drop (before first count bytes) bytes)))
+
+-- a search passes the bytes that are not the word's first
+pub search_passes : (wanted : Wanted) (first : ℕ) (rest : List ℕ) (count : ℕ) (text : List ℕ)
+    → claim_after wanted (first ∷ rest) text
+    ≡ moved_place (before first count text)
+    (claim_after wanted (first ∷ rest) (drop (before first count text) text))
+search_passes wanted first rest zero text = nothing_passed (claim_after wanted (first ∷ rest) text)
+search_passes wanted first rest (suc count) [] =
+    nothing_passed (claim_after wanted (first ∷ rest) [])
+search_passes wanted first rest (suc count) (byte ∷ bytes) =
+    passes_one wanted first byte rest bytes count (byte == first) refl
+    (search_passes wanted first rest count bytes)
+
+-- the same, for a word that is not empty
+pub word_passes : (wanted : Wanted) (word : List ℕ) (count : ℕ) (text : List ℕ) → 1 ≤ length word
+    → claim_after wanted word text
+    ≡ moved_place (before (get_or word 0 0) count text)
+    (claim_after wanted word (drop (before (get_or word 0 0) count text) text))
+word_passes wanted [] count text some = absurd (omega arith)
+word_passes wanted (first ∷ rest) count text some = search_passes wanted first rest count text

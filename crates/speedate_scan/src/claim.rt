@@ -1,10 +1,12 @@
 //! Where the value of a line begins.
 
-ghost use Rattle.std.specs.Prelude.{◌≡◌, ◌+◌, ◌≤◌, IfErr, IfOk, IfSome, IsTrue, false, length};
+ghost use Rattle.std.specs.Prelude.{◌≡◌, ◌+◌, ◌≤◌, ◌==◌, IfErr, IfOk, IfSome, IsTrue, drop, false, length, map, not, take};
+ghost use Rattle.std.specs.List.{prefix_len};
+ghost use Rattle.std.specs.Simd.Lanes.{mask_l};
 ghost use Rattle.speedate_scan.specs.Reading.{IsReadWithin, IsWithoutValue, after_claim, begins_claim};
 ghost use Rattle.speedate_scan.specs.Reading.{claim_after, claims, claims_date, claims_duration};
 ghost use Rattle.speedate_scan.specs.Reading.{claims_wanted, field_claims, front_claim};
-ghost use Rattle.speedate_scan.specs.Reading.{length_before_value, seen, without_claim};
+ghost use Rattle.speedate_scan.specs.Reading.{Wanted, length_before_value, moved_place, seen, without_claim};
 ghost use Rattle.speedate_scan.specs.Zone.{begins_with};
 
 use crate::field::{BYTE_ORDER_MARK, mark_length};
@@ -137,6 +139,40 @@ fn begins_claim(wanted: Wanted, word: &[u8], text: &[u8]) -> bool
     begins_with(word, text) && claims_wanted(wanted, &text[word.len()..])
 }
 
+/// Bit k says whether lane k is this byte.
+#[inline(always)]
+fn equal_lanes(lanes: u8x16, byte: u8) -> u64
+    ensures marks { result ≡ mask_l (map (λ lane. lane == byte) lanes) }
+{
+    lanes.simd_eq(u8x16::splat(byte)).to_bitmask()
+}
+
+/// How many of the first sixteen bytes of a text come before the first that is this one: 16 if none is.
+#[inline(always)]
+fn bytes_before(byte: u8, text: &[u8]) -> usize
+    requires long { 16 ≤ length text.now }
+    ensures before { result ≡ prefix_len (λ other. not (other == byte)) (take 16 text.now) }
+{
+    let marks = equal_lanes(u8x16::from_slice(text), byte);
+    if marks == 0 {
+        return 16;
+    }
+    marks.trailing_zeros() as usize
+}
+
+/// How many bytes at the front of a text are passed at once, since no word begins at them.
+#[inline(always)]
+fn passed(word: &[u8], text: &[u8]) -> usize
+    ensures passed { (wanted : Wanted) → claim_after wanted word.now text.now
+        ≡ moved_place result (claim_after wanted word.now (drop result text.now)) }
+    ensures within { result ≤ length text.now }
+{
+    match word {
+        [first, ..] if text.len() >= 16 => bytes_before(*first, text),
+        _ => 0,
+    }
+}
+
 /// The byte after the first place of a word in a text at which what follows claims to be what is wanted.
 pub fn claim_after(wanted: Wanted, word: &[u8], text: &[u8]) -> Option<usize>
     ensures end { result ≡ claim_after wanted word.now text.now }
@@ -144,6 +180,11 @@ pub fn claim_after(wanted: Wanted, word: &[u8], text: &[u8]) -> Option<usize>
 {
     let mut place = 0;
     while place < text.len() {
+        let passed = passed(word, &text[place..]);
+        if passed > 0 {
+            place += passed;
+            continue;
+        }
         if begins_claim(wanted, word, &text[place..]) {
             return Some(place + word.len());
         }
