@@ -110,7 +110,8 @@ passes_one : (wanted : Wanted) (first byte : ℕ) (rest bytes : List ℕ) (count
     (claim_after wanted (first ∷ rest) (drop (before first count bytes) bytes))
     → claim_after wanted (first ∷ rest) (byte ∷ bytes)
     ≡ moved_place (before first (suc count) (byte ∷ bytes))
-    (claim_after wanted (first ∷ rest) (drop (before first (suc count) (byte ∷ bytes)) (byte ∷ bytes)))
+    (claim_after wanted (first ∷ rest)
+    (drop (before first (suc count) (byte ∷ bytes)) (byte ∷ bytes)))
 passes_one wanted first byte rest bytes count true is later =
     rw is (nothing_passed (claim_after wanted (first ∷ rest) (byte ∷ bytes)))
 passes_one wanted first byte rest bytes count false is later =
