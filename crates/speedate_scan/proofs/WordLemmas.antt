@@ -1,7 +1,7 @@
 -- The first place at which a word stands in a text.
 use Rattle.std.proofs.Common.{◌≡◌, ◌∙◌, ℕ, zero, suc, ◌+◌, ◌-◌, ◌<◌, ◌≤◌, ◌==◌, List, [], ◌∷◌, length, take, drop, not, Bool, true, false, Option, Some, None, refl, ap, sym, add-one, arith, rules, get_or, drop-cons}
 use Rattle.std.specs.List.{prefix_len}
-use Rattle.std.proofs.lemmas.List.{drop_all, take_rest}
+use Rattle.std.proofs.lemmas.List.{drop-drop, drop_all, length-drop, take_rest}
 use Rattle.speedate_scan.specs.Reading.{Wanted, begins_claim, claim_after, moved_place}
 
 -- no place before a byte of a text is the word's, so that what is found is found from there on
@@ -141,3 +141,27 @@ pub word_passes : (wanted : Wanted) (word : List ℕ) (count : ℕ) (text : List
     (claim_after wanted word (drop (before (get_or word 0 0) count text) text))
 word_passes wanted [] count text some = absurd (omega arith)
 word_passes wanted (first ∷ rest) count text some = search_passes wanted first rest count text
+
+place_after : (one other : ℕ) (found : Option ℕ)
+    → moved_place one (moved_place other found) ≡ moved_place (one + other) found
+place_after one other None = refl
+place_after one other (Some p) = ap Some (omega arith)
+
+-- a search goes on after bytes that were passed
+pub search_skips : (wanted : Wanted) (word text : List ℕ) (place passed : ℕ)
+    → IsSearchedUpTo wanted word text place
+    → passed ≤ length (take (length text - place) (drop place text))
+    → claim_after wanted word (take (length text - place) (drop place text))
+    ≡ moved_place passed
+    (claim_after wanted word (drop passed (take (length text - place) (drop place text))))
+    → IsSearchedUpTo wanted word text (place + passed)
+search_skips wanted word text place passed searched short skips =
+    let found = rw take_rest at skips in
+    let less : passed ≤ length (drop place text) = rw take_rest at short in
+    record {
+      within = omega (arith, length-drop place text, searched.within);
+      found = searched.found ∙ ap (moved_place place) found
+          ∙ place_after place passed (claim_after wanted word (drop passed (drop place text)))
+          ∙ ap (λ (l : List ℕ). moved_place (place + passed) (claim_after wanted word l))
+          (drop-drop passed place text);
+    }

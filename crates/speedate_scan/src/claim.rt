@@ -64,9 +64,10 @@ fn begins_with(word: &[u8], text: &[u8]) -> bool
     ensures begins { result ≡ begins_with word.now text.now }
     ensures there { IsTrue result → length word.now ≤ length text.now }
 {
-    // Most texts differ from the word in their first byte.
+    // Most texts differ from the word in their first two bytes.
     match (word, text) {
         ([first, ..], [byte, ..]) if first != byte => false,
+        ([_, second, ..], [_, byte, ..]) if second != byte => false,
         _ => text.starts_with(word),
     }
 }
@@ -180,10 +181,9 @@ pub fn claim_after(wanted: Wanted, word: &[u8], text: &[u8]) -> Option<usize>
 {
     let mut place = 0;
     while place < text.len() {
-        let passed = passed(word, &text[place..]);
-        if passed > 0 {
-            place += passed;
-            continue;
+        place += passed(word, &text[place..]);
+        if place == text.len() {
+            return None;
         }
         if begins_claim(wanted, word, &text[place..]) {
             return Some(place + word.len());
