@@ -4,7 +4,7 @@ ghost use Rattle.std.specs.Prelude.{◌≡◌};
 
 use crate::reason::Reason;
 use speedate_commands::status::are_one;
-use std::fs::{self, File};
+use std::fs::{self, File, OpenOptions};
 use std::io::{self, ErrorKind, Read, Seek, SeekFrom, Stdin};
 use std::os::unix::fs::MetadataExt;
 
@@ -34,6 +34,15 @@ impl Seek for Input {
             Input::File(input) => input.seek(place),
         }
     }
+}
+
+/// Opens something that cannot be read in place of standard input, if that is closed: the first file that is opened would
+/// be standard input, too.
+pub fn hold_input(rt: &HostRuntime) -> Option<File> {
+    if fs::metadata(rt, "/dev/stdin").is_ok() {
+        return None;
+    }
+    OpenOptions::new().write(true).open(rt, "/dev/null").ok()
 }
 
 /// Opens a file, or tells why it cannot be read.

@@ -92,11 +92,6 @@ window-read (Some text) at end count size buffer rest is_read within room whole 
 
 -- A block of a text.
 
-block_size : (text block : List ℕ) (place n : ℕ) → block ≡ take n (drop place text)
-    → place ≤ length text → place + length block ≤ length text
-block_size text block place n is within =
-    omega (arith, ap length is, length-take n (drop place text), length-drop place text, within)
-
 block_short : (text block : List ℕ) (place n k : ℕ) → block ≡ take n (drop place text)
     → k < length block → place + k < length text
 block_short text block place n k is inside =

@@ -1,8 +1,16 @@
 -- The first place at which a word stands in a text.
-use Rattle.std.proofs.Common.{◌≡◌, ◌∙◌, ℕ, zero, suc, ◌+◌, ◌-◌, ◌<◌, ◌≤◌, ◌==◌, List, [], ◌∷◌, length, take, drop, not, Bool, true, false, Option, Some, None, refl, ap, sym, add-one, arith, rules, get_or, drop-cons}
-use Rattle.std.specs.List.{prefix_len}
-use Rattle.std.proofs.lemmas.List.{drop-drop, drop_all, length-drop, take_rest}
+use Rattle.std.proofs.Common.{◌≡◌, ◌∙◌, ℕ, zero, suc, ◌+◌, ◌-◌, ◌<◌, ◌≤◌, ◌==◌, List, [], ◌∷◌, length, take, drop, map, min, cond, w64, ◌^◌, Bool, true, false, Option, Some, None, refl, ap, sym, add-one, arith, rules, get_or, drop-cons}
+use Rattle.std.specs.Int.{bit_at}
+use Rattle.std.specs.Int.Bits.{bit_and}
+use Rattle.std.specs.Int.Count.{count_trailing_zeros}
+use Rattle.std.specs.Simd.Lanes.{mask_l}
+use Rattle.std.proofs.lemmas.List.{drop-drop, drop_all, get_or-map, get_or-take}
+use Rattle.std.proofs.lemmas.List.{length-drop, length-take-le, take_rest}
+use Rattle.std.proofs.lemmas.Grind.{get_or_after_one}
+use Rattle.std.proofs.lemmas.Simd.{bit_mask_l}
+use Rattle.std.proofs.lemmas.Nat.Bits.{bit_at_and, bit_at-trailing_zeros, bit_at-zero}
 use Rattle.speedate_scan.specs.Reading.{Wanted, begins_claim, claim_after, moved_place}
+use Rattle.speedate_scan.specs.Zone.{begins_with}
 
 -- no place before a byte of a text is the word's, so that what is found is found from there on
 pub record IsSearchedUpTo (wanted : Wanted) (word text : List ℕ) (place : ℕ) : Type 0 where
@@ -85,62 +93,90 @@ search_fails wanted word text place searched ended =
     sym (searched.found ∙ ap (λ (l : List ℕ). moved_place place (claim_after wanted word l))
     (drop_all place text ended) ∙ ap (moved_place place) (nothing_at_end wanted word))
 
--- how many of the first bytes of a text come before the first that is this one
-abbrev pub before : ℕ → ℕ → List ℕ → ℕ
-before byte count text = prefix_len (λ other. not (other == byte)) (take count text)
-
--- a word whose first byte is another begins no text
-other_begins_no : (wanted : Wanted) (first byte : ℕ) (rest bytes : List ℕ)
-    → (byte == first) ≡ false
-    → begins_claim wanted (first ∷ rest) (byte ∷ bytes) ≡ false
-other_begins_no wanted first byte rest bytes other = search rules
-
 one_byte_further : (place : ℕ) (found : Option ℕ)
     → moved_place 1 (moved_place place found) ≡ moved_place (suc place) found
 one_byte_further place None = refl
 one_byte_further place (Some p) = ap Some (omega arith)
 
-suc_of : (n : ℕ) → 1 + n ≡ suc n
-suc_of n = omega arith
+no_claim : (wanted : Wanted) (word text : List ℕ) → begins_with word text ≡ false
+    → begins_claim wanted word text ≡ false
+no_claim wanted word text other = rw other refl
 
-passes_one : (wanted : Wanted) (first byte : ℕ) (rest bytes : List ℕ) (count : ℕ) (same : Bool)
-    → (byte == first) ≡ same
-    → claim_after wanted (first ∷ rest) bytes
-    ≡ moved_place (before first count bytes)
-    (claim_after wanted (first ∷ rest) (drop (before first count bytes) bytes))
-    → claim_after wanted (first ∷ rest) (byte ∷ bytes)
-    ≡ moved_place (before first (suc count) (byte ∷ bytes))
-    (claim_after wanted (first ∷ rest)
-    (drop (before first (suc count) (byte ∷ bytes)) (byte ∷ bytes)))
-passes_one wanted first byte rest bytes count true is later =
-    rw is (nothing_passed (claim_after wanted (first ∷ rest) (byte ∷ bytes)))
-passes_one wanted first byte rest bytes count false is later =
-    rw (is, suc_of (before first count bytes))
-    (word_later wanted (first ∷ rest) (byte ∷ bytes) bytes byte refl
-    (other_begins_no wanted first byte rest bytes is)
+-- a search passes places at which the word does not begin
+pub search_passes : (wanted : Wanted) (word text : List ℕ) (count : ℕ) → count ≤ length text
+    → ((k : ℕ) → k < count → begins_with word (drop k text) ≡ false)
+    → claim_after wanted word text ≡ moved_place count (claim_after wanted word (drop count text))
+search_passes wanted word text zero short others =
+    nothing_passed (claim_after wanted word text)
+search_passes wanted word [] (suc count) short others = absurd (omega arith)
+search_passes wanted word (byte ∷ bytes) (suc count) short others =
+    let later = search_passes wanted word bytes count (omega arith)
+    (λ (k : ℕ) (less : k < count). others (suc k) (omega arith)) in
+    word_later wanted word (byte ∷ bytes) bytes byte refl
+    (no_claim wanted word (byte ∷ bytes) (others 0 (omega arith)))
     ∙ ap (moved_place 1) later
-    ∙ one_byte_further (before first count bytes)
-    (claim_after wanted (first ∷ rest) (drop (before first count bytes) bytes)))
+    ∙ one_byte_further count (claim_after wanted word (drop count bytes))
 
--- a search passes the bytes that are not the word's first
-pub search_passes : (wanted : Wanted) (first : ℕ) (rest : List ℕ) (count : ℕ) (text : List ℕ)
-    → claim_after wanted (first ∷ rest) text
-    ≡ moved_place (before first count text)
-    (claim_after wanted (first ∷ rest) (drop (before first count text) text))
-search_passes wanted first rest zero text = nothing_passed (claim_after wanted (first ∷ rest) text)
-search_passes wanted first rest (suc count) [] =
-    nothing_passed (claim_after wanted (first ∷ rest) [])
-search_passes wanted first rest (suc count) (byte ∷ bytes) =
-    passes_one wanted first byte rest bytes count (byte == first) refl
-    (search_passes wanted first rest count bytes)
+not_set : (test : Bool) (bit : ℕ) → bit ≡ cond test 1 0 → bit ≡ 0 → test ≡ false
+not_set true bit is none = absurd (omega (arith, is, none))
+not_set false bit is none = refl
 
--- the same, for a word that is not empty
-pub word_passes : (wanted : Wanted) (word : List ℕ) (count : ℕ) (text : List ℕ) → 1 ≤ length word
-    → claim_after wanted word text
-    ≡ moved_place (before (get_or word 0 0) count text)
-    (claim_after wanted word (drop (before (get_or word 0 0) count text) text))
-word_passes wanted [] count text some = absurd (omega arith)
-word_passes wanted (first ∷ rest) count text some = search_passes wanted first rest count text
+-- a byte of a text that is not marked is another
+pub other_byte : (byte : ℕ) (text : List ℕ) (k : ℕ) → k < 16 → 16 ≤ length text
+    → bit_at (mask_l (map (λ (lane : ℕ). lane == byte) (take 16 text))) k ≡ 0
+    → (get_or text k 0 == byte) ≡ false
+other_byte byte text k within long unmarked =
+    let test : ℕ → Bool = λ lane. lane == byte in
+    let lanes = take 16 text in
+    let many = length-take-le 16 text long in
+    let lane = get_or-map test lanes k 0 false (omega (arith, many)) in
+    let same = get_or-take 16 text k 0 within in
+    sym (ap test same) ∙ sym lane
+    ∙ not_set (get_or (map test lanes) k false) _ (bit_mask_l (map test lanes) k) unmarked
+
+next_byte : (text : List ℕ) (k : ℕ) → get_or (drop 1 text) k 0 ≡ get_or text (k + 1) 0
+next_byte text k = get_or_after_one text k 0 ∙ ap (λ (n : ℕ). get_or text n 0) (omega arith)
+
+-- the same of the byte after it, by the marks of the text after its first byte
+pub other_next : (byte : ℕ) (text : List ℕ) (k : ℕ) → k < 16 → 17 ≤ length text
+    → bit_at (mask_l (map (λ (lane : ℕ). lane == byte) (take 16 (drop 1 text)))) k ≡ 0
+    → (get_or text (k + 1) 0 == byte) ≡ false
+other_next byte text k within long unmarked =
+    ap (λ (n : ℕ). n == byte) (sym (next_byte text k))
+    ∙ other_byte byte (drop 1 text) k within (omega (arith, length-drop 1 text)) unmarked
+
+-- a word whose first byte is another does not begin there
+pub other_first : (word text : List ℕ) (k : ℕ) → 1 ≤ length word → k < length text
+    → (get_or text k 0 == get_or word 0 0) ≡ false → begins_with word (drop k text) ≡ false
+other_first [] text k some within other = absurd (omega arith)
+other_first (first ∷ rest) text k some within other = rw (parts_at text k within) (search rules)
+
+-- a word whose second byte is another does not begin before it
+pub other_second : (word text : List ℕ) (k : ℕ) → 2 ≤ length word → k + 1 < length text
+    → (get_or text (k + 1) 0 == get_or word 1 0) ≡ false → begins_with word (drop k text) ≡ false
+other_second [] text k two within other = absurd (omega arith)
+other_second (first ∷ []) text k two within other = absurd (omega arith)
+other_second (first ∷ second ∷ rest) text k two within other =
+    rw (parts_at text k (omega arith), parts_at text (k + 1) within) (search rules)
+
+least_zero : {X : Type 0} (one other : ℕ) → min one other ≡ 0 → (one ≡ 0 → X) → (other ≡ 0 → X) → X
+least_zero zero other is first second = first refl
+least_zero (suc one) zero is first second = second refl
+least_zero (suc one) (suc other) is first second = absurd (omega (arith, is))
+
+-- a bit that two numbers do not both have, one of them has not
+pub either_unset : {X : Type 0} (one other k : ℕ) → bit_at (bit_and one other) k ≡ 0
+    → (bit_at one k ≡ 0 → X) → (bit_at other k ≡ 0 → X) → X
+either_unset one other k unset first second =
+    least_zero (bit_at one k) (bit_at other k) (sym (bit_at_and one other k) ∙ unset) first second
+
+-- the bits below the lowest one are not set
+pub lower_bit : (marks k : ℕ) → marks < 2 ^ 64 → k < count_trailing_zeros 64 marks
+    → bit_at marks k ≡ 0
+lower_bit zero k small less = bit_at-zero k
+lower_bit (suc marks) k small less =
+    let lowest = bit_at-trailing_zeros w64 (suc marks) (omega arith) small in
+    lowest.2 k less
 
 place_after : (one other : ℕ) (found : Option ℕ)
     → moved_place one (moved_place other found) ≡ moved_place (one + other) found

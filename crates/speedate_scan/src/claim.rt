@@ -1,7 +1,7 @@
 //! Where the value of a line begins.
 
-ghost use Rattle.std.specs.Prelude.{◌≡◌, ◌+◌, ◌≤◌, ◌==◌, IfErr, IfOk, IfSome, IsTrue, drop, false, length, map, not, take};
-ghost use Rattle.std.specs.List.{prefix_len};
+ghost use Rattle.std.specs.Prelude.{◌≡◌, ◌+◌, ◌<◌, ◌≤◌, ◌==◌, ℕ, IfErr, IfOk, IfSome, IsTrue, drop, false, length, map};
+ghost use Rattle.std.specs.Int.{bit_at};
 ghost use Rattle.std.specs.Simd.Lanes.{mask_l};
 ghost use Rattle.speedate_scan.specs.Reading.{IsReadWithin, IsWithoutValue, after_claim, begins_claim};
 ghost use Rattle.speedate_scan.specs.Reading.{claim_after, claims, claims_date, claims_duration};
@@ -64,10 +64,9 @@ fn begins_with(word: &[u8], text: &[u8]) -> bool
     ensures begins { result ≡ begins_with word.now text.now }
     ensures there { IsTrue result → length word.now ≤ length text.now }
 {
-    // Most texts differ from the word in their first two bytes.
+    // Most texts differ from the word in their first byte.
     match (word, text) {
         ([first, ..], [byte, ..]) if first != byte => false,
-        ([_, second, ..], [_, byte, ..]) if second != byte => false,
         _ => text.starts_with(word),
     }
 }
@@ -148,17 +147,19 @@ fn equal_lanes(lanes: u8x16, byte: u8) -> u64
     lanes.simd_eq(u8x16::splat(byte)).to_bitmask()
 }
 
-/// How many of the first sixteen bytes of a text come before the first that is this one: 16 if none is.
+/// Bit k says whether byte k of a text is the first of a word, and the byte after it the word's second, if it has one.
 #[inline(always)]
-fn bytes_before(byte: u8, text: &[u8]) -> usize
-    requires long { 16 ≤ length text.now }
-    ensures before { result ≡ prefix_len (λ other. not (other == byte)) (take 16 text.now) }
+fn begins_at(word: &[u8], text: &[u8]) -> u64
+    requires some { 1 ≤ length word.now }
+    requires long { 17 ≤ length text.now }
+    ensures elsewhere { (k : ℕ) → k < 16 → bit_at result k ≡ 0
+        → begins_with word.now (drop k text.now) ≡ false }
 {
-    let marks = equal_lanes(u8x16::from_slice(text), byte);
-    if marks == 0 {
-        return 16;
+    let firsts = equal_lanes(u8x16::from_slice(text), word[0]);
+    if word.len() == 1 {
+        return firsts;
     }
-    marks.trailing_zeros() as usize
+    firsts & equal_lanes(u8x16::from_slice(&text[1..]), word[1])
 }
 
 /// How many bytes at the front of a text are passed at once, since no word begins at them.
@@ -168,10 +169,10 @@ fn passed(word: &[u8], text: &[u8]) -> usize
         ≡ moved_place result (claim_after wanted word.now (drop result text.now)) }
     ensures within { result ≤ length text.now }
 {
-    match word {
-        [first, ..] if text.len() >= 16 => bytes_before(*first, text),
-        _ => 0,
+    if word.is_empty() || text.len() < 17 {
+        return 0;
     }
+    begins_at(word, text).trailing_zeros().min(16) as usize
 }
 
 /// The byte after the first place of a word in a text at which what follows claims to be what is wanted.

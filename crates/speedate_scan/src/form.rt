@@ -18,7 +18,6 @@ ghost use Rattle.speedate_scan.specs.Reading.{relaxed_front, relaxed_whole, stri
 ghost use Rattle.speedate_scan.specs.Reading.{strict_whole, timestamp_front, timestamp_of};
 ghost use Rattle.speedate_scan.specs.Reading.{past_64_bits, timestamp_whole, whole_front, whole_of};
 
-use crate::claim::claims;
 use crate::timestamp::{has_number, number_length};
 use crate::zone::{late_zone, zone_front};
 use speedate::{
@@ -59,8 +58,8 @@ impl Form {
         usual_front(text)
     }
 
-    /// The value at the front of a text that claims to be one, and how many bytes it takes, if the library reads it at
-    /// once; `None` says nothing of the text.
+    /// The value at the front of a text, and how many bytes it takes, if the library reads it at once; `None` says nothing
+    /// of the text.
     #[inline(never)]
     pub fn accepted(
         self,
@@ -69,12 +68,8 @@ impl Form {
     ) -> Option<(DateTime, usize)>
         ensures front { IfSome result (λ front. front_of self behavior text.now
             ≡ Ok (with_size date_and_time front)) }
-        ensures claims { IfSome result (λ front. claims self text.now ≡ true) }
         ensures size { IfSome result (λ front. front.1 ≤ length text.now) }
     {
-        if !claims(self, text) {
-            return None;
-        }
         match self {
             Form::DateTime => accepted_front(text, behavior),
             _ => self.front(text, behavior).ok(),

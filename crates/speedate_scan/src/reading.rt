@@ -1,7 +1,8 @@
 //! What is read of a line.
 
-ghost use Rattle.std.specs.Prelude.{◌≡◌, ◌+◌, ◌-◌, ◌≤◌, IfErr, IfOk, IfSome, None, Ok, drop, false, length, true};
-ghost use Rattle.std.specs.Option.{option_map};
+ghost use Rattle.std.specs.Prelude.{◌≡◌, ◌+◌, ◌-◌, ◌≤◌, ◌||◌, IfErr, IfOk, IfSome, None, Ok, drop, false, if◌then◌else◌, is_some, length, not, true};
+ghost use Rattle.std.specs.Option.{ForSome, option_map, option_map_or};
+ghost use Rattle.speedate_base.specs.Offset.{IsOffset, is_offset};
 ghost use Rattle.speedate.specs.Requirement.{result_map, with_size};
 ghost use Rattle.speedate.specs.DateTime.{date_and_time};
 ghost use Rattle.speedate_scan.specs.Field.{IsFieldWithin};
@@ -23,6 +24,7 @@ use crate::form::Form;
 use crate::fraction::value_past_microsecond;
 use crate::zone::is_boundary;
 use speedate::{DateTime, MicrosecondsPrecisionOverflowBehavior, ParseError, Refused, Time};
+use speedate_base::config::require_offset;
 use speedate_base::numbers::byte_at;
 use speedate_stream::SEEN_MAX;
 
@@ -212,43 +214,34 @@ pub fn instant_of(form: Form, text: &[u8], value: &DateTime) -> i128
     i128::from(value.timestamp_tz_us()) * 1000 + i128::from(value_past_microsecond(form, text))
 }
 
+/// The offset of a value, or else the one that a value without an offset gets, if that is an offset.
+#[inline(always)]
+fn own_or_assumed(own: Option<i32>, assumed: Option<i32>) -> Option<i32>
+    requires own { ForSome own IsOffset }
+    ensures offset { result ≡ (if is_some own || not (option_map_or is_offset assumed true)
+        then own else assumed) }
+    ensures range { ForSome result IsOffset }
+{
+    if own.is_some() || require_offset(assumed).is_err() {
+        own
+    } else {
+        assumed
+    }
+}
+
 /// A value with the offset that one without gets, if it gets one.
 #[inline(always)]
 #[tactic(auto, unfolding(crate::specs::Reading::assumed))]
 pub fn assume(offset: Option<i32>, value: DateTime) -> DateTime
     ensures assumed { date_and_time result ≡ assumed offset (date_and_time value) }
 {
-    if value.time.tz_offset.is_some() || offset.is_none() {
-        return value;
-    }
-    taken_apart(&assume_offset(offset, value))
-}
-
-/// The same for a value without an offset.
-#[inline(never)]
-#[tactic(auto, unfolding(crate::specs::Reading::assumed))]
-fn assume_offset(offset: Option<i32>, value: DateTime) -> DateTime
-    requires without { value.time.tz_offset ≡ None }
-    ensures assumed { date_and_time result ≡ assumed offset (date_and_time value) }
-{
-    match value.with_timezone_offset(offset) {
-        Ok(with_offset) => with_offset,
-        Err(_) => value,
-    }
-}
-
-/// A value field by field: what a function returns stays in memory, and with it each value that may be returned in its
-/// place.
-#[inline(always)]
-fn taken_apart(value: &DateTime) -> DateTime
-    ensures same { date_and_time result ≡ date_and_time value.now }
-{
+    // Field by field: what a call returns stays in memory, and with it each value that may be returned in its place.
     let time = Time {
         hour: value.time.hour,
         minute: value.time.minute,
         second: value.time.second,
         microsecond: value.time.microsecond,
-        tz_offset: value.time.tz_offset,
+        tz_offset: own_or_assumed(value.time.tz_offset, offset),
     };
     let date = value.date;
     DateTime { date, time }

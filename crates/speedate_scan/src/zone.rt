@@ -28,8 +28,8 @@ pub fn is_boundary(rest: &[u8]) -> bool
     ensures boundary { result ≡ is_boundary rest.now }
 {
     let first = byte_at(rest, 0);
-    // Mostly the line ends, or a blank, a quote or a tab follows: bytes before all that are looked for below.
-    if first < b'+' {
+    // Mostly the line ends, or a blank, a quote, a tab or a bracket follows: none of them is looked for below.
+    if first < b'+' || first == b']' {
         return true;
     }
     is_boundary_byte(first, rest)

@@ -1,11 +1,11 @@
 -- Lines at places of a text, and lines added one by one.
-use Rattle.std.proofs.Common.{◌≡◌, ◌∙◌, ap, sym, subst, refl, ℕ, ℤ, ◌+◌, ◌-◌, ◌<◌, ◌≤◌, Bool, true, false, List, [], ◌∷◌, ◌++◌, length, take, drop, get_or, slice_index, ◌==◌, All, arith, append_assoc, append-nil, map, Option, Some, None, if◌then◌else◌, Result, Ok, Err, is_err, OnOk, OnErr}
+use Rattle.std.proofs.Common.{◌≡◌, ◌∙◌, ap, sym, refl, ℕ, ℤ, ◌+◌, ◌-◌, ◌<◌, ◌≤◌, Bool, true, false, List, [], ◌∷◌, ◌++◌, length, take, drop, get_or, slice_index, ◌==◌, All, arith, append_assoc, append-nil, map, Option, Some, None, if◌then◌else◌, Result, Ok, Err, is_err, OnOk, OnErr}
 use Rattle.std.proofs.lemmas.Bool.{eqb-true, false≢true, true≢false}
 use Rattle.std.proofs.lemmas.Grind.{take_at_read}
 use Rattle.std.specs.List.Sorted.{IsPermutation}
 use Rattle.std.proofs.lemmas.List.Sorted.{All-permutation}
 use Rattle.std.proofs.lemmas.List.{drop-append-le, take-append-le, length-drop, length-append, get_or-drop, drop_more, map-append, take-append-drop, take_all, take_rest, drop_all}
-use Rattle.std.proofs.lemmas.List.Elements.{All-head, All-tail, All-nil, All-cons}
+use Rattle.std.proofs.lemmas.List.Elements.{All-head, All-tail}
 use Rattle.speedate.specs.Ascii.{colon, line_feed}
 use Rattle.speedate.specs.Lines.{complete_lines, last_line, lines, unfinished_line}
 use Rattle.std.proofs.Math.Bool.{or-false}
@@ -43,15 +43,6 @@ lines_at-grown text more (place ∷ places) within =
     ∷ lines_at (text ++ more) places) (part-grown text more place.from place.to first.0 first.1)
     ∙ ap (λ (l : List Keyed). line_at text place ∷ l)
     (lines_at-grown text more places (All-tail (IsPlaced text) place places within))
-
-pub placed-grown : (text more : List ℕ) (places : List Place) → All (IsPlaced text) places
-    → All (IsPlaced (text ++ more)) places
-placed-grown text more [] within = All-nil (IsPlaced (text ++ more))
-placed-grown text more (place ∷ places) within =
-    let first = All-head (IsPlaced text) place places within in
-    All-cons (IsPlaced (text ++ more)) place places
-    (first.0, omega (arith, first.1, length-append text more))
-    (placed-grown text more places (All-tail (IsPlaced text) place places within))
 
 -- a line and the line feed after it
 pub part-ended : (text : List ℕ) (from end : ℕ) → from ≤ end → end < length text
@@ -250,12 +241,6 @@ pub lines_at-read : (old new : List ℕ) (places : List Place) → take (length 
 lines_at-read old new places begins within =
     ap (λ (text : List ℕ). lines_at text places) (read-after old new begins)
     ∙ lines_at-grown old (drop (length old) new) places within
-
-pub placed-read : (old new : List ℕ) (places : List Place) → take (length old) new ≡ old
-    → All (IsPlaced old) places → All (IsPlaced new) places
-placed-read old new places begins within =
-    subst (λ (text : List ℕ). All (IsPlaced text) places) (sym (read-after old new begins))
-    (placed-grown old (drop (length old) new) places within)
 
 -- what holds unless memory ran out, and it did not
 pub unread_part : {P : Type 0} (unread : Unread) → unread ≡ Unread.Read

@@ -94,18 +94,6 @@ pub ruleset writing = (
   or-false,
 )
 
--- what a call leaves that writes nothing
-pub OnlyWrites-none : {W A E : Type 0} {contents : W → Option (List ℕ)} (a : Watch W) (value : A)
-    (bytes : List ℕ) → OnlyWrites {E = E} contents a a (Ok value) bytes bytes
-OnlyWrites-none a value bytes = record {
-  writes = record {
-    failed = sym (or-false a.failed);
-    sent = AppendsBut-all _ bytes;
-    beginning = search rules;
-  };
-  unflushed = refl;
-}
-
 -- bytes wait after a call that had others to write
 pub OnlyWrites-more : {W A E : Type 0} {contents : W → Option (List ℕ)} {a b : Watch W} {value : A}
     {left bytes : List ℕ} (more : List ℕ) → OnlyWrites {E = E} contents a b (Ok value) left bytes
