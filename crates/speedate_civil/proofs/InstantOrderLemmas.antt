@@ -38,7 +38,8 @@ time_instant-order : (first second : TimeOfDay)
 time_instant-order first second = grind arith
 
 -- what clocks show of date-times is ordered as the dates, and then as the times
-date_time_instant-order : (first second : DateAndTime) → IsDateAndTime first → IsDateAndTime second
+pub date_time_instant-order : (first second : DateAndTime) → IsDateAndTime first
+    → IsDateAndTime second
     → on (date_time_instant false) instant_order first second
     ≡ ordering_then (date_order first.date second.date)
     (on (time_instant false) instant_order first.time second.time)
@@ -57,6 +58,33 @@ date_time_instant-order first second one two =
     ) in
     let dates = date_order-day_number first.date second.date one.date.day two.date.day in
     rw dates (grind (arith, ints, nat_tests))
+
+-- at one offset the instants in UTC are ordered as clocks show them
+date_time_instant-shifted : (first second : DateAndTime) → first.time.offset ≡ second.time.offset
+    → on (date_time_instant true) instant_order first second
+    ≡ on (date_time_instant false) instant_order first second
+date_time_instant-shifted first second same = rw same (grind (arith, ints))
+
+-- so clocks show the order of date-times at one offset, or of which one has none
+pub date_time_instant_order-clocks : (first second : DateAndTime)
+    → ((is_some first.time.offset && is_some second.time.offset) ≡ true
+    → first.time.offset ≡ second.time.offset)
+    → date_time_instant_order first second ≡ on (date_time_instant false) instant_order first second
+date_time_instant_order-clocks first second =
+    by (is_some first.time.offset && is_some second.time.offset)
+  where
+    by : (is_utc : Bool) → (is_utc ≡ true → first.time.offset ≡ second.time.offset)
+        → on (date_time_instant is_utc) instant_order first second
+        ≡ on (date_time_instant false) instant_order first second
+    by true same = date_time_instant-shifted first second (same refl)
+    by false same = refl
+
+-- and the instants in UTC that of others
+pub date_time_instant_order-instants : (first second : DateAndTime)
+    → (is_some first.time.offset && is_some second.time.offset) ≡ true
+    → date_time_instant_order first second ≡ on (date_time_instant true) instant_order first second
+date_time_instant_order-instants first second both =
+    ap (λ (is_utc : Bool). on (date_time_instant is_utc) instant_order first second) both
 
 -- two printed fractions are ordered as the microseconds
 fractions-order : (first second : ℕ) (one two : Bool) → (first == 0) ≡ one → (second == 0) ≡ two
