@@ -1,4 +1,5 @@
 mod ClockFormLemmas
+mod DayFormLemmas
 mod DurationAnswerLemmas
 mod DurationLemmas
 mod DurationPlaceLemmas

@@ -1,6 +1,6 @@
 -- A duration as days and a clock, `1 day, 10:20`. This form is the library's own. `text` begins
 -- with the days.
-use Rattle.std.specs.Prelude.{ℕ, ◌+◌, Bool, not, ◌||◌, List, [], ◌∷◌, codes, length, drop, slice_index, nat_eq, nat_le, nat_lt, ◌==◌, if◌then◌else◌, Result, Ok}
+use Rattle.std.specs.Prelude.{◌≡◌, ◌<◌, ◌≤◌, true, ℕ, ◌+◌, Bool, not, ◌||◌, List, [], ◌∷◌, codes, length, drop, slice_index, nat_eq, nat_le, nat_lt, ◌==◌, if◌then◌else◌, Result, Ok}
 use Rattle.speedate_civil.specs.Base.{Behavior, ParseError}
 use Rattle.std.specs.List.{list_any, starts_with}
 use Rattle.speedate_base.specs.Ascii.{capital_d, small_d}
@@ -85,3 +85,11 @@ unfoldable pub day_form_or : {E : Type 0} → (ParseError → ℕ → E) → Beh
 day_form_or refuse behavior text = do
   days ← days_front_or refuse text
   after_days_or (shifted days.1 refuse) behavior days.0 (drop days.1 text)
+
+-- a text is a number of days and the letter of a day
+pub record IsWholeDays (text : List ℕ) (days : ℕ) : Type 0 where
+  pub some : 0 < run_length text 0
+  pub last : run_length text 0 + 1 ≡ length text
+  pub letter : is_day_letter (slice_index text (run_length text 0)) ≡ true
+  pub value : days ≡ run_value text 0
+  pub few : days ≤ 4294967295

@@ -4,7 +4,7 @@ ghost use Rattle.std.specs.Prelude.{◌≡◌, ◌-◌, ◌^◌, ◌≤◌, ◌+
 ghost use Rattle.speedate_base.specs.Digits.{run_length, run_value};
 ghost use Rattle.speedate_base.specs.Requirement.{shifted};
 ghost use Rattle.speedate.specs.DayForm.{size_of_one, day_endings, gaps, has_whole_ending};
-ghost use Rattle.speedate.specs.DayForm.{is_day_letter, days_front_or, after_days_or, day_form_or};
+ghost use Rattle.speedate.specs.DayForm.{IsWholeDays, is_day_letter, days_front_or, after_days_or, day_form_or};
 
 use super::unsigned::UnsignedDuration;
 use speedate_base::config::MicrosecondsPrecisionOverflowBehavior as Behavior;
@@ -29,6 +29,14 @@ impl UnsignedDuration {
         ensures answer { result ≡ day_form_or (shifted start E.refusal) behavior bytes.now }
         ensures placed { IfErr result (E.lies_within (start + length bytes.now)) }
     {
+        // Most durations of days end with the letter.
+        if let Some(day) = whole_days(bytes, days) {
+            return Ok(UnsignedDuration {
+                day,
+                second: 0,
+                microsecond: 0,
+            });
+        }
         let (days, size) = days_at_front::<E>(bytes, days, start)?;
         Self::after_days(&bytes[size..], days, start + size, behavior)
     }
@@ -60,6 +68,22 @@ impl UnsignedDuration {
         }
         Ok(UnsignedDuration { day: days, ..clock })
     }
+}
+
+/// The days of a text that is only the digits at its front and the letter of a day.
+#[inline(always)]
+fn whole_days(bytes: &[u8], days: DigitRun) -> Option<u32>
+    requires length { days.length ≡ run_length bytes.now 0 }
+    requires value { days.value ≡ min (run_value bytes.now 0) (2 ^ 64 - 1) }
+    ensures days { IfSome result (IsWholeDays bytes.now) }
+{
+    if days.length + 1 != bytes.len() {
+        return None;
+    }
+    if !is_day_letter(bytes[days.length]) || days.length == 0 || days.value > u64::from(u32::MAX) {
+        return None;
+    }
+    Some(days.value as u32)
 }
 
 /// How many days the digits at the front are, and how many bytes they take with the word and the gap that
