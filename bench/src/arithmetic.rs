@@ -59,6 +59,10 @@ fn date_time_rows(table: &mut Table, moments: &[Moments]) {
     let ours = side("this library", |it: &Moments| proved::Duration::between(&it.ours[0], &it.ours[1]));
     table.row("between date-times", moments, rust, ours, PeerMoments::between());
 
+    let rust = side("Rust crate", |it: &Moments| it.rust[0].partial_cmp(&it.rust[1]));
+    let ours = side("this library", |it: &Moments| it.ours[0].partial_cmp(&it.ours[1]));
+    table.row("compare date-times", moments, rust, ours, vec![]);
+
     let time_config = TimeConfig { unix_timestamp_offset: Some(0), ..TimeConfig::default() };
     let config = DateTimeConfig { timestamp_unit: TimestampUnit::Second, time_config };
     let rust = side("Rust crate", move |it: &Moments| {

@@ -1,5 +1,5 @@
 -- What a time from outside says, and how a time is written.
-use Rattle.std.specs.Prelude.{ℕ, ℤ, pos, negsuc, List, Option, Some, None, Result, if◌then◌else◌}
+use Rattle.std.specs.Prelude.{ℕ, ℤ, pos, negsuc, List, Option, Some, None, Result, if◌then◌else◌, ◌==◌}
 use Rattle.std.specs.Ordering.{int_eq}
 use Rattle.speedate.specs.Base.{CallKind, ParseError}
 use Rattle.speedate.specs.Config.{Choices}
@@ -21,6 +21,10 @@ time_of time =
     result_and_then (λ clock. result_map (λ offset. record clock { offset = offset })
     (offset_answer time.has_offset time.offset))
     (new_time_answer time.hour time.minute time.second time.microsecond None)
+
+-- the offset of a time from outside, if its flag says that there is one
+abbrev pub attached_offset : SpeedateTime → Option ℤ
+attached_offset time = if time.has_offset == 0 then None else Some time.offset
 
 -- the flag of an offset and its seconds
 abbrev pub shown_offset : Option ℤ → ℕ × ℤ

@@ -1,10 +1,10 @@
 //! Dates as C sees them.
 
 ghost use Rattle.std.specs.Option.{option_map};
-ghost use Rattle.std.specs.Prelude.{◌≡◌, ◌≢◌, ◌≤◌, length};
+ghost use Rattle.std.specs.Prelude.{◌≡◌, ◌≢◌, ◌≤◌, length, nat_le};
 ghost use Rattle.speedate.specs.Date.{ymd, date_answer, date_or_timestamp, date_text, ◌gives◌};
 ghost use Rattle.speedate.specs.Calendar.{date_order, date_added};
-ghost use Rattle.speedate.specs.Calendar.{days_between, ordinal_day};
+ghost use Rattle.speedate.specs.Calendar.{days_between, month_length, ordinal_day};
 ghost use Rattle.speedate.specs.Requirement.{result_map};
 ghost use Rattle.speedate_c.specs.Written.{written_answer, written_optional_date};
 ghost use Rattle.speedate_c.specs.Written.{written_text, written_value, with_option, with_value};
@@ -19,7 +19,7 @@ mod timestamp;
 use crate::code::{NO_SUCH_DATE, SUCCESS, order_number};
 use crate::config::SpeedateConfig;
 use crate::text::write_text;
-use speedate::{Date, ParseError};
+use speedate::{Date, ParseError, month_length};
 
 /// The day from which columns count.
 const FIRST_DAY: Date = Date {
@@ -46,6 +46,15 @@ impl SpeedateDate {
         ensures answer { result gives date_of self.now }
     {
         Date::new(self.year, self.month, self.day)
+    }
+
+    /// Whether the month, if it is one, has this day, if it is not 0.
+    #[inline(always)]
+    pub(crate) fn is_in_month(&self) -> bool
+        ensures { result ≡ nat_le self.now.day (month_length self.now.year self.now.month) }
+    {
+        // No month is shorter than 28 days, so most days need no look at the calendar.
+        self.day <= 28 || self.day <= month_length(self.year, self.month)
     }
 
     /// The numbers of a date.

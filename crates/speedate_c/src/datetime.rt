@@ -1,6 +1,6 @@
 //! Date-times as C sees them.
 
-ghost use Rattle.std.specs.Prelude.{◌≡◌, ◌≢◌, ◌≤◌, if◌then◌else◌, length};
+ghost use Rattle.std.specs.Prelude.{◌≡◌, ◌≢◌, ◌≤◌, if◌then◌else◌, length, true};
 ghost use Rattle.std.specs.Ordering.{int_eq};
 ghost use Rattle.speedate.specs.DateTime.{date_and_time, date_time_answer, date_time_text};
 ghost use Rattle.speedate.specs.DateTime.{date_time_or_timestamp};
@@ -13,7 +13,7 @@ ghost use Rattle.speedate_c.specs.Code.{answer_code, buffer_too_small, config_ou
 ghost use Rattle.speedate_c.specs.Code.{order_number, success, value_out_of_range};
 ghost use Rattle.speedate_c.specs.Config.{choices_of};
 ghost use Rattle.speedate.specs.DateTime.{date_time_text_with};
-ghost use Rattle.speedate_c.specs.DateTime.{date_time_of, shown_date_time};
+ghost use Rattle.speedate_c.specs.DateTime.{IsInRanges, date_time_of, shown_date_time};
 ghost use Rattle.speedate_c.specs.Time.{digits_auto, fraction_digits_of};
 
 mod part;
@@ -22,10 +22,18 @@ mod timestamp;
 use crate::code::{SUCCESS, VALUE_OUT_OF_RANGE, order_number};
 use crate::config::SpeedateConfig;
 use crate::date::SpeedateDate;
+use crate::ranges::are_in_ranges;
 use crate::text::write_text;
 use crate::time::{DIGITS_AUTO, SpeedateTime, fraction_digits};
 use arrayvec::ArrayString;
-use speedate::{DateTime, ParseError};
+use speedate::{Date, DateTime, ParseError, Time};
+
+/// The smallest numbers of a date-time: the two bytes of its year, the month, the day, the hour, the minute,
+/// the second and the flag of its offset.
+const LOWEST: [u8; 8] = [0, 0, 1, 1, 0, 0, 0, 0];
+
+/// The largest of them.
+const HIGHEST: [u8; 8] = [255, 255, 12, 31, 23, 59, 59, 1];
 
 /// How many bytes the longest text of a date-time has.
 const TEXT_MAX: usize = 32;
@@ -43,8 +51,66 @@ pub struct SpeedateDateTime {
 impl SpeedateDateTime {
     /// The date-time of the numbers, or the error of one that is out of range: the date is looked
     /// at first.
+    #[inline(always)]
     pub(crate) fn to_value(&self) -> Result<DateTime, ParseError>
         ensures answer { result gives date_time_of self.now }
+    {
+        if !self.has_value() {
+            return self.by_parts();
+        }
+        Ok(DateTime {
+            date: Date {
+                year: self.date.year,
+                month: self.date.month,
+                day: self.date.day,
+            },
+            time: Time {
+                hour: self.time.hour,
+                minute: self.time.minute,
+                second: self.time.second,
+                microsecond: self.time.microsecond,
+                tz_offset: self.time.tz_offset(),
+            },
+        })
+    }
+
+    /// Whether each number is in its range. Those of one byte are tested at once.
+    #[inline(always)]
+    fn has_value(&self) -> bool
+        ensures ranges { result ≡ true → IsInRanges self.now }
+    {
+        let (date, time) = (self.date, self.time);
+        let [low, high] = date.year.to_le_bytes();
+        let numbers = [
+            low,
+            high,
+            date.month,
+            date.day,
+            time.hour,
+            time.minute,
+            time.second,
+            time.has_offset,
+        ];
+        if date.year > 9999 {
+            return false;
+        }
+        if time.microsecond > 999_999 {
+            return false;
+        }
+        if !are_in_ranges(numbers, LOWEST, HIGHEST) {
+            return false;
+        }
+        if !date.is_in_month() {
+            return false;
+        }
+        time.has_near_offset()
+    }
+
+    /// What [`SpeedateDateTime::to_value`] gives, from number to number, for the error.
+    #[cold]
+    #[inline(never)]
+    fn by_parts(self) -> Result<DateTime, ParseError>
+        ensures answer { result gives date_time_of self }
     {
         let date = self.date.to_value()?;
         let time = self.time.to_value()?;

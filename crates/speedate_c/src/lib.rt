@@ -79,6 +79,7 @@ mod datetime;
 mod duration;
 mod number;
 mod part;
+mod ranges;
 mod text;
 mod time;
 

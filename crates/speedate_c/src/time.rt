@@ -1,9 +1,9 @@
 //! Times of day as C sees them.
 
-ghost use Rattle.std.specs.Prelude.{◌≡◌, ◌≢◌, ◌≤◌, if◌then◌else◌, length};
+ghost use Rattle.std.specs.Prelude.{◌≡◌, ◌≢◌, ◌≤◌, if◌then◌else◌, length, true};
 ghost use Rattle.std.specs.Ordering.{int_eq};
-ghost use Rattle.std.specs.Option.{ForSome};
-ghost use Rattle.speedate.specs.Offset.{IsOffset};
+ghost use Rattle.std.specs.Option.{ForSome, option_map_or};
+ghost use Rattle.speedate.specs.Offset.{IsOffset, is_offset};
 ghost use Rattle.speedate.specs.Requirement.{result_map};
 ghost use Rattle.speedate.specs.Time.{time_of_day, millisecond_of_day, second_of_day, time_answer};
 ghost use Rattle.speedate.specs.Time.{time_text, ◌gives◌, time_instant_order};
@@ -15,7 +15,7 @@ ghost use Rattle.speedate_c.specs.Code.{answer_code, buffer_too_small, config_ou
 ghost use Rattle.speedate_c.specs.Code.{order_number, success, value_out_of_range};
 ghost use Rattle.speedate_c.specs.Config.{choices_of};
 ghost use Rattle.speedate.specs.Time.{time_text_with};
-ghost use Rattle.speedate_c.specs.Time.{digits_auto, fraction_digits_of, shown_time, time_of};
+ghost use Rattle.speedate_c.specs.Time.{attached_offset, digits_auto, fraction_digits_of, shown_time, time_of};
 
 mod part;
 mod timestamp;
@@ -57,6 +57,26 @@ impl SpeedateTime {
     {
         let clock = Time::new(self.hour, self.minute, self.second, self.microsecond, None)?;
         clock.with_timezone_offset(offset(self.has_offset, self.offset)?)
+    }
+
+    /// The offset, if there is one.
+    #[inline(always)]
+    pub(crate) fn tz_offset(&self) -> Option<i32>
+        ensures { result ≡ attached_offset self.now }
+    {
+        if self.has_offset == 0 {
+            None
+        } else {
+            Some(self.offset)
+        }
+    }
+
+    /// Whether the offset, if there is one, is less than 24 hours.
+    #[inline(always)]
+    pub(crate) fn has_near_offset(&self) -> bool
+        ensures { result ≡ option_map_or is_offset (attached_offset self.now) true }
+    {
+        self.has_offset == 0 || self.offset.unsigned_abs() < 86_400
     }
 
     /// The numbers of a time.
