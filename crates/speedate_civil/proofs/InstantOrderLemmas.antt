@@ -1,6 +1,6 @@
 -- Laws of the order by instants: it is total, among values with offsets and among those without,
 -- but across both it is not transitive; and without offsets it is the order of the texts.
-use Rattle.std.proofs.Common.{◌≡◌, ℕ, ◌<◌, Bool, true, false, ◌&&◌, ◌∷◌, ◌==◌, ℤ, neg_ℤ, pos, Option, Some, None, refl, is_some, nat_cmp, Ordering, rules, arith, ◌∙◌, ap, sym}
+use Rattle.std.proofs.Common.{◌≡◌, ℕ, ◌<◌, Bool, true, false, ◌&&◌, List, ◌∷◌, ◌++◌, ◌==◌, ℤ, neg_ℤ, pos, ◌-ℤ◌, Option, Some, None, refl, is_some, nat_cmp, int_cmp, Ordering, rules, arith, ◌∙◌, ap, sym}
 use Rattle.std.specs.Cmp.{IsTotalOrder, on_total}
 use Rattle.std.specs.Cmp.Lexicographic.{slice_cmp}
 use Rattle.std.specs.Ordering.{ordering_then, ordering_reverse, on}
@@ -10,13 +10,18 @@ use Rattle.std.proofs.Math.Bool.{and_comm}
 use Rattle.speedate_base.specs.Ascii.{capital_t}
 use Rattle.speedate_base.specs.Timestamp.{seconds_per_day, Instant, instant_order}
 use Rattle.speedate_civil.specs.Time.{fraction_text, TimeOfDay, IsTime, minute_time, second_of_day}
-use Rattle.speedate_civil.specs.Time.{time_text, time_instant, time_instant_order}
+use Rattle.speedate_civil.specs.Time.{time_text, time_instant, time_instant_order, clock_text}
+use Rattle.speedate_civil.specs.Time.{FractionDigits, fraction_text_with, cut_microsecond}
+use Rattle.speedate_civil.specs.Time.{offset_text}
 use Rattle.speedate_civil.specs.DateTime.{DateAndTime, IsDateAndTime, date_time_text}
 use Rattle.speedate_civil.specs.DateTime.{date_time_instant, date_time_instant_order}
+use Rattle.speedate_civil.specs.DateTime.{cut_date_time, date_time_text_with}
 use Rattle.speedate_civil.specs.Instant.{by_instant, BothOrNeither, IsNotAfter, IsBeforeNextOnly}
 use Rattle.speedate_civil.specs.Calendar.{Ymd, date_order}
+use Rattle.speedate_civil.specs.Date.{date_text}
 use Rattle.speedate_civil.proofs.DateOrderLemmas.{date_order-day_number, date_text-front-order}
-use Rattle.speedate_civil.proofs.DateOrderLemmas.{digits-order}
+use Rattle.speedate_civil.proofs.DateOrderLemmas.{digits-order, hundreds-order, last-order, then-then}
+use Rattle.speedate_civil.proofs.TextOrderLemmas.{same-order}
 
 -- instants are ordered one after another
 pub instant_order-total : IsTotalOrder instant_order
@@ -115,6 +120,104 @@ date_time_text-order first second one two none nothing =
     ∙ date_time_instant-order first second one two
     ∙ ap (ordering_then (date_order first.date second.date)) (sym shown ∙ times)
     ∙ sym (date_text-front-order first.date second.date text other)
+
+-- at one offset the order by instant is that of what clocks show
+moved-order : (first second offset : ℤ)
+    → int_cmp (first -ℤ offset) (second -ℤ offset) ≡ int_cmp first second
+moved-order first second offset = grind (arith, ints)
+
+same_offset-order : (first second : DateAndTime) (offset : Option ℤ) → first.time.offset ≡ offset
+    → second.time.offset ≡ offset
+    → date_time_instant_order first second ≡ on (date_time_instant false) instant_order first second
+same_offset-order first second None one two = rw one refl
+same_offset-order first second (Some offset) one two =
+    rw (one, two, moved-order) refl
+
+cut_second : (value : DateAndTime) → IsDateAndTime value
+    → IsDateAndTime (cut_date_time FractionDigits.Zero value)
+cut_second value valid = record {
+  date = valid.date;
+  time = record {
+    hour = valid.time.hour;
+    minute = valid.time.minute;
+    second = valid.time.second;
+    microsecond = omega arith;
+    offset = valid.time.offset;
+  };
+}
+
+-- texts that begin with clocks are ordered as the second of the day, and then as what follows
+clock_text-front-order : (first second : TimeOfDay) → IsTime first → IsTime second
+    → (one two : List ℕ)
+    → slice_cmp nat_cmp (clock_text first ++ one) (clock_text second ++ two)
+    ≡ ordering_then (nat_cmp (second_of_day first) (second_of_day second))
+    (slice_cmp nat_cmp one two)
+clock_text-front-order first second valid other one two =
+    simp (digits-order) (clock-order first second valid other (slice_cmp nat_cmp one two))
+
+-- up to the second date-times at one offset are ordered as the dates and then as the clocks
+seconds-order : (first second : DateAndTime) → IsDateAndTime first → IsDateAndTime second
+    → first.time.offset ≡ second.time.offset
+    → date_time_instant_order (cut_date_time FractionDigits.Zero first)
+    (cut_date_time FractionDigits.Zero second)
+    ≡ ordering_then (date_order first.date second.date)
+    (nat_cmp (second_of_day first.time) (second_of_day second.time))
+seconds-order first second valid other same =
+    let one = cut_date_time FractionDigits.Zero first in
+    let two = cut_date_time FractionDigits.Zero second in
+    same_offset-order one two second.time.offset same refl
+    ∙ date_time_instant-order one two (cut_second first valid) (cut_second second other)
+    ∙ ap (ordering_then (date_order first.date second.date))
+    (time_instant-order one.time two.time
+    ∙ last-order (nat_cmp (second_of_day first.time) (second_of_day second.time)))
+
+-- texts that begin with date-times at one offset up to the second are ordered as those, and then as
+-- what follows
+pub date_time-front-order : (first second : DateAndTime) → IsDateAndTime first
+    → IsDateAndTime second → first.time.offset ≡ second.time.offset → (one two : List ℕ)
+    → slice_cmp nat_cmp (date_text first.date ++ capital_t ∷ clock_text first.time ++ one)
+    (date_text second.date ++ capital_t ∷ clock_text second.time ++ two)
+    ≡ ordering_then (date_time_instant_order (cut_date_time FractionDigits.Zero first)
+    (cut_date_time FractionDigits.Zero second)) (slice_cmp nat_cmp one two)
+date_time-front-order first second valid other same one two =
+    let text = capital_t ∷ clock_text first.time ++ one in
+    let more = capital_t ∷ clock_text second.time ++ two in
+    let next = slice_cmp nat_cmp one two in
+    let dates = date_order first.date second.date in
+    date_text-front-order first.date second.date text more
+    ∙ ap (ordering_then dates)
+    (clock_text-front-order first.time second.time valid.time other.time one two)
+    ∙ sym (then-then dates (nat_cmp (second_of_day first.time) (second_of_day second.time)) next)
+    ∙ ap (λ order. ordering_then order next)
+    (sym (seconds-order first second valid other same))
+
+-- fractions with the same digits before the same text are ordered as the microseconds rounded down
+fractions_with-order : (digits : FractionDigits) (first second : ℕ) (rest : List ℕ)
+    → slice_cmp nat_cmp (fraction_text_with digits first ++ rest)
+    (fraction_text_with digits second ++ rest)
+    ≡ nat_cmp (cut_microsecond digits first) (cut_microsecond digits second)
+fractions_with-order FractionDigits.Zero first second rest = same-order rest
+fractions_with-order FractionDigits.Three first second rest =
+    rw (same-order rest) (grind (arith, nat_tests, digits-order))
+fractions_with-order FractionDigits.Six first second rest =
+    rw (same-order rest) (simp (digits-order, hundreds-order) (grind (arith, nat_tests)))
+
+-- at one offset texts with a number of digits are ordered as the date-times rounded down to these
+pub date_time_text_with-order : (digits : FractionDigits) (first second : DateAndTime)
+    → IsDateAndTime first → IsDateAndTime second → first.time.offset ≡ second.time.offset
+    → slice_cmp nat_cmp (date_time_text_with digits first) (date_time_text_with digits second)
+    ≡ date_time_instant_order (cut_date_time digits first) (cut_date_time digits second)
+date_time_text_with-order digits first second valid other same =
+    let one = fraction_text_with digits first.time.microsecond ++ offset_text first.time.offset in
+    let two = fraction_text_with digits second.time.microsecond ++ offset_text second.time.offset in
+    let rest = fractions_with-order digits first.time.microsecond second.time.microsecond
+    (offset_text second.time.offset) in
+    let own = date_time_instant_order (cut_date_time FractionDigits.Zero first)
+    (cut_date_time FractionDigits.Zero second) in
+    date_time-front-order first second valid other same one two
+    ∙ ap (ordering_then own) (ap (λ offset. slice_cmp nat_cmp
+    (fraction_text_with digits first.time.microsecond ++ offset_text offset) two) same ∙ rest)
+    ∙ rw last-order refl
 
 -- "not after" is transitive in a total order
 chain : {K : Type 0} {order : K → K → Ordering} → IsTotalOrder order → (first second third : K)

@@ -20,6 +20,7 @@ mod OffsetMoveLemmas
 mod ReadLemmas
 mod Rfc3339Lemmas
 mod StrictPlaceLemmas
+pub mod TextOrderLemmas
 pub mod TimeLemmas
 pub mod ValueLemmas
 pub mod MonthLemmas

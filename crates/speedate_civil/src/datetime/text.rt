@@ -1,6 +1,8 @@
 //! The text of a date-time.
 
 ghost use Rattle.std.specs.Prelude.{Some, ℕ, ◌≡◌, ◌≤◌, ◌+◌, ◌++◌, ◌∷◌, ◌↔◌, IsTrue, List, [], Ok, length};
+ghost use Rattle.std.specs.Cmp.Lexicographic.{slice_cmp};
+ghost use Rattle.std.specs.Ordering.{nat_cmp};
 ghost use Rattle.arrayvec.specs.ArrayString.{array_string_len};
 ghost use Rattle.speedate_base.specs.Ascii.{capital_t};
 ghost use Rattle.speedate_base.specs.Config.{time_choices};
@@ -11,6 +13,7 @@ ghost use Rattle.speedate_civil.specs.Date.{ymd, date_text};
 ghost use Rattle.speedate_civil.specs.DateTime.{date_and_time, date_time_answer, date_time_front};
 ghost use Rattle.speedate_civil.specs.DateTime.{date_time_text, date_time_by_config, DateTime};
 ghost use Rattle.speedate_civil.specs.DateTime.{date_time_text_with, cut_date_time};
+ghost use Rattle.speedate_civil.specs.DateTime.{date_time_instant_order};
 ghost use Rattle.speedate_civil.specs.Time.{is_after_time};
 
 use super::DateTime;
@@ -72,7 +75,8 @@ impl DateTime {
     /// `.000`. `FractionDigits::Zero` prints no point. The rest is as in [`DateTime::to_text`].
     ///
     /// If the offset is absent or whole minutes, the text reads back as the date-time, with its
-    /// microsecond rounded down to these digits.
+    /// microsecond rounded down to these digits. Texts of date-times with one offset, or with none,
+    /// compare as these values do, by instant.
     pub fn to_text_with_digits(&self, digits: FractionDigits) -> ArrayString<TEXT_MAX>
         ensures text { result.bytes ≡ date_time_text_with digits (date_and_time self.now) }
         ensures reads_back { IsWholeMinutes self.now.time.tz_offset → (config : TimeConfig)
@@ -81,6 +85,10 @@ impl DateTime {
         ensures reads_back_with_config { IsWholeMinutes self.now.time.tz_offset
             → (config : DateTimeConfig) → date_time_by_config config result.bytes
             ≡ Ok (cut_date_time digits (date_and_time self.now)) }
+        ensures text_order { (other : DateTime) → self.now.time.tz_offset ≡ other.time.tz_offset
+            → slice_cmp nat_cmp result.bytes (date_time_text_with digits (date_and_time other))
+            ≡ date_time_instant_order (cut_date_time digits (date_and_time self.now))
+            (cut_date_time digits (date_and_time other)) }
     {
         let mut text = ArrayString::new();
         self.push_onto_with_digits(digits, &mut text);

@@ -1,4 +1,5 @@
-use Rattle.std.proofs.Common.{◌∙◌, ap}
+use Rattle.std.proofs.Common.{◌∙◌, ap, nat_cmp}
+use Rattle.std.specs.Cmp.Lexicographic.{slice_cmp}
 use Rattle.std.specs.Option.{option_map}
 use Rattle.speedate_base.specs.Numbers.{number_answer}
 use Rattle.speedate_civil.specs.DateTime.{date_and_time, date_time_answer, date_time_at}
@@ -7,6 +8,7 @@ use Rattle.speedate_civil.specs.DateTime.{number_instant_or}
 use Rattle.speedate_base.specs.Requirement.{fault_alone, or_number, result_map}
 use Rattle.speedate_base.proofs.TextLemmas.{text-alone}
 use Rattle.speedate_civil.proofs.DateTimeLemmas.{date_time_text_with-reads}
+use Rattle.speedate_civil.proofs.InstantOrderLemmas.{date_time_text_with-order}
 use Rattle.speedate_civil.proofs.ValueLemmas.{is_date_and_time}
 use Rattle.speedate_civil.proofs.datetime.DateTime.to_text_with_digits.Goals as goal
 
@@ -32,3 +34,13 @@ returns-clause-reads_back_with_config c whole config =
     (number_instant_or fault_alone unit behavior printed (number_answer printed))))
     (date_time_text_with-reads behavior c.args.digits (date_and_time value)
     (is_date_and_time value) whole)
+
+pub returns-clause-text_order : goal.returns-clause-text_order
+returns-clause-text_order c other same =
+    let digits = c.args.digits in
+    let first = date_and_time c.args.self.now in
+    let second = date_and_time other in
+    let bytes = text-alone _ _ _ c.new-text.ensures c.push_onto_with_digits.ensures.text in
+    ap (λ text. slice_cmp nat_cmp text (date_time_text_with digits second)) bytes
+    ∙ date_time_text_with-order digits first second (is_date_and_time c.args.self.now)
+    (is_date_and_time other) same
