@@ -8,3 +8,4 @@ mod InOrderLemmas
 mod SearchLemmas
 mod FoundLemmas
 mod ReportLemmas
+mod NanosecondLemmas

@@ -1,8 +1,12 @@
 //! Values and durations in print, with the digits of their nanosecond.
 
-ghost use Rattle.std.specs.Prelude.{◌≡◌, ◌+◌, ◌*◌, ◌++◌, ◌<◌, ◌≤◌, length};
+ghost use Rattle.std.specs.Prelude.{◌≡◌, ℕ, ◌+◌, ◌-◌, ◌*◌, ◌/◌, ◌^◌, ◌++◌, ◌<◌, ◌≤◌, length};
+ghost use Rattle.std.specs.Cmp.Lexicographic.{slice_cmp};
+ghost use Rattle.std.specs.Ordering.{nat_cmp, ordering_then};
 ghost use Rattle.arrayvec.specs.ArrayVec.{array_vec_len};
-ghost use Rattle.speedate.specs.DateTime.{date_and_time};
+ghost use Rattle.speedate.specs.DateTime.{cut_date_time, date_and_time, date_time_instant_order};
+ghost use Rattle.speedate.specs.declared.DateTime.{DateTime};
+ghost use Rattle.speedate.specs.declared.FractionDigits.{FractionDigits};
 ghost use Rattle.speedate_commands.specs.Nanosecond.{apart, date_time_with, digits_needed, distance};
 ghost use Rattle.speedate_commands.specs.Nanosecond.{duration_between, microseconds_text};
 ghost use Rattle.speedate_commands.specs.Nanosecond.{past_second, nanoseconds_text, with_fraction};
@@ -43,13 +47,24 @@ pub fn digits_needed(nanosecond: u32) -> usize
     }
 }
 
-/// Appends a date-time with so many digits after its second, which are those of a nanosecond.
+/// Appends a date-time with so many digits after its second, which are those of a nanosecond. With one
+/// count of digits, texts of values with one offset, or with none, compare as the values without their
+/// fraction, and then as these digits.
 #[tactic(auto, unfolding(crate::specs::Nanosecond::date_time_with))]
 pub fn push_date_time(count: usize, nanosecond: u32, value: &DateTime, pending: &mut Pending)
     requires most { count ≤ 9 }
     requires room { array_vec_len pending.old + DATE_TIME_MAX ≤ PENDING_MAX }
     ensures pushed { pending.new.items
         ≡ pending.old.items ++ date_time_with count nanosecond (date_and_time value.now) }
+    ensures text_order { (other : DateTime) (other_nanosecond : ℕ)
+        → value.now.time.tz_offset ≡ other.time.tz_offset → nanosecond < 1000000000
+        → other_nanosecond < 1000000000
+        → slice_cmp nat_cmp pending.new.items
+        (pending.old.items ++ date_time_with count other_nanosecond (date_and_time other))
+        ≡ ordering_then
+        (date_time_instant_order (cut_date_time FractionDigits.Zero (date_and_time value.now))
+        (cut_date_time FractionDigits.Zero (date_and_time other)))
+        (nat_cmp (nanosecond / 10 ^ (9 - count)) (other_nanosecond / 10 ^ (9 - count))) }
     ensures length { array_vec_len pending.new ≤ array_vec_len pending.old + DATE_TIME_MAX }
 {
     let text = value.to_text_with_digits(FractionDigits::Zero);
