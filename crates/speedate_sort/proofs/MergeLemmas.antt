@@ -9,7 +9,7 @@ use Rattle.speedate_sort.specs.Sort.{texts}
 use Rattle.speedate_sort.specs.Merge.{AreAllInOrder, AreInOrder, AreInOrderAfter, Best, best_from}
 use Rattle.speedate_sort.specs.Merge.{best_of, better, due, joined, line_and, merged_text, risen}
 use Rattle.speedate_sort.specs.Merge.{risen_after, risen_joined}
-use Rattle.speedate_sort.proofs.OrderLemmas.{is_lt-int_cmp}
+use Rattle.speedate_sort.proofs.OrderLemmas.{int_not_less, is_lt-int_cmp}
 
 -- Numbers.
 
@@ -155,12 +155,6 @@ BeginsAfter i (x ∷ xs) = int_lt i x.instant ≡ true
 abbrev pub BeginsNotBefore : ℤ → List Keyed → Type 0
 BeginsNotBefore i [] = Unit {0}
 BeginsNotBefore i (x ∷ xs) = int_lt x.instant i ≡ false
-
-int_not_less : (i : ℤ) → int_lt i i ≡ false
-int_not_less i = elim (cases_Bool (int_lt i i)) [
-  | inl less ↦ less-not_less i i less
-  | inr not ↦ not
-]
 
 risen-begins_not_before : (i : ℤ) (xs : List Keyed) → BeginsNotBefore i xs
     → AreNotBefore i (risen xs)

@@ -1,4 +1,4 @@
-use Rattle.std.proofs.Common.{◌≡◌, ◌∙◌, ◌&&◌, subst, ℕ, ◌+◌, ◌<◌, List, [], ◌∷◌, length, get_or, arith, rules, Fits, w8}
+use Rattle.std.proofs.Common.{◌≡◌, ◌∙◌, ◌&&◌, subst, ℕ, ◌+◌, ◌<◌, List, [], ◌∷◌, length, get_or, rules, Fits, w8}
 use lib.Lanes.{number_l, digits_l}
 use Rattle.speedate_base.specs.Digits.{are_at_most}
 use Rattle.speedate_base.proofs.PatternLemmas.{by_eight, from_le_bytes-number}

@@ -1,4 +1,4 @@
-use Rattle.std.proofs.Common.{◌<◌, arith}
+use Rattle.std.proofs.Common.{arith}
 use Rattle.speedate_scan.proofs.WordLemmas.{either_unset, other_byte, other_first, other_next}
 use Rattle.speedate_scan.proofs.WordLemmas.{other_second}
 use Rattle.speedate_scan.proofs.claim.begins_at.Goals as goal

@@ -1,4 +1,4 @@
-use Rattle.std.proofs.Common.{◌≡◌, ◌<◌, ◌≤◌, ℕ, length, arith}
+use Rattle.std.proofs.Common.{◌≤◌, arith}
 use Rattle.speedate_scan.proofs.WordLemmas.{lower_bit, search_passes}
 use Rattle.speedate_scan.proofs.claim.passed.Goals as goal
 

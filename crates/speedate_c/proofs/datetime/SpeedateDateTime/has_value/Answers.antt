@@ -1,4 +1,4 @@
-use Rattle.std.proofs.Common.{◌≡◌, ◌∙◌, sym, ℕ, ◌≤◌, true, List, [], ◌∷◌, arith, nat_le, slice_index}
+use Rattle.std.proofs.Common.{◌≡◌, ◌∙◌, sym, ℕ, true, List, [], ◌∷◌, arith, nat_le, slice_index}
 use Rattle.std.specs.Int.{is_in_range}
 use Rattle.std.proofs.lemmas.Bool.{and_parts}
 use Rattle.std.proofs.lemmas.Bool.Decides.{nat_tests}

@@ -1,4 +1,4 @@
-use Rattle.std.proofs.Common.{rules, ◌∙◌, ap, sym, SFits, w32, arith, ◌+◌, ◌≤◌}
+use Rattle.std.proofs.Common.{rules, ◌∙◌, ap, sym, SFits, w32, arith}
 use Rattle.std.proofs.lemmas.Int.{to_z-of_z}
 use Rattle.std.proofs.lemmas.List.{take_rest}
 use Rattle.speedate_civil.specs.Date.{ymd}

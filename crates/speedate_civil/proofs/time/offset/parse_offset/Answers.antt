@@ -1,22 +1,17 @@
-use Rattle.std.proofs.Common.{rules, refl, length, length-drop, ◌≤◌, ◌≡◌, ◌∙◌, ◌+◌, add-zero, ap, ap₂, sym, ℕ, List, drop, true, ◌==◌, slice_index, drop-drop, get_or-drop, arith}
+use Rattle.std.proofs.Common.{rules, refl, length, length-drop, ◌≤◌, ◌∙◌, ◌+◌, ap, ap₂, sym, ℕ, List, drop, true, ◌==◌, slice_index, drop-drop, arith}
 use Rattle.std.proofs.lemmas.Grind.{common_steps}
 use Rattle.speedate_base.specs.Ascii.{hyphen}
 use Rattle.speedate_civil.specs.Base.{ParseError}
 use Rattle.speedate_base.specs.Requirement.{shifted}
 use Rattle.speedate_base.proofs.RefusalLemmas.{shifted-shifted}
 use Rattle.speedate_civil.specs.Time.{is_plus_or_minus, is_utc, signed_front_or}
+use Rattle.speedate_civil.proofs.OffsetLemmas.{first-of}
 use Rattle.speedate_civil.proofs.time.offset.parse_offset.Goals as goal
-
--- the byte at a place is the first of what begins there
-first : (bytes : List ℕ) (place byte : ℕ) → byte ≡ slice_index bytes place
-    → slice_index (drop place bytes) 0 ≡ byte
-first bytes place byte is =
-    get_or-drop place bytes 0 0 ∙ ap (slice_index bytes) (add-zero place) ∙ sym is
 
 pub returns-then-is_plus_or_minus-clause-answer : goal.returns-then-is_plus_or_minus-clause-answer
 returns-then-is_plus_or_minus-clause-answer g c =
     let refuse = g.E.Refusal.refusal in
-    let byte = first c.args.bytes.now c.args.place _ c.byte_at-first.ensures.byte in
+    let byte = first-of c.args.bytes.now c.args.place _ c.byte_at-first.ensures.byte in
     rw (ap is_plus_or_minus byte ∙ sym c.if-is_plus_or_minus.ensures.value)
     (c.signed_offset.ensures.answer
     ∙ ap₂ (λ (b : ℕ) (numbers : List ℕ). signed_front_or (shifted (c.args.start + 1) refuse)
@@ -26,12 +21,12 @@ returns-then-is_plus_or_minus-clause-answer g c =
     (drop 1 (drop c.args.place c.args.bytes.now))) (sym (shifted-shifted c.args.start 1 refuse)))
 
 pub returns-then-is_utc-clause-answer : goal.returns-then-is_utc-clause-answer
-returns-then-is_utc-clause-answer g c = search (rules, first)
+returns-then-is_utc-clause-answer g c = search (rules, first-of)
 
 pub returns-then-has_minus_sign-clause-answer : goal.returns-then-has_minus_sign-clause-answer
 returns-then-has_minus_sign-clause-answer g c =
     let refuse = g.E.Refusal.refusal in
-    let byte = first c.args.bytes.now c.args.place _ c.byte_at-first.ensures.byte in
+    let byte = first-of c.args.bytes.now c.args.place _ c.byte_at-first.ensures.byte in
     rw (
       ap is_plus_or_minus byte ∙ sym c.if-is_plus_or_minus.ensures.value,
       ap is_utc byte ∙ sym c.if-is_utc.ensures.value,
@@ -44,7 +39,7 @@ returns-then-has_minus_sign-clause-answer g c =
     (drop 3 (drop c.args.place c.args.bytes.now))) (sym (shifted-shifted c.args.start 3 refuse)))
 
 pub returns-clause-answer : goal.returns-clause-answer
-returns-clause-answer g c = search (rules, first)
+returns-clause-answer g c = search (rules, first-of)
 
 pub signed_offset-requires-clause-place : goal.signed_offset-requires-clause-place
 signed_offset-requires-clause-place g c = grind (arith, common_steps)
