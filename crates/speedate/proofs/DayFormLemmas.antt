@@ -6,7 +6,8 @@ use Rattle.std.proofs.Math.Seq.{drop-cons}
 use Rattle.speedate_civil.specs.Base.{Behavior, ParseError}
 use Rattle.speedate_base.specs.Digits.{run_length, run_value}
 use Rattle.speedate.specs.DayForm.{IsWholeDays, is_day_letter, letter_place, size_of_one}
-use Rattle.speedate.specs.DayForm.{day_endings, gaps, ending_place, gap_place, days_size, has_whole_ending}
+use Rattle.speedate.specs.DayForm.{day_endings, gaps, ending_place, gap_place, days_size}
+use Rattle.speedate.specs.DayForm.{has_whole_ending}
 use Rattle.speedate.specs.DayForm.{after_days_or, day_form_or}
 
 -- the letter of a day is no space
@@ -47,7 +48,8 @@ whole_days refuse behavior text days whole =
     ap (λ (rest : List ℕ). ending_place text + size_of_one day_endings rest) ending
     ∙ ap (λ (more : ℕ). ending_place text + more) no_ending
     ∙ omega (arith, place) in
-    let gap : drop (gap_place text) text ≡ [] = ap (λ (place : ℕ). drop place text) gap_at ∙ after in
+    let gap : drop (gap_place text) text ≡ [] =
+    ap (λ (place : ℕ). drop place text) gap_at ∙ after in
     let size_is : days_size text ≡ size + 1 =
     ap (λ (rest : List ℕ). gap_place text + size_of_one gaps rest) gap
     ∙ ap (λ (more : ℕ). gap_place text + more) no_gap

@@ -20,7 +20,8 @@ use Rattle.speedate_civil.specs.Instant.{by_instant, BothOrNeither, IsNotAfter, 
 use Rattle.speedate_civil.specs.Calendar.{Ymd, date_order}
 use Rattle.speedate_civil.specs.Date.{date_text}
 use Rattle.speedate_civil.proofs.DateOrderLemmas.{date_order-day_number, date_text-front-order}
-use Rattle.speedate_civil.proofs.DateOrderLemmas.{digits-order, hundreds-order, last-order, then-then}
+use Rattle.speedate_civil.proofs.DateOrderLemmas.{digits-order, hundreds-order, last-order}
+use Rattle.speedate_civil.proofs.DateOrderLemmas.{then-then}
 use Rattle.speedate_civil.proofs.TextOrderLemmas.{same-order}
 
 -- instants are ordered one after another

@@ -8,7 +8,8 @@ use Rattle.speedate.specs.DateTime.{DateAndTime, IsDateAndTime, cut_date_time}
 use Rattle.speedate.specs.DateTime.{date_time_instant_order, date_time_text_with}
 use Rattle.speedate.specs.Time.{offset_text}
 use Rattle.speedate.specs.declared.FractionDigits.{FractionDigits}
-use Rattle.speedate_civil.proofs.InstantOrderLemmas.{date_time-front-order, date_time_text_with-order}
+use Rattle.speedate_civil.proofs.InstantOrderLemmas.{date_time-front-order}
+use Rattle.speedate_civil.proofs.InstantOrderLemmas.{date_time_text_with-order}
 use Rattle.speedate_civil.proofs.DateOrderLemmas.{last-order}
 use Rattle.speedate_civil.proofs.TextOrderLemmas.{append-order, in_digits-front-order, same-order}
 use Rattle.speedate_scan.specs.Print.{nine_digits}
@@ -65,7 +66,8 @@ module _ (first second : DateAndTime) (valid : IsDateAndTime first) (right : IsD
       less (omega arith))
 
   -- and so is what they are appended to, with them
-  pub pushed-order : (before items : List ℕ) → items ≡ before ++ date_time_with count nanosecond first
+  pub pushed-order : (before items : List ℕ)
+      → items ≡ before ++ date_time_with count nanosecond first
       → slice_cmp nat_cmp items (before ++ date_time_with count other second)
       ≡ ordering_then (date_time_instant_order (cut_date_time FractionDigits.Zero first)
       (cut_date_time FractionDigits.Zero second))
