@@ -12,16 +12,19 @@ use Rattle.speedate_base.specs.Ascii.{colon}
 use Rattle.speedate_base.specs.Digits.{run_length, run_value, digits_value, two_digits_at}
 use Rattle.speedate_base.proofs.DigitRunLemmas.{run_length-ended, run-whole}
 use Rattle.speedate_base.proofs.NumberLemmas.{run-digits}
-use Rattle.speedate.specs.ClockForm.{hours, colon_place, has_hours, after_hours_or, from_minute}
+use Rattle.speedate.specs.ClockForm.{hours, colon_place, has_hours, after_hours, from_minute}
 use Rattle.speedate.specs.ClockForm.{clock_end, hours_table, hours_range, rest_table, clock_numbers}
-use Rattle.speedate.specs.ClockForm.{clock_form_or}
+use Rattle.speedate.specs.ClockForm.{clock_form}
 use Rattle.std.proofs.lemmas.List.Folds.{list_any-append}
 use Rattle.speedate_base.specs.Requirement.{AllHold, ◌implies◌, first_refusal_or, result_and_then}
 use Rattle.speedate_base.specs.Requirement.{shifted}
-use Rattle.speedate_base.proofs.RefusalLemmas.{refusal-all, refusal-ok, refusal-value}
+use Rattle.speedate_base.specs.Refused.{first_refused_or, from_byte, placed, seen_as}
+use Rattle.speedate_base.specs.declared.refusal.Refused.{Refused}
+use Rattle.speedate_base.proofs.RefusalLemmas.{refusal-all, refusal-ok, refusal-value, seen-from}
+use Rattle.speedate_base.proofs.RefusalLemmas.{seen-read, seen-tables}
 use Rattle.speedate_base.proofs.RequirementLemmas.{and_then-ok}
 use Rattle.speedate_civil.specs.Time.{Clock, has_decimal_mark, has_second, minute_clock}
-use Rattle.speedate_civil.specs.Time.{minute_digits, minute_table, minute_front_or, clock_answer_or}
+use Rattle.speedate_civil.specs.Time.{minute_digits, minute_table, minute_front, clock_answer}
 use Rattle.speedate.specs.DayForm.{is_day_letter}
 use Rattle.speedate.specs.Duration.{has_days}
 use Rattle.speedate.specs.DurationNumbers.{UnsignedDuration}
@@ -68,13 +71,30 @@ hours-count : (text : List ℕ) → AllHold (hours_table text)
 hours-count text held =
     ap (λ (n : ℕ). digits_value (take n text)) (sym (hours-run text held.1.0 held.1.1.1.0))
 
+-- the answer to a clock, as a kind of refusal shows it
+pub clock_form-seen : {E : Type 0} (refuse : ParseError → ℕ → E) (behavior : Behavior)
+    (text : List ℕ)
+    → seen_as refuse (clock_form behavior text)
+    ≡ first_refusal_or refuse (hours_table text)
+    (first_refusal_or refuse (hours_range (digits_value (hours text)))
+    (seen_as (shifted (colon_place text + 1) refuse)
+    (after_hours behavior (digits_value (hours text)) (from_minute text))))
+unfolding clock_form
+clock_form-seen refuse behavior text =
+    let count = digits_value (hours text) in
+    let start = colon_place text + 1 in
+    let after = after_hours behavior count (from_minute text) in
+    seen-tables refuse (hours_table text) (hours_range count) (from_byte start after)
+    ∙ ap (λ (next : Result UnsignedDuration _). first_refusal_or refuse (hours_table text)
+    (first_refusal_or refuse (hours_range count) next)) (seen-from refuse start after)
+
 -- if there are too many, the clock is refused
 pub clock-many : {E : Type 0} (refuse : ParseError → ℕ → E) (behavior : Behavior) (text : List ℕ)
     (colon count : ℕ)
     → Ok colon ≡ first_refusal_or refuse (hours_table text) (Ok (colon_place text))
     → count ≡ min (run_value text 0) (2 ^ 64 - 1) → 2400000000 < count
-    → Err (refuse ParseError.DurationHourValueTooLarge 0) ≡ clock_form_or refuse behavior text
-unfolding clock_form_or
+    → Err (refuse ParseError.DurationHourValueTooLarge 0)
+    ≡ seen_as refuse (clock_form behavior text)
 clock-many refuse behavior text colon count read same more =
     let all = digits_value (hours text) in
     let held = refusal-value refuse (hours_table text) (colon_place text) colon (sym read) in
@@ -87,26 +107,26 @@ clock-many refuse behavior text colon count read same more =
       hours_there,
     ) in
     let inner = shifted (colon_place text + 1) refuse in
-    let rest = after_hours_or inner behavior all (from_minute text) in
+    let rest = seen_as inner (after_hours behavior all (from_minute text)) in
     let ranged = first_refusal_or refuse (hours_range all) rest in
     let too_large = refuse ParseError.DurationHourValueTooLarge 0 in
-    sym (refusal-all refuse (hours_table text) ranged held.0
+    sym (clock_form-seen refuse behavior text
+    ∙ refusal-all refuse (hours_table text) ranged held.0
     ∙ ap (λ (holds : Bool). if holds then rest else Err too_large) range)
 
 -- the answer to what follows the hours, by the place of the colon and by how many there are
 abbrev hours_rest : {E : Type 0} → (ParseError → ℕ → E) → Behavior → List ℕ → ℕ → ℕ
     → Result UnsignedDuration E
 hours_rest refuse behavior text colon count =
-    after_hours_or (shifted (colon + 1) refuse) behavior count (drop (colon + 1) text)
+    seen_as (shifted (colon + 1) refuse) (after_hours behavior count (drop (colon + 1) text))
 
 -- otherwise what follows them decides
 pub clock-rest : {E : Type 0} (refuse : ParseError → ℕ → E) (behavior : Behavior) (text : List ℕ)
     (colon count : ℕ)
     → Ok colon ≡ first_refusal_or refuse (hours_table text) (Ok (colon_place text))
     → count ≡ min (run_value text 0) (2 ^ 64 - 1) → count ≤ 2400000000
-    → after_hours_or (shifted (colon + 1) refuse) behavior count (drop (colon + 1) text)
-    ≡ clock_form_or refuse behavior text
-unfolding clock_form_or
+    → seen_as (shifted (colon + 1) refuse) (after_hours behavior count (drop (colon + 1) text))
+    ≡ seen_as refuse (clock_form behavior text)
 clock-rest refuse behavior text colon count read same few =
     let all = digits_value (hours text) in
     let held = refusal-value refuse (hours_table text) (colon_place text) colon (sym read) in
@@ -123,7 +143,8 @@ clock-rest refuse behavior text colon count read same few =
     let last = rest (colon_place text) all in
     let ranged = first_refusal_or refuse (hours_range all) last in
     let too_large = refuse ParseError.DurationHourValueTooLarge 0 in
-    let whole = refusal-all refuse (hours_table text) ranged held.0
+    let whole = clock_form-seen refuse behavior text
+    ∙ refusal-all refuse (hours_table text) ranged held.0
     ∙ ap (λ (holds : Bool). if holds then last else Err too_large) range in
     ap (rest colon) counted ∙ ap (λ (place : ℕ). rest place all) (sym held.1) ∙ sym whole
 
@@ -185,37 +206,36 @@ colon-no_letter : (byte : ℕ) → (byte == colon) ≡ true → is_day_letter by
 colon-no_letter byte same = grind (arith, nat_tests)
 
 -- the answer of a clock, from its minute on, that is to take all of a text
-abbrev clock_whole : {E : Type 0} → (ParseError → ℕ → E) → ℕ → List ℕ → Clock
-    → Result UnsignedDuration E
-clock_whole refuse count rest clock =
-    first_refusal_or refuse (clock_end clock rest) (Ok (clock_numbers count clock))
+abbrev clock_whole : ℕ → List ℕ → Clock → Result UnsignedDuration Refused
+clock_whole count rest clock =
+    first_refused_or (clock_end clock rest) (Ok (clock_numbers count clock))
 
 -- no letter stands in a clock, and it has five bytes at least
-pub clock-no_letter : {E : Type 0} (refuse : ParseError → ℕ → E) (behavior : Behavior)
-    (text : List ℕ) (value : UnsignedDuration) → clock_form_or refuse behavior text ≡ Ok value
-    → has_days text ≡ false
-unfolding clock_form_or
-clock-no_letter refuse behavior text value same =
+pub clock-no_letter : (behavior : Behavior) (text : List ℕ) (value : UnsignedDuration)
+    → clock_form behavior text ≡ Ok value → has_days text ≡ false
+unfolding clock_form
+clock-no_letter behavior text value same =
     let first = colon_place text in
     let rest : List ℕ = from_minute text in
-    let inner = shifted (first + 1) refuse in
     let count = digits_value (hours text) in
-    let whole_clock = clock_whole inner count rest in
-    let front_answer = minute_front_or inner behavior rest in
+    let whole_clock = clock_whole count rest in
+    let front_answer = minute_front behavior rest in
     let clocks = result_and_then whole_clock front_answer in
-    let after = first_refusal_or inner (rest_table behavior rest) clocks in
-    let ranged = first_refusal_or refuse (hours_range count) after in
-    let front = refusal-ok refuse (hours_table text) ranged value same in
-    let range = refusal-ok refuse (hours_range count) after value front.1 in
-    let ranges = refusal-ok inner (rest_table behavior rest) clocks value range.1 in
+    let after = after_hours behavior count rest in
+    let part = from_byte (first + 1) after in
+    let ranged = first_refused_or (hours_range count) part in
+    let front = refusal-ok placed (hours_table text) ranged value same in
+    let range = refusal-ok placed (hours_range count) part value front.1 in
+    let inner = seen-read (shifted (first + 1) placed) after value range.1 in
+    let ranges = refusal-ok placed (rest_table behavior rest) clocks value inner in
     let read = and_then-ok whole_clock front_answer value ranges.1 in
     let found = read.0 in
-    let second_answer = clock_answer_or inner behavior rest in
-    let minute = refusal-ok inner (minute_digits rest) second_answer found read.1 in
+    let second_answer = clock_answer behavior rest in
+    let minute = refusal-ok placed (minute_digits rest) second_answer found read.1 in
     let table = minute_table behavior rest in
-    let clock = refusal-value inner table (minute_clock rest) found minute.1 in
+    let clock = refusal-value placed table (minute_clock rest) found minute.1 in
     let numbers : Result UnsignedDuration _ = Ok (clock_numbers count found) in
-    let whole = refusal-ok inner (clock_end found rest) numbers value read.2 in
+    let whole = refusal-ok placed (clock_end found rest) numbers value read.2 in
     let sized = ap (λ (clock : Clock). clock.size == length rest) {y = found} clock.1 ∙ whole.0.0 in
     let none = minute-no_letter rest minute.0.0 clock.0.1.0 sized in
     let within : first < length text = grind (arith, nat_tests, front.0.1.0) in

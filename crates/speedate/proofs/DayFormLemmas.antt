@@ -3,12 +3,12 @@ use Rattle.std.proofs.Common.{arith, rules, refl, ap, ◌≡◌, ◌∙◌, ℕ,
 use Rattle.std.proofs.lemmas.Bool.Decides.{nat_tests}
 use Rattle.std.proofs.lemmas.List.{drop_all}
 use Rattle.std.proofs.Math.Seq.{drop-cons}
-use Rattle.speedate_civil.specs.Base.{Behavior, ParseError}
+use Rattle.speedate_civil.specs.Base.{Behavior}
 use Rattle.speedate_base.specs.Digits.{run_length, run_value}
 use Rattle.speedate.specs.DayForm.{IsWholeDays, is_day_letter, letter_place, size_of_one}
 use Rattle.speedate.specs.DayForm.{day_endings, gaps, ending_place, gap_place, days_size}
 use Rattle.speedate.specs.DayForm.{has_whole_ending}
-use Rattle.speedate.specs.DayForm.{after_days_or, day_form_or}
+use Rattle.speedate.specs.DayForm.{after_days, day_form}
 
 -- the letter of a day is no space
 no_space : (byte : ℕ) → is_day_letter byte ≡ true
@@ -26,11 +26,10 @@ ended : has_whole_ending [] ≡ true
 ended = refl
 
 -- whole days are their number
-pub whole_days : {E : Type 0} (refuse : ParseError → ℕ → E) (behavior : Behavior) (text : List ℕ)
-    (days : ℕ) → IsWholeDays text days
-    → day_form_or refuse behavior text ≡ Ok (record { day = days; second = 0; microsecond = 0 })
-unfolding day_form_or after_days_or
-whole_days refuse behavior text days whole =
+pub whole_days : (behavior : Behavior) (text : List ℕ) (days : ℕ) → IsWholeDays text days
+    → day_form behavior text ≡ Ok (record { day = days; second = 0; microsecond = 0 })
+unfolding day_form after_days
+whole_days behavior text days whole =
     let size = run_length text 0 in
     let last = whole.last in
     let nothing : drop (suc size) text ≡ [] = drop_all (suc size) text (omega arith) in

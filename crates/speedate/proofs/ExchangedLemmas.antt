@@ -6,8 +6,8 @@ use Rattle.std.proofs.lemmas.Int.{ints}
 use Rattle.std.proofs.lemmas.Bool.Decides.{nat_tests}
 use Rattle.speedate_base.specs.Digits.{digits_value}
 use Rattle.speedate_base.specs.Requirement.{first_fault_or, result_and_then}
-use Rattle.speedate.specs.Duration.{iso_from, duration_answer}
-use Rattle.speedate.proofs.DurationAnswerLemmas.{iso_from-item, duration_answer-iso}
+use Rattle.speedate.proofs.DurationAnswerLemmas.{duration_answer-iso, duration_fault, fault_from}
+use Rattle.speedate.proofs.DurationAnswerLemmas.{iso_from-item}
 use Rattle.speedate.specs.DurationNumbers.{DurationNumbers, UnsignedDuration, signed_form}
 use Rattle.speedate.specs.IsoOrder.{IsWhole, AreWhole, IsPlain, AreExchanged}
 use Rattle.speedate.specs.IsoForm.{IsoUnit, units, ComponentText, Item, Component, item_text}
@@ -88,14 +88,14 @@ pair_text first second rest =
 -- the answer to two components and what follows: that after them where both fit
 pair-answer : (sums : IsoSums) (first second : ComponentText) (rest : List ℕ) → IsFree sums
     → IsPlain sums first → IsPlain sums second
-    → iso_from sums (pair_text first second rest)
+    → fault_from sums (pair_text first second rest)
     ≡ fitting_or (fits sums first && fits (with_item (Component first) sums) second)
-    (iso_from (with_item (Component second) (with_item (Component first) sums)) rest)
+    (fault_from (with_item (Component second) (with_item (Component first) sums)) rest)
 pair-answer sums first second rest free one two =
     let first_item = Component first in
     let second_item = Component second in
     let next = with_item first_item sums in
-    let last = iso_from (with_item second_item next) rest in
+    let last = fault_from (with_item second_item next) rest in
     let plain = plain-next sums first second one two in
     let free_next = item-free first_item sums free in
     let second_is = item_at-whole next second_item rest plain.0 in
@@ -111,19 +111,19 @@ pair-answer sums first second rest free one two =
 -- it does not depend on their order
 pair-exchanged : (sums : IsoSums) (first second : ComponentText) (rest : List ℕ) → IsFree sums
     → IsPlain sums first → IsPlain sums second
-    → iso_from sums (pair_text first second rest) ≡ iso_from sums (pair_text second first rest)
+    → fault_from sums (pair_text first second rest) ≡ fault_from sums (pair_text second first rest)
 pair-exchanged sums first second rest free one two =
     search (rules, pair-answer, fits-exchanged, sums-exchanged)
 
 -- an item before others is judged first
 item-first : (sums : IsoSums) (item : Item) (items : List Item) (text : List ℕ)
     → IsWhole sums item
-    → iso_from sums (flat_map item_text (item ∷ items) ++ text)
+    → fault_from sums (flat_map item_text (item ∷ items) ++ text)
     ≡ first_fault_or (item_table sums item)
-    (iso_from (with_item item sums) (flat_map item_text items ++ text))
+    (fault_from (with_item item sums) (flat_map item_text items ++ text))
 item-first sums item items text whole =
     let rest = flat_map item_text items ++ text in
-    ap (iso_from sums) (append_assoc (item_text item) (flat_map item_text items) text)
+    ap (fault_from sums) (append_assoc (item_text item) (flat_map item_text items) text)
     ∙ iso_from-item sums item rest (item_at-whole sums item rest whole)
 
 -- nor where they stand after items, whether these are refused or not
@@ -131,8 +131,8 @@ after-exchanged : (sums : IsoSums) (items : List Item) (first second : Component
     (rest : List ℕ)
     → IsFree sums → AreWhole sums items
     → IsPlain (with_items items sums) first → IsPlain (with_items items sums) second
-    → iso_from sums (flat_map item_text items ++ pair_text first second rest)
-    ≡ iso_from sums (flat_map item_text items ++ pair_text second first rest)
+    → fault_from sums (flat_map item_text items ++ pair_text first second rest)
+    ≡ fault_from sums (flat_map item_text items ++ pair_text second first rest)
 after-exchanged sums [] first second rest free whole one two =
     pair-exchanged sums first second rest free one two
 after-exchanged sums (item ∷ items) first second rest free whole one two =
@@ -146,8 +146,8 @@ after-exchanged sums (item ∷ items) first second rest free whole one two =
 -- texts that differ only in that order have the same answer
 pub duration_answer-exchanged : (asked : IsoOrder) (behavior : Behavior) (one two : List ℕ)
     (answer : Result DurationNumbers ParseError)
-    → answer ≡ duration_answer asked behavior one → asked ≡ IsoOrder.Lax → AreExchanged one two
-    → answer ≡ duration_answer asked behavior two
+    → answer ≡ duration_fault asked behavior one → asked ≡ IsoOrder.Lax → AreExchanged one two
+    → answer ≡ duration_fault asked behavior two
 duration_answer-exchanged asked behavior one two answer is lax are =
     let items = flat_map item_text are.items in
     let first = item_text (Component are.first) in
@@ -156,7 +156,7 @@ duration_answer-exchanged asked behavior one two answer is lax are =
     let exchanged : List ℕ = items ++ (second ++ (first ++ are.rest)) in
     let after = after-exchanged (no_sums IsoOrder.Lax) are.items are.first are.second are.rest in
     let same = after (refl, refl) are.are_whole are.is_plain_first are.is_plain_second in
-    let read = λ (text : List ℕ). duration_answer IsoOrder.Lax behavior text in
+    let read = λ (text : List ℕ). duration_fault IsoOrder.Lax behavior text in
     let form = duration_answer-iso IsoOrder.Lax behavior are.negative are.sign in
     let first_read = ap read are.is_one ∙ form body are.is_sign in
     let second_read = ap read are.is_two ∙ form exchanged are.is_sign in

@@ -10,10 +10,13 @@ use Rattle.speedate_base.specs.Numbers.{has_minus, sign_size}
 use Rattle.speedate_base.proofs.NumberLemmas.{sign-of_text}
 use Rattle.speedate_base.specs.Requirement.{fault_alone, first_fault_or, AllHold, result_and_then}
 use Rattle.speedate.specs.DurationNumbers.{DurationNumbers, signed_form}
-use Rattle.speedate.specs.Duration.{days_or_clock, iso_after, iso_after_or, iso_from, iso_form}
-use Rattle.speedate.specs.Duration.{unsigned_answer_or, duration_answer}
+use Rattle.speedate_base.specs.Refused.{without_place}
+use Rattle.speedate.specs.Duration.{days_or_clock, duration_answer}
 use Rattle.speedate.proofs.DurationAnswerLemmas.{duration_answer-form, iso_from-item}
-use Rattle.speedate.proofs.DurationAnswerLemmas.{duration_answer-iso}
+use Rattle.speedate.proofs.DurationAnswerLemmas.{duration_answer-iso, duration_fault, fault_after}
+use Rattle.speedate.proofs.DurationAnswerLemmas.{fault_after-byte, fault_after-end}
+use Rattle.speedate.proofs.DurationAnswerLemmas.{fault_after-item}
+use Rattle.speedate.proofs.DurationAnswerLemmas.{fault_form, fault_from}
 use Rattle.speedate.specs.IsoOrder.{IsLaxOrRefused, IsAnswerInOrder, are_in_order, IsMadeOf, is_iso}
 use Rattle.speedate.specs.IsoForm.{IsoUnit, units, unit_in, ComponentText, Item, TimeDesignator}
 use Rattle.speedate.specs.IsoForm.{Component, item_text, item_at, item_table, units_after, IsoSums}
@@ -53,17 +56,21 @@ table-both sums (Component component) lax answer both = search rules
 
 -- after any items
 iso-both : (skipped : ℕ) (sums : IsoSums) (text : List ℕ)
-    → IsLaxOrRefused (iso_after skipped (as_lax sums) text) (iso_after skipped sums text)
-unfolding iso_after_or
-iso-both skipped sums [] = inl refl
+    → IsLaxOrRefused (fault_after skipped (as_lax sums) text) (fault_after skipped sums text)
+iso-both skipped sums [] =
+    inl (fault_after-end skipped sums ∙ sym (fault_after-end skipped (as_lax sums)))
 iso-both zero sums (byte ∷ rest) =
     let item = item_at (byte ∷ rest) in
     let size = length (item_text item) - 1 in
     let later = with_item item sums in
-    let strict = iso_after size later rest in
-    let IsBoth = λ (next : IsoSums). IsLaxOrRefused (iso_after size next rest) strict in
-    table-both sums item _ _ (subst IsBoth (item-lax item sums) (iso-both size later rest))
-iso-both (suc skipped) sums (byte ∷ rest) = iso-both skipped sums rest
+    let strict = fault_after size later rest in
+    let IsBoth = λ (next : IsoSums). IsLaxOrRefused (fault_after size next rest) strict in
+    let both = subst IsBoth (item-lax item sums) (iso-both size later rest) in
+    rw (fault_after-item (as_lax sums) byte rest, fault_after-item sums byte rest)
+    (table-both sums item _ _ both)
+iso-both (suc skipped) sums (byte ∷ rest) =
+    rw (fault_after-byte skipped (as_lax sums) byte rest, fault_after-byte skipped sums byte rest)
+    (iso-both skipped sums rest)
 
 both-signed : (positive : Bool) (lax answer : Answer) → IsLaxOrRefused lax answer
     → IsLaxOrRefused (result_and_then (signed_form positive) lax)
@@ -72,14 +79,15 @@ both-signed positive lax answer both = search rules
 
 unsigned-both : (asked : IsoOrder) (behavior : Behavior) (text : List ℕ) (iso : Bool)
     → IsLaxOrRefused
-    (if iso then iso_form IsoOrder.Lax (drop 1 text) else days_or_clock behavior text)
-    (if iso then iso_form asked (drop 1 text) else days_or_clock behavior text)
+    (if iso then fault_form IsoOrder.Lax (drop 1 text)
+    else without_place (days_or_clock behavior text))
+    (if iso then fault_form asked (drop 1 text) else without_place (days_or_clock behavior text))
 unsigned-both asked behavior text iso = search (rules, iso-both)
 
 -- so the answer in any order is the lax one, or the text is refused for its order
 pub duration-both : (asked : IsoOrder) (behavior : Behavior) (text : List ℕ)
-    → IsLaxOrRefused (duration_answer IsoOrder.Lax behavior text)
-    (duration_answer asked behavior text)
+    → IsLaxOrRefused (duration_fault IsoOrder.Lax behavior text)
+    (duration_fault asked behavior text)
 duration-both asked behavior text =
     let rest = drop (sign_size text) text in
     let lax_form = duration_answer-form IsoOrder.Lax behavior text in
@@ -128,10 +136,9 @@ strict-end comes in_order sums = search rules
 
 -- so good items are refused if and only if they are not in order
 items-strict : (next : List IsoUnit) (sums : IsoSums) (items : List Item) → AreGood sums items
-    → iso_from (as_strict next sums) (flat_map item_text items)
+    → fault_from (as_strict next sums) (flat_map item_text items)
     ≡ strict_end (are_in_order next items) (with_items items sums)
-unfolding iso_after_or
-items-strict next sums [] good = refl
+items-strict next sums [] good = fault_after-end 0 (as_strict next sums)
 items-strict next sums (TimeDesignator ∷ items) good =
     iso_from-item (as_strict next sums) TimeDesignator (flat_map item_text items) refl
     ∙ refusal-all fault_alone (item_table sums TimeDesignator) _ good.1
@@ -144,7 +151,7 @@ items-strict next sums (Component component ∷ items) good =
     let unit = unit_in (units sums.is_time) component.designator in
     let later = with_item item sums in
     let same = component-strict unit component next sums refl good.1.1.1.1.0 in
-    let next_sums = ap (λ (sums : IsoSums). iso_from sums rest) (sym same) in
+    let next_sums = ap (λ (sums : IsoSums). fault_from sums rest) (sym same) in
     let others = next_sums ∙ items-strict after later items good.2 in
     iso_from-item (as_strict next sums) item rest (item_at-text sums item rest good.0 good.1)
     ∙ table-strict next sums component _ good.1
@@ -153,7 +160,7 @@ items-strict next sums (Component component ∷ items) good =
 
 -- and without the order they are what they add up to
 items-lax : (sums : IsoSums) (items : List Item) → AreGood sums items
-    → iso_from sums (flat_map item_text items) ≡ lax_end (with_items items sums)
+    → fault_from sums (flat_map item_text items) ≡ lax_end (with_items items sums)
 items-lax sums items good =
     let text = flat_map item_text items in
     answer-only sums text _ _ (iso_after-is 0 sums text)
@@ -167,13 +174,13 @@ chosen positive in_order lax = search rules
 -- so a text of good items has what they add up to, with its sign
 pub answer-made : (behavior : Behavior) (text : List ℕ) (items : List Item)
     → (is : IsMadeOf text items)
-    → duration_answer IsoOrder.Lax behavior text
+    → duration_fault IsoOrder.Lax behavior text
     ≡ result_and_then (signed_form (not is.negative))
     (lax_end (with_items items (no_sums IsoOrder.Lax)))
 answer-made behavior text items is =
     let body = flat_map item_text items in
     let end = items-lax (no_sums IsoOrder.Lax) items is.are_good in
-    ap (duration_answer IsoOrder.Lax behavior) is.is_text
+    ap (duration_fault IsoOrder.Lax behavior) is.is_text
     ∙ duration_answer-iso IsoOrder.Lax behavior is.negative is.sign body is.is_sign
     ∙ ap (result_and_then (signed_form (not is.negative))) end
 
@@ -181,16 +188,16 @@ answer-made behavior text items is =
 -- answer
 answer-strict : (asked : IsoOrder) (behavior : Behavior) (text : List ℕ) (items : List Item)
     → asked ≡ IsoOrder.Strict → IsMadeOf text items
-    → duration_answer asked behavior text
-    ≡ in_order_or (are_in_order (units false) items) (duration_answer IsoOrder.Lax behavior text)
+    → duration_fault asked behavior text
+    ≡ in_order_or (are_in_order (units false) items) (duration_fault IsoOrder.Lax behavior text)
 answer-strict asked behavior text items strict is =
     let in_order = are_in_order (units false) items in
     let body = flat_map item_text items in
     let none = no_sums IsoOrder.Lax in
     let end = items-strict (units false) none items is.are_good in
     let lax = sym (answer-made behavior text items is) in
-    ap (λ (order : IsoOrder). duration_answer order behavior text) strict
-    ∙ ap (duration_answer IsoOrder.Strict behavior) is.is_text
+    ap (λ (order : IsoOrder). duration_fault order behavior text) strict
+    ∙ ap (duration_fault IsoOrder.Strict behavior) is.is_text
     ∙ duration_answer-iso IsoOrder.Strict behavior is.negative is.sign body is.is_sign
     ∙ ap (result_and_then (signed_form (not is.negative))) end
     ∙ chosen (not is.negative) in_order (lax_end (with_items items none))
@@ -198,9 +205,11 @@ answer-strict asked behavior text items strict is =
 
 -- a clock and days are not asked for an order
 answer-no_iso : (asked : IsoOrder) (behavior : Behavior) (text : List ℕ) → is_iso text ≡ false
-    → duration_answer asked behavior text ≡ duration_answer IsoOrder.Lax behavior text
-unfolding unsigned_answer_or
-answer-no_iso asked behavior text other = rw other refl
+    → duration_fault asked behavior text ≡ duration_fault IsoOrder.Lax behavior text
+answer-no_iso asked behavior text other =
+    let lax_form = duration_answer-form IsoOrder.Lax behavior text in
+    let asked_form = duration_answer-form asked behavior text in
+    rw (lax_form, asked_form, other) refl
 
 -- an ISO 8601 duration begins with a `P` after its sign
 first-byte : (text : List ℕ) → (slice_index text 0 == capital_p) ≡ true
@@ -228,12 +237,12 @@ answer-items behavior text numbers iso same =
     let unsigned = ap (λ (rest : List ℕ). sign ++ rest) (first-byte rest iso) in
     let begins : text ≡ sign ++ capital_p ∷ body = signed ∙ unsigned in
     let negative = has_minus text in
-    let read = sym same
-    ∙ ap (duration_answer IsoOrder.Lax behavior) begins
+    let read = sym (ap without_place same)
+    ∙ ap (duration_fault IsoOrder.Lax behavior) begins
     ∙ duration_answer-iso IsoOrder.Lax behavior negative sign body is_sign in
     let from = iso_after-is 0 (no_sums IsoOrder.Lax) body in
     let sums = with_items from.0 (no_sums IsoOrder.Lax) in
-    let form = iso_form IsoOrder.Lax body in
+    let form = fault_form IsoOrder.Lax body in
     let ended = ends-read (not negative) sums from.1 form numbers from.2.ends read in
     let items_text = flat_map item_text from.0 in
     let is_body = from.2.is_text
@@ -252,6 +261,6 @@ answer-items behavior text numbers iso same =
 -- the answer in the order that is asked for
 pub duration_answer-in_order : (asked : IsoOrder) (behavior : Behavior) (text : List ℕ)
     (answer : Result DurationNumbers ParseError)
-    → answer ≡ duration_answer asked behavior text → IsAnswerInOrder asked behavior text answer
+    → answer ≡ duration_fault asked behavior text → IsAnswerInOrder asked behavior text answer
 duration_answer-in_order asked behavior text answer same =
     search (rules, duration-both, answer-items, answer-strict, answer-no_iso)

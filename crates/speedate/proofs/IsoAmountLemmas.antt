@@ -7,7 +7,8 @@ use Rattle.speedate_base.specs.Digits.{digits_value}
 use Rattle.speedate_base.specs.Numbers.{has_minus, IsSign}
 use Rattle.speedate_base.specs.Requirement.{fault_alone, result_and_then}
 use Rattle.speedate_base.specs.Timestamp.{seconds_per_day}
-use Rattle.speedate.specs.Duration.{duration_answer, duration_numbers, ◌gives◌, Duration}
+use Rattle.speedate.specs.Duration.{duration_numbers, ◌gives◌, Duration}
+use Rattle.speedate.proofs.DurationAnswerLemmas.{duration_fault}
 use Rattle.speedate.proofs.FractionLemmas.{fraction_amount, fraction_amount-is}
 use Rattle.speedate.specs.DurationNumbers.{DurationNumbers, amount_microseconds, of_amount}
 use Rattle.speedate.specs.DurationNumbers.{UnsignedDuration, normal_table, signed_form}
@@ -21,8 +22,8 @@ use Rattle.speedate.proofs.InOrderLemmas.{answer-made, duration-both}
 
 -- an answer in any order is the lax one
 lax-of_read : (asked : IsoOrder) (behavior : Behavior) (text : List ℕ) (numbers : DurationNumbers)
-    → duration_answer asked behavior text ≡ Ok numbers
-    → duration_answer IsoOrder.Lax behavior text ≡ Ok numbers
+    → duration_fault asked behavior text ≡ Ok numbers
+    → duration_fault IsoOrder.Lax behavior text ≡ Ok numbers
 lax-of_read asked behavior text numbers same = search (rules, duration-both)
 
 -- the microseconds of sums
@@ -102,7 +103,7 @@ end_answer sums some = if some then Ok (sums_amount sums) else Err ParseError.To
 -- of the text
 answer-amount : (asked : IsoOrder) (behavior : Behavior) (text : List ℕ) (items : List Item)
     (numbers : DurationNumbers)
-    → duration_answer asked behavior text ≡ Ok numbers → IsMadeOf text items
+    → duration_fault asked behavior text ≡ Ok numbers → IsMadeOf text items
     → IsAmountOf text items numbers
 answer-amount asked behavior text items numbers same is =
     let sums = with_items items (no_sums IsoOrder.Lax) in
@@ -131,7 +132,7 @@ answer-amount asked behavior text items numbers same is =
 -- and so has the duration
 pub duration_answer-amount : (asked : IsoOrder) (behavior : Behavior) (text : List ℕ)
     (result : Result Duration ParseError)
-    → result gives duration_answer asked behavior text
+    → result gives duration_fault asked behavior text
     → IfOk result (λ value. (items : List Item) → IsMadeOf text items
     → IsAmountOf text items (duration_numbers value))
 duration_answer-amount asked behavior text (Ok value) same =

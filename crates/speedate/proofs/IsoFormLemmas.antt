@@ -8,9 +8,12 @@ use Rattle.std.proofs.Math.Seq.{drop-nil}
 use Rattle.speedate_base.specs.Ascii.{capital_p}
 use Rattle.speedate_base.specs.Numbers.{has_minus, sign_size}
 use Rattle.speedate_base.specs.Requirement.{fault_alone, first_fault_or, AllHold, result_and_then}
-use Rattle.speedate.specs.Duration.{iso_after, iso_after_or, iso_form, days_or_clock}
-use Rattle.speedate.specs.Duration.{unsigned_answer, unsigned_answer_or, duration_answer}
-use Rattle.speedate.specs.Duration.{IsGrammarAnswer}
+use Rattle.speedate_base.specs.Refused.{without_place}
+use Rattle.speedate.specs.Duration.{days_or_clock, IsGrammarAnswer}
+use Rattle.speedate.proofs.DurationAnswerLemmas.{duration_answer-form, duration_fault, fault_after}
+use Rattle.speedate.proofs.DurationAnswerLemmas.{fault_after-byte, fault_after-end}
+use Rattle.speedate.proofs.DurationAnswerLemmas.{fault_after-item}
+use Rattle.speedate.proofs.DurationAnswerLemmas.{fault_form}
 use Rattle.speedate.specs.DurationNumbers.{DurationNumbers, UnsignedDuration, signed_form}
 use Rattle.speedate.specs.IsoForm.{Item, item_text, IsItem, item_at, IsoSums, no_sums, with_item}
 use Rattle.speedate.specs.IsoForm.{with_items, item_table, AreGood, sums_amount, Ends, IsEndedFront}
@@ -136,22 +139,26 @@ from-step sums byte rest (Err fault) next met from = (
 
 -- so every text has an answer, which the function gives
 pub iso_after-is : (skipped : ℕ) (sums : IsoSums) (text : List ℕ)
-    → IsAnswerFrom sums (drop skipped text) (iso_after skipped sums text)
-unfolding iso_after_or
+    → IsAnswerFrom sums (drop skipped text) (fault_after skipped sums text)
 iso_after-is skipped sums [] =
-    rw (drop-nil {A = ℕ} skipped) ([], [], record { is_text = refl; are_good = tt; ends = refl })
+    let end = fault_after-end skipped sums in
+    rw (drop-nil {A = ℕ} skipped) ([], [], record { is_text = refl; are_good = tt; ends = end })
 iso_after-is zero sums (byte ∷ rest) =
     let item = item_at (byte ∷ rest) in
     let size = length (item_text item) - 1 in
-    from-step sums byte rest _ _ refl (iso_after-is size (with_item item sums) rest)
-iso_after-is (suc skipped) sums (byte ∷ rest) = iso_after-is skipped sums rest
+    let next = iso_after-is size (with_item item sums) rest in
+    subst (IsAnswerFrom sums (byte ∷ rest)) (sym (fault_after-item sums byte rest))
+    (from-step sums byte rest _ _ refl next)
+iso_after-is (suc skipped) sums (byte ∷ rest) =
+    subst (IsAnswerFrom sums (drop skipped rest)) (sym (fault_after-byte skipped sums byte rest))
+    (iso_after-is skipped sums rest)
 
 form-is : (order : IsoOrder) (behavior : Behavior) (text : List ℕ) (iso : Bool)
     → MatchBool iso
     (IsAnswerFrom (no_sums order) (drop 1 text)
-    (if iso then iso_form order (drop 1 text) else days_or_clock behavior text))
-    ((if iso then iso_form order (drop 1 text) else days_or_clock behavior text)
-    ≡ days_or_clock behavior text)
+    (if iso then fault_form order (drop 1 text) else without_place (days_or_clock behavior text)))
+    ((if iso then fault_form order (drop 1 text) else without_place (days_or_clock behavior text))
+    ≡ without_place (days_or_clock behavior text))
 form-is order behavior text true = iso_after-is 0 (no_sums order) (drop 1 text)
 form-is order behavior text false = refl
 
@@ -165,16 +172,16 @@ form-only order text false form first second one two = one ∙ sym two
 -- so the grammar allows the answer to a text of a duration, and no other
 pub duration_answer-grammar : (order : IsoOrder) (behavior : Behavior) (text : List ℕ)
     (answer : Result DurationNumbers ParseError)
-    → answer ≡ duration_answer order behavior text → IsGrammarAnswer order behavior text answer
-unfolding unsigned_answer_or
+    → answer ≡ duration_fault order behavior text → IsGrammarAnswer order behavior text answer
 duration_answer-grammar order behavior text answer same =
     let rest = drop (sign_size text) text in
     let iso = slice_index rest 0 == capital_p in
     let is = form-is order behavior rest iso in
     let signed = result_and_then (signed_form (not (has_minus text))) in
-    let only = form-only order (drop 1 rest) iso (days_or_clock behavior rest) in
+    let only = form-only order (drop 1 rest) iso (without_place (days_or_clock behavior rest)) in
+    let form = same ∙ duration_answer-form order behavior text in
     record {
-      is_allowed = (unsigned_answer order behavior rest, is, same);
-      is_only = λ other there. there.2 ∙ ap signed (only there.0 _ there.1 is) ∙ sym same;
+      is_allowed = (_, is, form);
+      is_only = λ other there. there.2 ∙ ap signed (only there.0 _ there.1 is) ∙ sym form;
       is_only_front = front-only (no_sums order) (drop 1 rest);
     }

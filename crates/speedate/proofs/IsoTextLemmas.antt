@@ -14,18 +14,19 @@ use Rattle.speedate_base.specs.Ascii.{capital_t, capital_y}
 use Rattle.speedate_base.specs.Digits.{six_digit_text, digits_value}
 use Rattle.speedate_base.specs.Requirement.{fault_alone, AllHold, result_and_then}
 use Rattle.speedate_base.proofs.TextLemmas.{text-distinct}
-use Rattle.speedate.specs.Duration.{iso_from, iso_form, duration_answer, counted_text}
+use Rattle.speedate.specs.Duration.{duration_answer, counted_text}
 use Rattle.speedate.specs.Duration.{without_last_zeros, short_fraction_text, seconds_text}
 use Rattle.speedate.specs.Duration.{hours_text, days_text, start_text, rest_text, is_whole_days}
 use Rattle.speedate.specs.Duration.{duration_text}
-use Rattle.speedate.proofs.DurationAnswerLemmas.{duration_answer-form, iso_from-item, iso_from-end}
+use Rattle.speedate.proofs.DurationAnswerLemmas.{duration_answer-form, duration_fault, fault_form}
+use Rattle.speedate.proofs.DurationAnswerLemmas.{fault_from, iso_from-end, iso_from-item}
 use Rattle.speedate.proofs.IsoItemLemmas.{item_at-component}
 use Rattle.speedate.specs.IsoOrder.{IsLaxOrRefused}
 use Rattle.speedate.proofs.InOrderLemmas.{duration-both}
 use Rattle.speedate.proofs.DurationLemmas.{normal_form-same}
 use Rattle.speedate.specs.DurationNumbers.{DurationNumbers, UnsignedDuration, IsDuration}
 use Rattle.speedate.specs.DurationNumbers.{signed_form}
-use Rattle.speedate_base.proofs.RefusalLemmas.{refusal-all}
+use Rattle.speedate_base.proofs.RefusalLemmas.{refusal-all, seen-read}
 use Rattle.speedate.specs.IsoForm.{IsoUnit, unit, units, unit_in, units_after, ComponentText}
 use Rattle.speedate.specs.IsoForm.{TimeDesignator, Component, IsItem, IsFraction, IsoSums}
 use Rattle.speedate.specs.IsoForm.{fraction_seconds, fraction_microseconds, with_number}
@@ -71,8 +72,8 @@ component-leads : (sums : IsoSums) (unit : IsoUnit) (number : ℕ) (fraction res
     → IsFraction fraction → number ≤ 4294967295
     → (with_number unit number fraction sums).day ≤ 4294967295
     → (with_number unit number fraction sums).second ≤ 4294967295
-    → iso_from sums (decimal number ++ fraction ++ unit.designator ∷ [] ++ rest)
-    ≡ iso_from (with_number unit number fraction sums) rest
+    → fault_from sums (decimal number ++ fraction ++ unit.designator ∷ [] ++ rest)
+    ≡ fault_from (with_number unit number fraction sums) rest
 component-leads sums unit number fraction rest found comes whole is few few_days few_seconds =
     let component : ComponentText = record {
       number = decimal number;
@@ -100,7 +101,7 @@ component-leads sums unit number fraction rest found comes whole is few few_days
     let front = item_at-component sums.is_time component rest is_item digits (ap is_some found) in
     iso_from-item sums item rest front
     ∙ refusal-all fault_alone (item_table sums item) _ all
-    ∙ ap (λ (sums : IsoSums). iso_from sums rest) sum
+    ∙ ap (λ (sums : IsoSums). fault_from sums rest) sum
 
 -- a number and its unit, or nothing for none, lead to the sums with that number of the unit
 counted-leads : (next : List IsoUnit) (is_time some none : Bool) (unit : IsoUnit)
@@ -108,9 +109,9 @@ counted-leads : (next : List IsoUnit) (is_time some none : Bool) (unit : IsoUnit
     → unit_in (units is_time) unit.designator ≡ Some unit
     → is_some (unit_in next unit.designator) ≡ true → number ≤ 4294967295
     → day + number * unit.day ≤ 4294967295 → second + number * unit.second ≤ 4294967295
-    → iso_from (at next is_time some day second)
+    → fault_from (at next is_time some day second)
     ((if none then [] else decimal number ++ unit.designator ∷ []) ++ rest)
-    ≡ iso_from (at (if none then next else units_after unit.designator next) is_time
+    ≡ fault_from (at (if none then next else units_after unit.designator next) is_time
     (if none then some else true) (day + number * unit.day) (second + number * unit.second))
     rest
 counted-leads next is_time some true unit number day second rest none found comes few few_days
@@ -118,7 +119,7 @@ counted-leads next is_time some true unit number day second rest none found come
     let zero_is = eqb-true number 0 none in
     let days : day ≡ day + number * unit.day = grind (arith, zero_is) in
     let seconds : second ≡ second + number * unit.second = grind (arith, zero_is) in
-    λ i. iso_from (at next is_time some (days i) (seconds i)) rest
+    λ i. fault_from (at next is_time some (days i) (seconds i)) rest
 counted-leads next is_time some false unit number day second rest other found comes few few_days
     few_seconds =
     let sums = at next is_time some day second in
@@ -126,11 +127,11 @@ counted-leads next is_time some false unit number day second rest other found co
     let days : after.day ≡ day + number * unit.day = omega (arith, no-seconds unit) in
     let seconds : after.second ≡ second + number * unit.second = omega (arith, no-seconds unit) in
     let microseconds : after.microsecond ≡ 0 = omega (arith, no-microseconds unit) in
-    let read = λ (digits : List ℕ). iso_from sums (digits ++ unit.designator ∷ [] ++ rest) in
+    let read = λ (digits : List ℕ). fault_from sums (digits ++ unit.designator ∷ [] ++ rest) in
     ap read (sym (append-nil (decimal number)))
     ∙ component-leads sums unit number [] rest found comes refl tt few
     (omega (arith, days, few_days)) (omega (arith, seconds, few_seconds))
-    ∙ (λ i. iso_from (record after {
+    ∙ (λ i. fault_from (record after {
       day = days i;
       second = seconds i;
       microsecond = microseconds i;
@@ -152,7 +153,7 @@ fraction-of microsecond none other small =
 seconds-end : (next : List IsoUnit) (some : Bool) (number microsecond day second : ℕ)
     → is_some (unit_in next capital_s) ≡ true
     → number ≤ 4294967295 → microsecond ≤ 999999 → day ≤ 4294967295 → second + number ≤ 4294967295
-    → iso_from (at next true some day second)
+    → fault_from (at next true some day second)
     (decimal number ++ short_fraction_text microsecond ++ capital_s ∷ [])
     ≡ Ok (record { day = day; second = second + number; microsecond = microsecond })
 seconds-end next some number microsecond day second comes few small few_days few_seconds =
@@ -164,7 +165,7 @@ seconds-end next some number microsecond day second comes few small few_days few
     let days : after.day ≡ day = omega (arith, means.1) in
     let seconds : after.second ≡ second + number = omega (arith, means.1) in
     let microseconds : after.microsecond ≡ microsecond = omega (arith, means.2) in
-    ap (iso_from sums) (sym (append-nil (decimal number ++ fraction ++ capital_s ∷ [])))
+    ap (fault_from sums) (sym (append-nil (decimal number ++ fraction ++ capital_s ∷ [])))
     ∙ component-leads sums second_unit number fraction [] refl comes refl means.0 few
     (omega (arith, days, few_days)) (omega (arith, seconds, few_seconds))
     ∙ iso_from-end after [] refl
@@ -180,7 +181,7 @@ seconds-read : (next : List IsoUnit) (some none : Bool) (number microsecond day 
     → is_some (unit_in next capital_s) ≡ true → number ≤ 4294967295 → microsecond ≤ 999999
     → day ≤ 4294967295 → second + number ≤ 4294967295
     → (if none then some else true) ≡ true
-    → iso_from (at next true some day second)
+    → fault_from (at next true some day second)
     (if none then [] else decimal number ++ short_fraction_text microsecond ++ capital_s ∷ [])
     ≡ Ok (record { day = day; second = second + number; microsecond = microsecond })
 seconds-read next some none number microsecond day second other comes few small few_days
@@ -222,7 +223,7 @@ amount_of numbers =
 -- hours, minutes and seconds are read as the end of a text
 hours-read : (numbers : DurationNumbers) (some : Bool) → IsDuration numbers
     → is_whole_days numbers ≡ false
-    → iso_from (at (units true) true some numbers.day 0) (hours_text numbers)
+    → fault_from (at (units true) true some numbers.day 0) (hours_text numbers)
     ≡ Ok (amount_of numbers)
 hours-read numbers some valid other =
     let day = numbers.day in
@@ -242,7 +243,7 @@ hours-read numbers some valid other =
     let minutes = minutes-come (hour == 0) in
     let seconds = seconds-come (hour == 0) (minute == 0) in
     let has = hours-some numbers.second numbers.microsecond some other in
-    ap (iso_from start) (append_assoc hour_text minute_text last)
+    ap (fault_from start) (append_assoc hour_text minute_text last)
     ∙ counted-leads (units true) true some (hour == 0) hour_unit hour day 0 after refl refl refl
     (omega (arith, valid.second)) (omega (arith, few)) (omega (arith, valid.second))
     ∙ counted-leads _ true _ (minute == 0) minute_unit minute _ _ last refl refl minutes
@@ -253,20 +254,20 @@ hours-read numbers some valid other =
 
 -- whole days end, and `T0S` stands where there are none
 whole-read : (next : List IsoUnit) (day : ℕ) (none : Bool) → day ≤ 4294967295
-    → iso_from (at next false (not none) day 0) (if none then codes "T0S" else [])
+    → fault_from (at next false (not none) day 0) (if none then codes "T0S" else [])
     ≡ Ok (record { day = day; second = 0; microsecond = 0 })
 whole-read next day true few =
     let start = at (units true) true false day 0 in
     let zero_text = append-nil (decimal 0) ∙ decimal_digit 0 (lit< tt) in
     iso_from-item (at next false false day 0) TimeDesignator (codes "0S") refl
-    ∙ ap (λ (digits : List ℕ). iso_from start (digits ++ capital_s ∷ [])) (sym zero_text)
+    ∙ ap (λ (digits : List ℕ). fault_from start (digits ++ capital_s ∷ [])) (sym zero_text)
     ∙ seconds-end (units true) false 0 0 day 0 refl (omega arith) (omega arith) few (omega arith)
 whole-read next day false few = iso_from-end (at next false true day 0) [] refl
 
 -- so is what follows the days
 rest-read : (next : List IsoUnit) (numbers : DurationNumbers) (whole none : Bool)
     → IsDuration numbers → is_whole_days numbers ≡ whole
-    → iso_from (at next false (not none) numbers.day 0)
+    → fault_from (at next false (not none) numbers.day 0)
     (if whole then (if none then codes "T0S" else []) else capital_t ∷ hours_text numbers)
     ≡ Ok (amount_of numbers)
 rest-read next numbers true none valid whole =
@@ -282,7 +283,7 @@ rest-read next numbers false none valid other =
     ∙ hours-read numbers (not none) valid other
 
 text-read : (numbers : DurationNumbers) → IsDuration numbers
-    → iso_form IsoOrder.Strict (days_text numbers ++ rest_text numbers) ≡ Ok (amount_of numbers)
+    → fault_form IsoOrder.Strict (days_text numbers ++ rest_text numbers) ≡ Ok (amount_of numbers)
 text-read numbers valid =
     let year = numbers.day / 365 in
     let day = numbers.day % 365 in
@@ -297,24 +298,24 @@ text-read numbers valid =
     let year_unit = unit capital_y 365 0 in
     let day_unit = unit capital_d 1 0 in
     let come = days-come (year == 0) in
-    ap (iso_form IsoOrder.Strict) (append_assoc year_text day_text rest)
+    ap (fault_form IsoOrder.Strict) (append_assoc year_text day_text rest)
     ∙ counted-leads (units false) false false (year == 0) year_unit year 0 0 after refl refl refl
     (omega (arith, valid.day)) (omega (arith, valid.day)) (omega arith)
     ∙ counted-leads left false _ (day == 0) day_unit day _ _ rest refl refl come
     (omega arith) (omega (arith, valid.day)) (omega arith)
-    ∙ (λ i. iso_from (at next false (days-some numbers.day i) (days i) (seconds i)) rest)
+    ∙ (λ i. fault_from (at next false (days-some numbers.day i) (days i) (seconds i)) rest)
     ∙ rest-read next numbers (is_whole_days numbers) (numbers.day == 0) valid refl
 
 -- a `P` with a sign or without one stands for what is after it
 start-answer : (order : IsoOrder) (behavior : Behavior) (positive : Bool) (text : List ℕ)
-    → duration_answer order behavior (start_text positive ++ text)
-    ≡ result_and_then (signed_form positive) (iso_form order text)
+    → duration_fault order behavior (start_text positive ++ text)
+    ≡ result_and_then (signed_form positive) (fault_form order text)
 start-answer order behavior positive text =
     duration_answer-form order behavior (start_text positive ++ text) ∙ search rules
 
 -- the printed text of a duration is answered by it where the order of the standard is asked for
 strict-reads : (behavior : Behavior) (numbers : DurationNumbers) → IsDuration numbers
-    → duration_answer IsoOrder.Strict behavior (duration_text numbers) ≡ Ok numbers
+    → duration_fault IsoOrder.Strict behavior (duration_text numbers) ≡ Ok numbers
 strict-reads behavior numbers valid =
     search (rules, append_assoc, start-answer, text-read, normal_form-same)
 
@@ -326,10 +327,14 @@ lax-reads lax strict value are read = search rules
 pub duration_text-reads : (order : IsoOrder) (behavior : Behavior) (numbers : DurationNumbers)
     → IsDuration numbers
     → duration_answer order behavior (duration_text numbers) ≡ Ok numbers
-duration_text-reads IsoOrder.Strict behavior numbers valid = strict-reads behavior numbers valid
+duration_text-reads IsoOrder.Strict behavior numbers valid =
+    let answer = duration_answer IsoOrder.Strict behavior (duration_text numbers) in
+    seen-read fault_alone answer numbers (strict-reads behavior numbers valid)
 duration_text-reads IsoOrder.Lax behavior numbers valid =
+    let answer = duration_answer IsoOrder.Lax behavior (duration_text numbers) in
     let both = duration-both IsoOrder.Strict behavior (duration_text numbers) in
-    lax-reads _ _ numbers both (strict-reads behavior numbers valid)
+    seen-read fault_alone answer numbers
+    (lax-reads _ _ numbers both (strict-reads behavior numbers valid))
 
 -- so two durations with the same text are equal
 pub duration_text-distinct : (first second : DurationNumbers) → IsDuration first

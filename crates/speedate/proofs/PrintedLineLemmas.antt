@@ -7,6 +7,8 @@ use Rattle.std.proofs.lemmas.Fmt.{decimal_by_steps}
 use Rattle.std.proofs.lemmas.List.Elements.{All-append, All-cons, All-get_or, All-head, All-nil, All-tail}
 use Rattle.std.proofs.lemmas.Bool.Decides.{nat_tests}
 use Rattle.speedate_base.specs.Ascii.{HasNoControl, space}
+use Rattle.speedate_base.specs.Refused.{without_place}
+use Rattle.speedate_base.specs.declared.refusal.Refused.{Refused}
 use Rattle.speedate_base.specs.Requirement.{result_and_then}
 use Rattle.speedate_base.specs.Offset.{IsWholeMinutes}
 use Rattle.speedate_civil.specs.Calendar.{Ymd, IsDate, days_between}
@@ -35,19 +37,19 @@ use Rattle.speedate.specs.Column.{number_of_amount, number_of_duration}
 use Rattle.speedate.specs.ColumnText.{ReadsDurations}
 use Rattle.speedate.specs.Duration.{counted_text, days_text, duration_of_amount, duration_text}
 use Rattle.speedate.specs.Duration.{hours_text, is_whole_days, kept_digit, rest_text}
-use Rattle.speedate.specs.Duration.{days_or_clock_or, seconds_text, short_fraction_text, start_text}
-use Rattle.speedate.specs.Duration.{unsigned_answer_or, without_last_zeros}
+use Rattle.speedate.specs.Duration.{days_or_clock, seconds_text, short_fraction_text, start_text}
+use Rattle.speedate.specs.Duration.{unsigned_answer, without_last_zeros}
 use Rattle.speedate.specs.DurationNumbers.{DurationNumbers, IsDuration}
 use Rattle.speedate.proofs.DurationLemmas.{signed_amount-kept}
 use Rattle.speedate.proofs.IsoTextLemmas.{duration_text-reads}
 use Rattle.speedate.proofs.FrontNumberLemmas.{date_number-of_date, date_time_of_line-read}
 
 -- a text that is read whole holds no control character
-whole-no_control : {A : Type 0} (answer : Result (A × ℕ) ParseError) (text : List ℕ) (value : A)
+whole-no_control : {A : Type 0} (answer : Result (A × ℕ) Refused) (text : List ℕ) (value : A)
     → answer ≡ Ok (value, length text)
     → IfOk answer (λ front. HasNoControl front.1 text) → HasNoControl (length text) text
 whole-no_control {A = A} answer text value is printed =
-    subst (λ (read : Result (A × ℕ) ParseError). IfOk read (λ front. HasNoControl front.1 text)) is
+    subst (λ (read : Result (A × ℕ) Refused). IfOk read (λ front. HasNoControl front.1 text)) is
     printed
 
 -- Dates.
@@ -98,7 +100,7 @@ relaxed-taken (DateTimeParser.OrTimestamp config) line relaxed = refl
 relaxed-taken (DateTimeParser.Strict behavior) line relaxed = absurd relaxed
 
 no_date_time : (parser : DateTimeParser) → IsRelaxed parser
-    → date_time_of_line parser [] ≡ Err ParseError.TooShort
+    → without_place (date_time_of_line parser []) ≡ Err ParseError.TooShort
 no_date_time (DateTimeParser.Text config) relaxed = refl
 no_date_time (DateTimeParser.OrTimestamp config) relaxed = refl
 no_date_time (DateTimeParser.Strict behavior) relaxed = absurd relaxed
@@ -106,11 +108,11 @@ no_date_time (DateTimeParser.Strict behavior) relaxed = absurd relaxed
 -- the date-time of a line that shows a number, or none
 date_time_of_line-shown : (parser : DateTimeParser) (value : DateAndTime) → IsRelaxed parser
     → IsDateAndTime value → IsWholeMinutes value.time.offset
-    → date_time_of_line parser (date_time_text value) ≡ Ok value
+    → without_place (date_time_of_line parser (date_time_text value)) ≡ Ok value
 date_time_of_line-shown parser value relaxed valid whole =
     let line = date_time_text value in
     date_time_of_line-read parser line value
-    (date_time_text-reads (text_behavior parser) value valid whole)
+    (ap without_place (date_time_text-reads (text_behavior parser) value valid whole))
     (relaxed-taken parser line relaxed)
 
 -- in UTC an instant is what the clock shows
@@ -188,8 +190,8 @@ time-reads answer refused number time reads valid whole counted =
     let behavior = reads.0.microseconds_precision_overflow_behavior in
     ap (λ (answer : List ℕ → Result ℤ LineError). number_or refused (answer (time_text time)))
     reads.1
-    ∙ ap (λ (read : Result TimeOfDay ParseError). number_or refused
-    (as_number (λ time. pos (microsecond_of_day time)) read))
+    ∙ ap (λ (read : Result TimeOfDay Refused). number_or refused
+    (as_number (λ time. pos (microsecond_of_day time)) (without_place read)))
     (time_text-reads behavior time valid whole)
     ∙ counted
 
@@ -321,8 +323,9 @@ duration-reads answer refused number reads fits other valid =
     let numbers = duration_of_amount number in
     let line = duration_text numbers in
     ap (λ (answer : List ℕ → Result ℤ LineError). number_or refused (answer line)) reads.1
-    ∙ ap (λ (read : Result DurationNumbers ParseError). number_or refused
-    (number_of_duration read)) (duration_text-reads config.iso_order behavior numbers valid)
+    ∙ ap (λ (read : Result DurationNumbers Refused). number_or refused
+    (number_of_duration (without_place read)))
+    (duration_text-reads config.iso_order behavior numbers valid)
     ∙ ap (λ (amount : ℤ). number_or refused (number_of_amount amount))
     (signed_amount-kept number)
     ∙ ap (number_or refused) (amount-kept number fits other)
@@ -330,7 +333,7 @@ duration-reads answer refused number reads fits other valid =
 pub no_duration-reads : (answer : List ℕ → Result ℤ LineError) (refused number : ℤ)
     → ReadsDurations answer refused → number ≡ least_of_64_bits
     → number_or refused (answer []) ≡ number
-unfolding unsigned_answer_or days_or_clock_or
+unfolding unsigned_answer days_or_clock
 no_duration-reads answer refused number reads least =
     ap (λ (answer : List ℕ → Result ℤ LineError). number_or refused (answer [])) reads.1
     ∙ reads.2 ∙ sym least

@@ -8,8 +8,10 @@ use Rattle.speedate_base.specs.Ascii.{colon}
 use Rattle.speedate_base.specs.Digits.{digits_value, run_length}
 use Rattle.speedate_base.specs.Config.{refuses_digits}
 use Rattle.speedate_base.specs.Requirement.{TextRow, ◌at_byte◌, ◌else_fault◌, ◌implies◌}
-use Rattle.speedate_base.specs.Requirement.{first_refusal_or, shifted, ◌>>=◌}
-use Rattle.speedate_civil.specs.Time.{Clock, minute_front_or}
+use Rattle.speedate_base.specs.Requirement.{◌>>=◌}
+use Rattle.speedate_base.specs.declared.refusal.Refused.{Refused}
+use Rattle.speedate_base.specs.Refused.{first_refused_or, from_byte}
+use Rattle.speedate_civil.specs.Time.{Clock, minute_front}
 use Rattle.speedate.specs.DurationNumbers.{UnsignedDuration}
 
 -- how many bytes come before the first `:`, or how many there are if there is none
@@ -68,18 +70,16 @@ clock_numbers hours clock = record {
 }
 
 -- the duration of a number of hours and of a clock, from its minute on, that takes all that follows
--- them, or the refusal
-abbrev pub after_hours_or : {E : Type 0} → (ParseError → ℕ → E) → Behavior → ℕ → List ℕ
-    → Result UnsignedDuration E
-after_hours_or refuse behavior hours rest =
-    first_refusal_or refuse (rest_table behavior rest)
-    (minute_front_or refuse behavior rest
-    >>= (λ clock. first_refusal_or refuse (clock_end clock rest) (Ok (clock_numbers hours clock))))
+-- them, or the fault and its place
+abbrev pub after_hours : Behavior → ℕ → List ℕ → Result UnsignedDuration Refused
+after_hours behavior hours rest =
+    first_refused_or (rest_table behavior rest)
+    (minute_front behavior rest
+    >>= (λ clock. first_refused_or (clock_end clock rest) (Ok (clock_numbers hours clock))))
 
--- the duration that a text says as a clock, or the text's refusal
-unfoldable pub clock_form_or : {E : Type 0} → (ParseError → ℕ → E) → Behavior → List ℕ
-    → Result UnsignedDuration E
-clock_form_or refuse behavior text =
+-- the duration that a text says as a clock, or the text's fault and its place
+unfoldable pub clock_form : Behavior → List ℕ → Result UnsignedDuration Refused
+clock_form behavior text =
     let count = digits_value (hours text) in
-    first_refusal_or refuse (hours_table text) (first_refusal_or refuse (hours_range count)
-    (after_hours_or (shifted (colon_place text + 1) refuse) behavior count (from_minute text)))
+    first_refused_or (hours_table text) (first_refused_or (hours_range count)
+    (from_byte (colon_place text + 1) (after_hours behavior count (from_minute text))))

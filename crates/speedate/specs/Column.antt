@@ -6,20 +6,16 @@ use Rattle.speedate_base.specs.Ascii.{carriage_return}
 use Rattle.speedate_base.specs.Config.{choices, time_choices}
 use Rattle.speedate_base.specs.Fault.{fault_number}
 use Rattle.speedate_base.specs.Part.{part_end}
-use Rattle.speedate_base.specs.Refused.{placed, refused_place}
+use Rattle.speedate_base.specs.Refused.{refused_place, without_place}
 use Rattle.speedate_base.specs.declared.refusal.Refused.{Refused}
 use Rattle.speedate_base.specs.Requirement.{◌else_fault◌, ◌>>=◌, first_fault_or, result_and_then}
 use Rattle.speedate_civil.specs.Calendar.{Ymd, days_between}
-use Rattle.speedate_civil.specs.Date.{date_answer, date_answer_or, date_or_timestamp}
-use Rattle.speedate_civil.specs.Date.{date_or_timestamp_or}
+use Rattle.speedate_civil.specs.Date.{date_answer, date_or_timestamp}
 use Rattle.speedate_civil.specs.DateTime.{DateAndTime, date_time_answer, date_time_by_config}
-use Rattle.speedate_civil.specs.DateTime.{date_time_answer_or, date_time_by_config_or}
-use Rattle.speedate_civil.specs.DateTime.{date_time_front, date_time_front_or}
-use Rattle.speedate_civil.specs.DateTime.{local_microsecond, utc_microsecond}
+use Rattle.speedate_civil.specs.DateTime.{date_time_front, local_microsecond, utc_microsecond}
 use Rattle.speedate_civil.specs.Strict.{strict_date_time, strict_date_time_answer}
-use Rattle.speedate_civil.specs.Strict.{strict_date_time_answer_or}
-use Rattle.speedate_civil.specs.Strict.{strict_time_answer, strict_time_answer_or}
-use Rattle.speedate_civil.specs.Time.{TimeOfDay, microsecond_of_day, time_answer, time_answer_or}
+use Rattle.speedate_civil.specs.Strict.{strict_time_answer}
+use Rattle.speedate_civil.specs.Time.{TimeOfDay, microsecond_of_day, time_answer}
 pub use Rattle.speedate.specs.declared.column.LineConfig.{LineConfig}
 pub use Rattle.speedate.specs.declared.column.LineError.{LineError}
 use Rattle.speedate.specs.declared.column.Line.{Line}
@@ -34,7 +30,7 @@ use Rattle.speedate.specs.declared.column.front.DateTimeFrontReader.{DateTimeFro
 use Rattle.speedate.specs.declared.column.time.TimeOffsetReader.{TimeOffsetReader}
 use Rattle.speedate.specs.declared.column.time.TimeParser.{TimeParser}
 use Rattle.speedate.specs.declared.column.time.TimeReader.{TimeReader}
-use Rattle.speedate.specs.Duration.{duration_answer, duration_answer_or, signed_amount}
+use Rattle.speedate.specs.Duration.{duration_answer, signed_amount}
 use Rattle.speedate.specs.DurationNumbers.{DurationNumbers}
 use Rattle.speedate.specs.Lines.{IsOneLine, unfinished_line, whole_lines, without_return}
 
@@ -148,14 +144,14 @@ as_number number (Err fault) = Err (LineError.Parse fault)
 abbrev pub epoch : Ymd
 epoch = record { year = 1970; month = 1; day = 1 }
 
--- the date of a line, or the error
-abbrev pub date_of_line : DateReader → List ℕ → Result Ymd ParseError
+-- the date of a line, or the fault and its place
+abbrev pub date_of_line : DateReader → List ℕ → Result Ymd Refused
 date_of_line DateReader.Text line = date_answer line
 date_of_line (DateReader.OrTimestamp config) line = date_or_timestamp config.timestamp_unit line
 
 -- the number of a line in a column of dates: the days since 1970-01-01
 abbrev pub date_number : DateReader → List ℕ → Result ℤ LineError
-date_number reader line = as_number (days_between epoch) (date_of_line reader line)
+date_number reader line = as_number (days_between epoch) (without_place (date_of_line reader line))
 
 -- what a parser does with digits past the microsecond
 abbrev pub text_behavior : DateTimeParser → Behavior
@@ -169,8 +165,8 @@ taken_answer (DateTimeParser.Text config) line = Ok tt
 taken_answer (DateTimeParser.OrTimestamp config) line = Ok tt
 taken_answer (DateTimeParser.Strict behavior) line = first_fault_or (strict_date_time line) (Ok tt)
 
--- the date-time of a line, or the error
-abbrev pub date_time_of_line : DateTimeParser → List ℕ → Result DateAndTime ParseError
+-- the date-time of a line, or the fault and its place
+abbrev pub date_time_of_line : DateTimeParser → List ℕ → Result DateAndTime Refused
 date_time_of_line (DateTimeParser.Text config) line =
     date_time_answer (time_choices config).behavior line
 date_time_of_line (DateTimeParser.OrTimestamp config) line = date_time_by_config config line
@@ -187,13 +183,14 @@ with_offset assumes_utc value =
 abbrev pub date_time_number : DateTimeReader → List ℕ → Result ℤ LineError
 date_time_number reader line =
     as_number utc_microsecond
-    (result_and_then (with_offset reader.assumes_utc) (date_time_of_line reader.parser line))
+    (result_and_then (with_offset reader.assumes_utc)
+    (without_place (date_time_of_line reader.parser line)))
 
 -- the number of the date-time at the front of a line, whatever follows it: the microseconds since
 -- 1970-01-01T00:00:00 in UTC, and how many bytes it takes
 abbrev pub front_number : Behavior → Bool → List ℕ → Result DateTimeFront LineError
 front_number behavior assumes_utc line = do
-  front ← as_number (λ front. front) (date_time_front behavior line)
+  front ← as_number (λ front. front) (without_place (date_time_front behavior line))
   microseconds ← as_number utc_microsecond (with_offset assumes_utc front.0)
   Ok (record { microseconds = microseconds; size = front.1 })
 
@@ -222,15 +219,17 @@ offset_as_number offset answer =
 -- the number of a line in a column of date-times as their clocks show them: the microseconds since
 -- 1970-01-01T00:00:00 on the same clock, whatever the offset
 abbrev pub clock_number : DateTimeClockReader → List ℕ → Result ℤ LineError
-clock_number reader line = as_number local_microsecond (date_time_of_line reader.parser line)
+clock_number reader line =
+    as_number local_microsecond (without_place (date_time_of_line reader.parser line))
 
 -- the number of a line in a column of the offsets of date-times: its seconds
 abbrev pub date_time_offset_number : DateTimeOffsetReader → List ℕ → Result ℤ LineError
 date_time_offset_number reader line =
-    offset_as_number (λ value. value.time.offset) (date_time_of_line reader.parser line)
+    offset_as_number (λ value. value.time.offset)
+    (without_place (date_time_of_line reader.parser line))
 
--- the time of a line, or the error
-abbrev pub time_of_line : TimeParser → List ℕ → Result TimeOfDay ParseError
+-- the time of a line, or the fault and its place
+abbrev pub time_of_line : TimeParser → List ℕ → Result TimeOfDay Refused
 time_of_line (TimeParser.Text config) line = time_answer (time_choices config).behavior line
 time_of_line (TimeParser.Strict behavior) line = strict_time_answer behavior line
 
@@ -238,12 +237,13 @@ time_of_line (TimeParser.Strict behavior) line = strict_time_answer behavior lin
 -- whatever the offset
 abbrev pub time_number : TimeReader → List ℕ → Result ℤ LineError
 time_number reader line =
-    as_number (λ time. pos (microsecond_of_day time)) (time_of_line reader.parser line)
+    as_number (λ time. pos (microsecond_of_day time))
+    (without_place (time_of_line reader.parser line))
 
 -- the number of a line in a column of the offsets of times: its seconds
 abbrev pub time_offset_number : TimeOffsetReader → List ℕ → Result ℤ LineError
 time_offset_number reader line =
-    offset_as_number (λ time. time.offset) (time_of_line reader.parser line)
+    offset_as_number (λ time. time.offset) (without_place (time_of_line reader.parser line))
 
 -- microseconds as a number of 64 bits, whose smallest one is left free
 abbrev pub number_of_amount : ℤ → Result ℤ LineError
@@ -259,28 +259,19 @@ number_of_duration (Err fault) = Err (LineError.Parse fault)
 abbrev pub duration_number : DurationReader → List ℕ → Result ℤ LineError
 duration_number reader line =
     let chosen = time_choices reader.config in
-    number_of_duration (duration_answer chosen.order chosen.behavior line)
+    number_of_duration (without_place (duration_answer chosen.order chosen.behavior line))
 
 -- Readers: the place for which a line is refused: the place of a text that is refused. If the text
 -- is accepted, its number is refused.
 
 -- the place of a line in a column of dates
 abbrev pub date_place : DateReader → List ℕ → ℕ
-date_place DateReader.Text line =
-    unwrap_or (refused_place (date_answer_or placed line)) (length line)
-date_place (DateReader.OrTimestamp config) line =
-    unwrap_or (refused_place (date_or_timestamp_or placed config.timestamp_unit line))
-    (length line)
+date_place reader line = unwrap_or (refused_place (date_of_line reader line)) (length line)
 
 -- the place of a line in a column of date-times: its end, if an offset is missing
 abbrev pub date_time_place : DateTimeParser → List ℕ → ℕ
-date_time_place (DateTimeParser.Text config) line =
-    unwrap_or (refused_place (date_time_answer_or placed (time_choices config).behavior line))
-    (length line)
-date_time_place (DateTimeParser.OrTimestamp config) line =
-    unwrap_or (refused_place (date_time_by_config_or placed config line)) (length line)
-date_time_place (DateTimeParser.Strict behavior) line =
-    unwrap_or (refused_place (strict_date_time_answer_or placed behavior line)) (length line)
+date_time_place parser line =
+    unwrap_or (refused_place (date_time_of_line parser line)) (length line)
 
 -- how many bytes the value at the front of a text takes, or the place of the text's error
 abbrev pub size_or_place : {A : Type 0} → Result (A × ℕ) Refused → ℕ
@@ -290,21 +281,17 @@ size_or_place (Err refused) = refused.place
 -- the place of a line in a column of date-times at the front of lines: the end of the date-time,
 -- if an offset is missing
 abbrev pub front_place : Behavior → List ℕ → ℕ
-front_place behavior line = size_or_place (date_time_front_or placed behavior line)
+front_place behavior line = size_or_place (date_time_front behavior line)
 
 abbrev pub date_time_front_place : DateTimeFrontReader → List ℕ → ℕ
 date_time_front_place reader line = front_place (time_choices reader.config).behavior line
 
 -- the place of a line in a column of times: its end, if an offset is missing
 abbrev pub time_place : TimeParser → List ℕ → ℕ
-time_place (TimeParser.Text config) line =
-    unwrap_or (refused_place (time_answer_or placed (time_choices config).behavior line))
-    (length line)
-time_place (TimeParser.Strict behavior) line =
-    unwrap_or (refused_place (strict_time_answer_or placed behavior line)) (length line)
+time_place parser line = unwrap_or (refused_place (time_of_line parser line)) (length line)
 
 -- the place of a line in a column of durations: its beginning, if the number is too large
 abbrev pub duration_place : DurationReader → List ℕ → ℕ
 duration_place reader line =
     let chosen = time_choices reader.config in
-    unwrap_or (refused_place (duration_answer_or placed chosen.order chosen.behavior line)) 0
+    unwrap_or (refused_place (duration_answer chosen.order chosen.behavior line)) 0

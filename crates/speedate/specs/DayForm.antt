@@ -5,9 +5,10 @@ use Rattle.speedate_civil.specs.Base.{Behavior, ParseError}
 use Rattle.std.specs.List.{list_any, starts_with}
 use Rattle.speedate_base.specs.Ascii.{capital_d, small_d}
 use Rattle.speedate_base.specs.Digits.{run_length, run_value}
-use Rattle.speedate_base.specs.Requirement.{TextRow, ◌at_byte◌, ◌else_fault◌, first_refusal_or}
-use Rattle.speedate_base.specs.Requirement.{shifted, ◌>>=◌}
-use Rattle.speedate.specs.ClockForm.{clock_form_or}
+use Rattle.speedate_base.specs.Requirement.{TextRow, ◌at_byte◌, ◌else_fault◌, ◌>>=◌}
+use Rattle.speedate_base.specs.declared.refusal.Refused.{Refused}
+use Rattle.speedate_base.specs.Refused.{first_refused_or, from_byte}
+use Rattle.speedate.specs.ClockForm.{clock_form}
 use Rattle.speedate.specs.DurationNumbers.{UnsignedDuration}
 
 -- the letter of a day
@@ -61,30 +62,28 @@ days_table text =
     else_fault ParseError.DurationInvalidDays at_byte ending_place text)
     ∷ []
 
--- the days at the front of a text, and how many bytes come before the clock, or the text's refusal
-abbrev pub days_front_or : {E : Type 0} → (ParseError → ℕ → E) → List ℕ → Result (ℕ × ℕ) E
-days_front_or refuse text =
-    first_refusal_or refuse (days_table text) (Ok (run_value text 0, days_size text))
+-- the days at the front of a text, and how many bytes come before the clock, or the text's fault
+-- and its place
+abbrev pub days_front : List ℕ → Result (ℕ × ℕ) Refused
+days_front text = first_refused_or (days_table text) (Ok (run_value text 0, days_size text))
 
 -- what the whole days of a clock have to meet that follows days: there are none
 abbrev pub hours_of_day : ℕ → List TextRow
 hours_of_day days = (days == 0 else_fault ParseError.DurationHourValueTooLarge at_byte 0) ∷ []
 
 -- the numbers of days and of what follows them: of nothing, or of a clock of fewer than 24 hours
-unfoldable pub after_days_or : {E : Type 0} → (ParseError → ℕ → E) → Behavior → ℕ → List ℕ
-    → Result UnsignedDuration E
-after_days_or refuse behavior days rest =
+unfoldable pub after_days : Behavior → ℕ → List ℕ → Result UnsignedDuration Refused
+after_days behavior days rest =
     if length rest == 0 then Ok (record { day = days; second = 0; microsecond = 0 })
-    else clock_form_or refuse behavior rest
-    >>= (λ clock. first_refusal_or refuse (hours_of_day clock.day)
-    (Ok (record clock { day = days })))
+    else clock_form behavior rest
+    >>= (λ clock. first_refused_or (hours_of_day clock.day) (Ok (record clock { day = days })))
 
--- the numbers that a text says as days and a clock, the days of any size, or the text's refusal
-unfoldable pub day_form_or : {E : Type 0} → (ParseError → ℕ → E) → Behavior → List ℕ
-    → Result UnsignedDuration E
-day_form_or refuse behavior text = do
-  days ← days_front_or refuse text
-  after_days_or (shifted days.1 refuse) behavior days.0 (drop days.1 text)
+-- the numbers that a text says as days and a clock, the days of any size, or the text's fault and
+-- its place
+unfoldable pub day_form : Behavior → List ℕ → Result UnsignedDuration Refused
+day_form behavior text = do
+  days ← days_front text
+  from_byte days.1 (after_days behavior days.0 (drop days.1 text))
 
 -- a text is a number of days and the letter of a day
 pub record IsWholeDays (text : List ℕ) (days : ℕ) : Type 0 where

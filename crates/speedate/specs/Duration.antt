@@ -8,16 +8,19 @@ use Rattle.speedate_base.specs.Ascii.{capital_p, hyphen, full_stop, digit_zero, 
 use Rattle.speedate_base.specs.Ascii.{capital_h, capital_m, capital_s, capital_t, capital_y}
 use Rattle.speedate_base.specs.Digits.{six_digit_text}
 use Rattle.speedate_base.specs.Numbers.{has_minus, sign_size, with_sign}
-use Rattle.speedate_base.specs.Requirement.{fault_alone, first_fault_or, first_refusal_or}
-use Rattle.speedate_base.specs.Requirement.{result_and_then, ◌else_fault◌, result_map, shifted}
+use Rattle.speedate_base.specs.Requirement.{first_fault_or, result_and_then, ◌else_fault◌}
+use Rattle.speedate_base.specs.Requirement.{result_map}
+use Rattle.speedate_base.specs.Requirement.{◌>>=◌}
+use Rattle.speedate_base.specs.declared.refusal.Refused.{Refused}
+use Rattle.speedate_base.specs.Refused.{first_refused_or, from_byte, placed, without_place}
 use Rattle.speedate_base.specs.Timestamp.{instant_at}
 use Rattle.speedate_civil.specs.Calendar.{Ymd, date_added, days_between}
 use Rattle.speedate_civil.specs.DateTime.{DateAndTime, local_microsecond, utc_microsecond}
 use Rattle.speedate_civil.specs.DateTime.{instant_date_time}
 pub use Rattle.speedate.specs.declared.duration.Duration.{Duration}
 use Rattle.speedate.specs.declared.duration.sum.DurationSum.{DurationSum}
-use Rattle.speedate.specs.ClockForm.{clock_form_or}
-use Rattle.speedate.specs.DayForm.{is_day_letter, day_form_or}
+use Rattle.speedate.specs.ClockForm.{clock_form}
+use Rattle.speedate.specs.DayForm.{is_day_letter, day_form}
 use Rattle.speedate.specs.DurationNumbers.{DurationNumbers, UnsignedDuration, signed_form}
 use Rattle.speedate.specs.DurationNumbers.{signed_day, amount_microseconds, normal_rows, of_amount}
 use Rattle.speedate.specs.DurationPlace.{amount_numbers, amount_place}
@@ -35,15 +38,15 @@ duration_numbers duration = record {
 
 infix 15 ◌gives◌
 -- the answer of a call, a duration seen as its numbers, is the given one
-abbrev pub ◌gives◌ : Result Duration ParseError → Result DurationNumbers ParseError → Type 0
+abbrev pub ◌gives◌ : {E : Type 0} → Result Duration E → Result DurationNumbers E → Type 0
 result gives answer = result_map duration_numbers result ≡ answer
 
--- the normal form of a duration that is given by its sign and its numbers without it, or the
--- refusal at the place of its row, which is that of the row's test
-abbrev pub signed_form_or : {E : Type 0} → (ParseError → ℕ → E) → ((DurationNumbers → Bool) → ℕ)
-    → Bool → UnsignedDuration → Result DurationNumbers E
-signed_form_or refuse place positive amount =
-    first_refusal_or refuse (normal_rows place (amount_numbers amount))
+-- the normal form of a duration that is given by its sign and its numbers without it, or the fault
+-- and the place of its row, which is that of the row's test
+abbrev pub signed_answer : ((DurationNumbers → Bool) → ℕ) → Bool → UnsignedDuration
+    → Result DurationNumbers Refused
+signed_answer place positive amount =
+    first_refused_or (normal_rows place (amount_numbers amount))
     (Ok (of_amount positive (amount_microseconds (amount_numbers amount))))
 
 -- The answer to a text of a duration, as a function, which reads the items of an ISO 8601 duration
@@ -51,77 +54,48 @@ signed_form_or refuse place positive amount =
 
 -- the answer to what is left of an ISO 8601 duration after some items; the skipped bytes are those
 -- of the last item
-unfoldable pub iso_after_or : {E : Type 0} → (ParseError → ℕ → E) → ℕ → IsoSums → List ℕ
-    → Result UnsignedDuration E
-iso_after_or refuse skipped sums [] =
-    if sums.has_component then Ok (sums_amount sums) else Err (refuse ParseError.TooShort 0)
-iso_after_or refuse zero sums (byte ∷ rest) =
+unfoldable pub iso_after : ℕ → IsoSums → List ℕ → Result UnsignedDuration Refused
+iso_after skipped sums [] =
+    if sums.has_component then Ok (sums_amount sums) else Err (placed ParseError.TooShort 0)
+iso_after zero sums (byte ∷ rest) =
     let item = item_at (byte ∷ rest) in
-    first_refusal_or refuse (item_table sums item)
-    (iso_after_or (shifted 1 refuse) (length (item_text item) - 1) (with_item item sums) rest)
-iso_after_or refuse (suc skipped) sums (byte ∷ rest) =
-    iso_after_or (shifted 1 refuse) skipped sums rest
+    first_refused_or (item_table sums item)
+    (from_byte 1 (iso_after (length (item_text item) - 1) (with_item item sums) rest))
+iso_after (suc skipped) sums (byte ∷ rest) = from_byte 1 (iso_after skipped sums rest)
 
 -- the answer to the text that follows some items of an ISO 8601 duration
-abbrev pub iso_from_or : {E : Type 0} → (ParseError → ℕ → E) → IsoSums → List ℕ
-    → Result UnsignedDuration E
-iso_from_or refuse sums text = iso_after_or refuse 0 sums text
+abbrev pub iso_from : IsoSums → List ℕ → Result UnsignedDuration Refused
+iso_from sums text = iso_after 0 sums text
 
--- the amount that an ISO 8601 duration says after its `P`, or the text's refusal
-abbrev pub iso_form_or : {E : Type 0} → (ParseError → ℕ → E) → IsoOrder → List ℕ
-    → Result UnsignedDuration E
-iso_form_or refuse order text = iso_from_or refuse (no_sums order) text
-
--- the same, with faults
-abbrev pub iso_after : ℕ → IsoSums → List ℕ → Result UnsignedDuration ParseError
-iso_after skipped sums text = iso_after_or fault_alone skipped sums text
-
-abbrev pub iso_from : IsoSums → List ℕ → Result UnsignedDuration ParseError
-iso_from sums text = iso_from_or fault_alone sums text
-
-abbrev pub iso_form : IsoOrder → List ℕ → Result UnsignedDuration ParseError
-iso_form order text = iso_form_or fault_alone order text
+-- the amount that an ISO 8601 duration says after its `P`, or the text's fault and its place
+abbrev pub iso_form : IsoOrder → List ℕ → Result UnsignedDuration Refused
+iso_form order text = iso_from (no_sums order) text
 
 -- a text has days: the letter of a day stands anywhere in it, or it is too short for a clock
 abbrev pub has_days : List ℕ → Bool
 has_days text = nat_lt (length text) 5 || list_any is_day_letter text
 
--- the amount that a text says as days or as a clock, or the text's refusal
-unfoldable pub days_or_clock_or : {E : Type 0} → (ParseError → ℕ → E) → Behavior → List ℕ
-    → Result UnsignedDuration E
-days_or_clock_or refuse behavior text =
-    if length text == 0 then Err (refuse ParseError.TooShort 0)
-    else (if has_days text then day_form_or refuse behavior text
-    else clock_form_or refuse behavior text)
+-- the amount that a text says as days or as a clock, or the text's fault and its place
+unfoldable pub days_or_clock : Behavior → List ℕ → Result UnsignedDuration Refused
+days_or_clock behavior text =
+    if length text == 0 then Err (placed ParseError.TooShort 0)
+    else (if has_days text then day_form behavior text else clock_form behavior text)
 
 -- the answer to the text of a duration without its sign: that of an ISO 8601 duration if it begins
 -- with `P`
-unfoldable pub unsigned_answer_or : {E : Type 0} → (ParseError → ℕ → E) → IsoOrder → Behavior
-    → List ℕ → Result UnsignedDuration E
-unsigned_answer_or refuse order behavior text =
-    if slice_index text 0 == capital_p then iso_form_or (shifted 1 refuse) order (drop 1 text)
-    else days_or_clock_or refuse behavior text
+unfoldable pub unsigned_answer : IsoOrder → Behavior → List ℕ → Result UnsignedDuration Refused
+unsigned_answer order behavior text =
+    if slice_index text 0 == capital_p then from_byte 1 (iso_form order (drop 1 text))
+    else days_or_clock behavior text
 
--- the answer to a text of a duration: the duration that it is, or its refusal. The sign and the
--- normal form are applied last
-abbrev pub duration_answer_or : {E : Type 0} → (ParseError → ℕ → E) → IsoOrder → Behavior
-    → List ℕ → Result DurationNumbers E
-duration_answer_or refuse order behavior text =
-    let size = sign_size text in
-    let rest = drop size text in
-    result_and_then
-    (signed_form_or (shifted size refuse) (amount_place order rest) (not (has_minus text)))
-    (unsigned_answer_or (shifted size refuse) order behavior rest)
-
--- the same, with faults
-abbrev pub days_or_clock : Behavior → List ℕ → Result UnsignedDuration ParseError
-days_or_clock behavior text = days_or_clock_or fault_alone behavior text
-
-abbrev pub unsigned_answer : IsoOrder → Behavior → List ℕ → Result UnsignedDuration ParseError
-unsigned_answer order behavior text = unsigned_answer_or fault_alone order behavior text
-
-abbrev pub duration_answer : IsoOrder → Behavior → List ℕ → Result DurationNumbers ParseError
-duration_answer order behavior text = duration_answer_or fault_alone order behavior text
+-- the answer to a text of a duration: the duration that it is, or its fault and its place. The sign
+-- and the normal form are applied last
+abbrev pub duration_answer : IsoOrder → Behavior → List ℕ → Result DurationNumbers Refused
+duration_answer order behavior text =
+    let rest = drop (sign_size text) text in
+    from_byte (sign_size text)
+    (unsigned_answer order behavior rest
+    >>= signed_answer (amount_place order rest) (not (has_minus text)))
 
 -- what follows the sign and the `P` of an ISO 8601 duration
 abbrev pub iso_body : List ℕ → List ℕ
@@ -135,7 +109,8 @@ IsDurationAnswer order behavior text answer =
     let rest = drop (sign_size text) text in
     (form : Result UnsignedDuration ParseError)
     × MatchBool (slice_index rest 0 == capital_p)
-    (IsAnswerFrom (no_sums order) (iso_body text) form) (form ≡ days_or_clock behavior rest)
+    (IsAnswerFrom (no_sums order) (iso_body text) form)
+    (form ≡ without_place (days_or_clock behavior rest))
     × (answer ≡ result_and_then (signed_form (not (has_minus text))) form)
 
 -- an answer to a text of a duration is the grammar's: the relation `IsDurationAnswer` allows it,

@@ -7,6 +7,7 @@ use Rattle.std.specs.List.{flat_map}
 use Rattle.std.specs.Option.{is_some}
 use Rattle.speedate_base.specs.Ascii.{capital_p}
 use Rattle.speedate_base.specs.Numbers.{sign_size, IsSign}
+use Rattle.speedate_base.specs.Refused.{without_place}
 use Rattle.speedate.specs.Duration.{duration_answer}
 use Rattle.speedate.specs.DurationNumbers.{DurationNumbers}
 use Rattle.speedate.specs.IsoForm.{IsoUnit, units, unit_in, units_after, Item, TimeDesignator}
@@ -44,14 +45,16 @@ is_iso text = slice_index (drop (sign_size text) text) 0 == capital_p
 -- and it is not asked of a clock and of days
 pub record IsAnswerInOrder (asked : IsoOrder) (behavior : Behavior) (text : List ℕ)
     (answer : Result DurationNumbers ParseError) : Type 0 where
-  pub lax : IsLaxOrRefused (duration_answer IsoOrder.Lax behavior text) answer
+  pub lax : IsLaxOrRefused (without_place (duration_answer IsoOrder.Lax behavior text)) answer
   pub items : (numbers : DurationNumbers) → is_iso text ≡ true
       → duration_answer IsoOrder.Lax behavior text ≡ Ok numbers
       → (items : List Item) × IsMadeOf text items
   pub strict : (items : List Item) → asked ≡ IsoOrder.Strict → IsMadeOf text items
       → answer ≡ (if are_in_order (units false) items
-      then duration_answer IsoOrder.Lax behavior text else Err ParseError.DurationUnitOrder)
-  pub other_forms : is_iso text ≡ false → answer ≡ duration_answer IsoOrder.Lax behavior text
+      then without_place (duration_answer IsoOrder.Lax behavior text)
+      else Err ParseError.DurationUnitOrder)
+  pub other_forms : is_iso text ≡ false
+      → answer ≡ without_place (duration_answer IsoOrder.Lax behavior text)
 
 -- ISO 8601 durations that differ only in the order of two neighbouring components of one side.
 

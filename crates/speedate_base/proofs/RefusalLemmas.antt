@@ -1,14 +1,15 @@
 -- Refusals seen in another way: their faults alone.
-use Rattle.std.proofs.Common.{◌∙◌, length, ◌≡◌, ℕ, ◌+◌, ap, ap₂, add_assoc, zero-add, sym, List, [], ◌∷◌, ◌++◌, Option, Some, None, Result, Ok, Err, is_some, is_err, refl, rules}
+use Rattle.std.proofs.Common.{◌∙◌, length, ◌≡◌, ℕ, ◌+◌, ap, add_assoc, zero-add, sym, List, [], ◌∷◌, ◌++◌, Option, Some, None, Result, Ok, Err, is_some, is_err, refl, rules}
 use mathlib.Core.Path.{fun_ext}
 use Rattle.std.specs.Option.{option_map}
 use Rattle.std.specs.Result.{result_and}
-use Rattle.speedate_base.specs.Requirement.{AllHold, ParseError, Requirement, TextRow, fault_alone}
+use Rattle.speedate_base.specs.Requirement.{AllHold, ParseError, Requirement, TextRow}
 use Rattle.speedate_base.specs.Requirement.{first_place, first_refusal_or, moved, or_number}
 use Rattle.speedate_base.specs.Requirement.{refusal_map}
-use Rattle.speedate_base.specs.Requirement.{refused_at, result_and_then, result_map, shifted}
+use Rattle.speedate_base.specs.Requirement.{result_and_then, result_map, shifted}
 use Rattle.speedate_base.specs.Requirement.{with_no_more_or}
-use Rattle.speedate_base.specs.Refused.{Refused, placed, refused_place, without_place}
+use Rattle.speedate_base.specs.Refused.{Refused, alone_or, first_refused_or, from_byte, placed}
+use Rattle.speedate_base.specs.Refused.{refused_place, seen_as, without_place}
 
 -- a table's refusal in another way is made so of each row
 pub first_refusal_or-view : {Place A E D : Type 0} (view : E → D) (refuse : ParseError → Place → E)
@@ -18,20 +19,6 @@ pub first_refusal_or-view : {Place A E D : Type 0} (view : E → D) (refuse : Pa
 first_refusal_or-view view refuse [] next = refl
 first_refusal_or-view view refuse (row ∷ rows) next =
     search (rules, first_refusal_or-view view refuse rows next)
-
-pub map-view : {A B E D : Type 0} (view : E → D) (seen : A → B) (answer : Result A E)
-    → refusal_map view (result_map seen answer) ≡ result_map seen (refusal_map view answer)
-map-view view seen (Ok value) = refl
-map-view view seen (Err refusal) = refl
-
--- and what is done with a value after it
-pub and_then-view : {A B E D : Type 0} (view : E → D) (step : A → Result B E)
-    (seen : A → Result B D) (answer : Result A E)
-    → ((value : A) → refusal_map view (step value) ≡ seen value)
-    → refusal_map view (result_and_then step answer)
-    ≡ result_and_then seen (refusal_map view answer)
-and_then-view view step seen (Ok value) same = same value
-and_then-view view step seen (Err refusal) same = refl
 
 -- a text has a place if and only if it is refused
 pub refused_place-is_some : {A : Type 0} (answer : Result A Refused)
@@ -73,14 +60,19 @@ refusal-and_then refuse step [] next = refl
 refusal-and_then refuse step (row ∷ rows) next =
     search (rules, refusal-and_then refuse step rows next)
 
-pub refusal-read : {Place A E : Type 0} (refuse : ParseError → Place → E)
-    (rows : List (Requirement Place)) (value : A)
-    (answer : Result A E) (met : Result (Unit {0}) E)
-    → Ok value ≡ answer → met ≡ first_refusal_or refuse rows (Ok tt)
+pub refusal-read : {A E : Type 0} (refuse : ParseError → ℕ → E) (rows : List TextRow) (value : A)
+    (answer : Result A Refused) (met : Result (Unit {0}) E)
+    → Ok value ≡ seen_as refuse answer → met ≡ first_refusal_or refuse rows (Ok tt)
     → result_and_then (λ (end : Unit {0}). Ok value) met
-    ≡ result_and_then (λ (read : A). first_refusal_or refuse rows (Ok read)) answer
-refusal-read refuse rows value answer met read is =
-    search (rules, refusal-and_then refuse (λ (end : Unit {0}). Ok value) rows (Ok tt))
+    ≡ seen_as refuse (result_and_then (λ (read : A). first_refused_or rows (Ok read)) answer)
+refusal-read refuse rows value (Ok given) met read is =
+    let end = refusal-and_then refuse (λ (end : Unit {0}). Ok value) rows (Ok tt) in
+    ap (result_and_then (λ (end : Unit {0}). Ok value)) is
+    ∙ end
+    ∙ ap (first_refusal_or refuse rows) read
+    ∙ sym (first_refusal_or-view (λ refused. refuse refused.fault refused.place) placed rows
+    (Ok given))
+refusal-read refuse rows value (Err refused) met read is = absurd (cc)
 
 pub refusal-whole : {A E : Type 0} (refuse : ParseError → ℕ → E) (fault : A → ParseError)
     (text : List ℕ) (value : A) (size : ℕ) → length text ≡ size
@@ -129,76 +121,12 @@ first_refusal_or-moved refuse start [] next = refl
 first_refusal_or-moved refuse start (row ∷ rows) next =
     search (rules, first_refusal_or-moved refuse start rows next)
 
--- a text has a place if and only if it is refused
-pub refused-is_some : {A : Type 0} (answer : Result A Refused) (faults : Result A ParseError)
-    → without_place answer ≡ faults → is_some (refused_place answer) ≡ is_err faults
-refused-is_some answer faults same = refused_place-is_some answer ∙ ap is_err same
-
--- a refusal in another way
-abbrev pub through : {E D : Type 0} → (E → D) → (ParseError → ℕ → E) → ParseError → ℕ → D
-through view refuse fault place = view (refuse fault place)
-
--- an answer that goes on from one at the front
-pub then-view : {A B E D : Type 0} (view : E → D) (step : A → Result B E) (seen : A → Result B D)
-    (answer : Result A E) (other : Result A D)
-    → ((value : A) → refusal_map view (step value) ≡ seen value)
-    → refusal_map view answer ≡ other
-    → refusal_map view (result_and_then step answer) ≡ result_and_then seen other
-then-view view step seen answer other same is =
-    and_then-view view step seen answer same ∙ ap (result_and_then seen) is
-
--- and one that follows rows
-pub chain-view : {A E D : Type 0} (view : E → D) (refuse : ParseError → ℕ → E) (rows : List TextRow)
-    (next : Result A E) (other : Result A D) → refusal_map view next ≡ other
-    → refusal_map view (first_refusal_or refuse rows next)
-    ≡ first_refusal_or (through view refuse) rows other
-chain-view view refuse rows next other same =
-    first_refusal_or-view view refuse rows next
-    ∙ ap (first_refusal_or (through view refuse) rows) same
-
--- and one of all that begins at a byte
-pub refused_at-view : {A E D : Type 0} (view : E → D) (refuse : ParseError → ℕ → E) (place : ℕ)
-    (answer : Result A ParseError)
-    → refusal_map view (refused_at refuse place answer)
-    ≡ refused_at (through view refuse) place answer
-refused_at-view view refuse place (Ok value) = refl
-refused_at-view view refuse place (Err fault) = refl
-
--- and one of a table or of a number
-number-view : {A E D : Type 0} (view : E → D) (number : Option (Result A E)) (answer : Result A E)
-    → refusal_map view (or_number number answer)
-    ≡ or_number (option_map (refusal_map view) number) (refusal_map view answer)
-number-view view number (Ok value) = refl
-number-view view (Some answer) (Err refusal) = refl
-number-view view None (Err refusal) = refl
-
-pub or_number-view : {A E D : Type 0} (view : E → D) (number : Option (Result A E))
-    (answer : Result A E) (seen : Option (Result A D)) (other : Result A D)
-    → option_map (refusal_map view) number ≡ seen → refusal_map view answer ≡ other
-    → refusal_map view (or_number number answer) ≡ or_number seen other
-or_number-view view number answer seen other numbers same =
-    let choose = λ (number : Option (Result _ _)) (answer : Result _ _). or_number number answer in
-    number-view view number answer ∙ ap₂ choose numbers same
-
--- a refusal that keeps its fault, seen by it
-pub through-fault : {E : Type 0} (fault_of : E → ParseError) (refuse : ParseError → ℕ → E)
-    → ((fault : ParseError) (place : ℕ) → fault_of (refuse fault place) ≡ fault)
-    → through fault_of refuse ≡ fault_alone
-through-fault fault_of refuse keeps = fun_ext (λ fault. fun_ext (λ place. keeps fault place))
-
--- a number seen in another way, where no table lets a value through
-pub or_number-map : {A B E : Type 0} (view : A → B) (number : Option (Result A E)) (refusal : E)
-    → result_map view (or_number number (Err refusal))
-    ≡ or_number (option_map (result_map view) number) (Err refusal)
-or_number-map view (Some answer) refusal = refl
-or_number-map view None refusal = refl
-
 -- a value seen in another way has no place, and a refusal keeps its own
-pub refused_place-map : {A B : Type 0} (view : A → B) (answer : Result A Refused)
+pub refused_place_map : {A B : Type 0} (view : A → B) (answer : Result A Refused)
     (seen : Result B Refused) → result_map view answer ≡ seen
     → refused_place answer ≡ refused_place seen
-refused_place-map view (Ok value) seen same = ap refused_place same
-refused_place-map view (Err refused) seen same = ap refused_place same
+refused_place_map view (Ok value) seen same = ap refused_place same
+refused_place_map view (Err refused) seen same = ap refused_place same
 
 -- the place of a table's refusal is that of its first row that does not hold
 first_place-is : {A : Type 0} (rows : List TextRow) (value : A)
@@ -219,3 +147,103 @@ first_place-tables first part start value answer same =
     ∙ ap (first_refusal_or placed first) (sym later)
     ∙ first_refusal_or-append placed first (moved start part) (Ok value))
     ∙ first_place-is (first ++ moved start part) value
+
+-- Answers as a kind of refusal shows them.
+
+-- with its place it is the answer itself
+pub seen_placed : {A : Type 0} (answer : Result A Refused) → seen_as placed answer ≡ answer
+seen_placed (Ok value) = refl
+seen_placed (Err refused) = refl
+
+pub seen_then : {A B E : Type 0} (refuse : ParseError → ℕ → E) (step : A → Result B Refused)
+    (answer : Result A Refused)
+    → seen_as refuse (result_and_then step answer)
+    ≡ result_and_then (λ (value : A). seen_as refuse (step value)) (seen_as refuse answer)
+seen_then refuse step (Ok value) = refl
+seen_then refuse step (Err refused) = refl
+
+pub seen_number : {A E : Type 0} (refuse : ParseError → ℕ → E) (number : Option (Result A Refused))
+    (answer : Result A Refused)
+    → seen_as refuse (or_number number answer)
+    ≡ or_number (option_map (seen_as refuse) number) (seen_as refuse answer)
+seen_number refuse number (Ok value) = refl
+seen_number refuse (Some answer) (Err refused) = refl
+seen_number refuse None (Err refused) = refl
+
+-- so where no table lets a value through
+pub seen_refused : {A E : Type 0} (refuse : ParseError → ℕ → E) (number : Option (Result A Refused))
+    (answer : Result A Refused) (refusal : E)
+    → seen_as refuse answer ≡ Err refusal
+    → seen_as refuse (or_number number answer)
+    ≡ or_number (option_map (seen_as refuse) number) (Err refusal)
+seen_refused refuse number answer refusal same =
+    seen_number refuse number answer ∙ ap (or_number (option_map (seen_as refuse) number)) same
+
+pub seen-table : {A E : Type 0} (refuse : ParseError → ℕ → E) (rows : List TextRow)
+    (next : Result A Refused)
+    → seen_as refuse (first_refused_or rows next)
+    ≡ first_refusal_or refuse rows (seen_as refuse next)
+seen-table refuse rows next =
+    first_refusal_or-view (λ refused. refuse refused.fault refused.place) placed rows next
+
+-- a value is one whatever shows the refusals
+pub seen-read : {A E : Type 0} (refuse : ParseError → ℕ → E) (answer : Result A Refused) (value : A)
+    → seen_as refuse answer ≡ Ok value → answer ≡ Ok value
+seen-read refuse answer value same = search rules
+
+-- a refusal that keeps its fault shows that of the answer
+pub seen-fault : {A E : Type 0} (fault_of : E → ParseError) (refuse : ParseError → ℕ → E)
+    (answer : Result A Refused) (refusal : E)
+    → ((fault : ParseError) (place : ℕ) → fault_of (refuse fault place) ≡ fault)
+    → seen_as refuse answer ≡ Err refusal → without_place answer ≡ Err (fault_of refusal)
+seen-fault fault_of refuse answer refusal keeps same = search (rules, keeps)
+
+-- the answer to a part of a part begins at the sum of both places
+pub seen-part : {A E : Type 0} (refuse : ParseError → ℕ → E) (start inner : ℕ)
+    (answer : Result A Refused)
+    → seen_as (shifted start refuse) (from_byte inner answer)
+    ≡ seen_as (shifted (start + inner) refuse) answer
+seen-part refuse start inner (Ok value) = refl
+seen-part refuse start inner (Err refused) =
+    ap (λ (place : ℕ). Err (refuse refused.fault place))
+    (sym (add_assoc start inner refused.place))
+
+-- a value seen in another way
+pub seen-map : {A B E : Type 0} (refuse : ParseError → ℕ → E) (view : A → B)
+    (answer : Result A Refused)
+    → seen_as refuse (result_map view answer) ≡ result_map view (seen_as refuse answer)
+seen-map refuse view (Ok value) = refl
+seen-map refuse view (Err refused) = refl
+
+-- two tables, one after the other
+pub seen-tables : {A E : Type 0} (refuse : ParseError → ℕ → E) (first second : List TextRow)
+    (next : Result A Refused)
+    → seen_as refuse (first_refused_or first (first_refused_or second next))
+    ≡ first_refusal_or refuse first (first_refusal_or refuse second (seen_as refuse next))
+seen-tables refuse first second next =
+    seen-table refuse first (first_refused_or second next)
+    ∙ ap (first_refusal_or refuse first) (seen-table refuse second next)
+
+-- a value that is to be alone in its text
+pub seen_alone : {A E : Type 0} (refuse : ParseError → ℕ → E) (fault : A → ParseError)
+    (text : List ℕ) (front : Result (A × ℕ) Refused)
+    → seen_as refuse (result_and_then (alone_or fault text) front)
+    ≡ result_and_then (with_no_more_or refuse fault text) (seen_as refuse front)
+seen_alone refuse fault text front = search rules
+
+-- a number seen in another way, where no table lets a value through
+pub seen-number_map : {A B E : Type 0} (refuse : ParseError → ℕ → E) (view : A → B)
+    (number : Option (Result A Refused)) (refusal : E)
+    → result_map view (or_number (option_map (seen_as refuse) number) (Err refusal))
+    ≡ or_number (option_map (seen_as refuse) (option_map (result_map view) number)) (Err refusal)
+seen-number_map refuse view (Some answer) refusal = sym (seen-map refuse view answer)
+seen-number_map refuse view None refusal = refl
+
+-- the answer to a part
+pub seen-from : {A E : Type 0} (refuse : ParseError → ℕ → E) (start : ℕ) (answer : Result A Refused)
+    → seen_as refuse (from_byte start answer) ≡ seen_as (shifted start refuse) answer
+seen-from refuse start (Ok value) = refl
+seen-from refuse start (Err refused) = refl
+
+-- what tells the place of an answer
+pub ruleset place_rules = (seen_placed, refused_place_map)

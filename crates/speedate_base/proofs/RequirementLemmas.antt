@@ -1,14 +1,22 @@
 -- How tables chain, and which of their rows has the place.
 use Rattle.std.proofs.Common.{◌≡◌, ◌↔◌, ◌+◌, ◌≤◌, IfSome, ℕ, true, false, List, [], ◌∷◌, length, Result, Ok, rules, arith}
 use Rattle.speedate_base.specs.Requirement.{TextRow, first_place, moved}
-use Rattle.speedate_base.specs.Requirement.{with_no_more, result_and_then, ParseError}
+use Rattle.speedate_base.specs.Requirement.{with_no_more_or, result_and_then, ParseError}
+use Rattle.speedate_base.specs.Refused.{Refused, alone_or, seen_as}
 
 -- a value is alone in a text if and only if it takes all bytes
-pub with_no_more-iff : {A : Type 0} (fault : A → ParseError) (text : List ℕ)
-    (front : Result (A × ℕ) ParseError) (value : A)
-    → (result_and_then (with_no_more fault text) front ≡ Ok value)
+pub with_no_more-iff : {A E : Type 0} (refuse : ParseError → ℕ → E) (fault : A → ParseError)
+    (text : List ℕ) (front : Result (A × ℕ) E) (value : A)
+    → (result_and_then (with_no_more_or refuse fault text) front ≡ Ok value)
     ↔ (front ≡ Ok (value, length text))
-with_no_more-iff fault text front value = search rules
+with_no_more-iff refuse fault text front value = search rules
+
+-- also where a kind of refusal shows it
+pub alone-iff : {A E : Type 0} (refuse : ParseError → ℕ → E) (fault : A → ParseError)
+    (text : List ℕ) (front : Result (A × ℕ) Refused) (value : A)
+    → (result_and_then (alone_or fault text) front ≡ Ok value)
+    ↔ (seen_as refuse front ≡ Ok (value, length text))
+alone-iff refuse fault text front value = search rules
 
 -- where the answer to what was read is a value, something was read
 pub and_then-ok : {A B E : Type 0} (next : A → Result B E) (answer : Result A E)

@@ -1,6 +1,6 @@
 -- Texts that are printed and read back.
 use Rattle.std.proofs.Common.{◌≡◌, ℕ, List, [], ◌++◌, Result, Ok, rules}
-use Rattle.speedate_base.specs.Requirement.{result_map, ParseError}
+use Rattle.speedate_base.specs.Requirement.{result_map}
 
 -- what was appended to nothing is the text
 pub text-alone : (before after text : List ℕ) → before ≡ [] → after ≡ before ++ text → after ≡ text
@@ -14,7 +14,7 @@ pub text-distinct : {A E : Type 0} (print : A → List ℕ) (read : List ℕ →
 text-distinct print read first second one two same = search rules
 
 -- where a value is read back from the text by which it is printed, that text is printed again
-pub text-canonical : {A : Type 0} (print : A → List ℕ) (value : A) (text : List ℕ)
-    (answer : Result A ParseError)
+pub text-canonical : {A E : Type 0} (print : A → List ℕ) (value : A) (text : List ℕ)
+    (answer : Result A E)
     → text ≡ print value → answer ≡ Ok value → result_map print answer ≡ Ok text
 text-canonical print value text answer printed read = search rules

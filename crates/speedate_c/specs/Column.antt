@@ -4,15 +4,14 @@ use Rattle.std.specs.Prelude.{◌≡◌, ◌≢◌, ℕ, ◌≤◌, ◌++◌, �
 use Rattle.std.specs.Option.{option_and_then, option_map, unwrap_or}
 use Rattle.speedate.specs.Base.{Behavior, CallKind, ParseError, TimestampUnit}
 use Rattle.speedate.specs.Config.{Choices}
-use Rattle.speedate.specs.DateTime.{DateAndTime, date_time_answer, date_time_answer_or}
-use Rattle.speedate.specs.DateTime.{date_time_or_timestamp, date_time_or_timestamp_or}
+use Rattle.speedate.specs.DateTime.{DateAndTime, date_time_answer, date_time_or_timestamp}
 use Rattle.speedate.specs.DateTime.{local_microsecond, utc_microsecond}
-use Rattle.speedate.specs.Strict.{strict_date_time_answer, strict_date_time_answer_or}
-use Rattle.speedate.specs.Strict.{strict_time_answer, strict_time_answer_or}
-use Rattle.speedate.specs.Time.{TimeOfDay, microsecond_of_day, time_answer, time_answer_or}
-use Rattle.speedate.specs.Refused.{placed, refused_place}
+use Rattle.speedate.specs.Strict.{strict_date_time_answer, strict_time_answer}
+use Rattle.speedate.specs.Time.{TimeOfDay, microsecond_of_day, time_answer}
+use Rattle.speedate.specs.declared.Refused.{Refused}
+use Rattle.speedate.specs.Refused.{refused_place, without_place}
 use Rattle.speedate.specs.Requirement.{result_and_then}
-use Rattle.speedate.specs.Duration.{duration_answer, duration_answer_or}
+use Rattle.speedate.specs.Duration.{duration_answer}
 use Rattle.speedate.specs.Column.{as_number, date_number, date_place, date_time_front_number}
 use Rattle.speedate.specs.Column.{date_time_front_place, ended_part, front_number, front_place}
 use Rattle.speedate.specs.Column.{number_of_duration, offset_as_number, text_column, with_offset}
@@ -71,8 +70,8 @@ pub record LineCall (N : Type 0) : Type 0 where
   pub place : List ℕ → ℕ
   pub kind : CallKind
 
--- the date-time of a line, or the error
-abbrev pub date_time_by_parser : LineParser → Choices → List ℕ → Result DateAndTime ParseError
+-- the date-time of a line, or the fault and its place
+abbrev pub date_time_by_parser : LineParser → Choices → List ℕ → Result DateAndTime Refused
 date_time_by_parser LineParser.Text chosen line = date_time_answer chosen.behavior line
 date_time_by_parser LineParser.OrTimestamp chosen line =
     date_time_or_timestamp chosen.unit chosen.behavior chosen.offset line
@@ -80,15 +79,8 @@ date_time_by_parser LineParser.Strict chosen line = strict_date_time_answer chos
 
 -- the place of a line in a column of date-times: its end, if an offset is missing
 abbrev pub date_time_place_by : Choices → LineParser → List ℕ → ℕ
-date_time_place_by chosen LineParser.Text line =
-    unwrap_or (refused_place (date_time_answer_or placed chosen.behavior line)) (length line)
-date_time_place_by chosen LineParser.OrTimestamp line =
-    unwrap_or (refused_place
-    (date_time_or_timestamp_or placed chosen.unit chosen.behavior chosen.offset line))
-    (length line)
-date_time_place_by chosen LineParser.Strict line =
-    unwrap_or (refused_place (strict_date_time_answer_or placed chosen.behavior line))
-    (length line)
+date_time_place_by chosen parser line =
+    unwrap_or (refused_place (date_time_by_parser parser chosen line)) (length line)
 
 -- the kind of calls that parse date-times as a parser does
 abbrev pub date_time_kind : LineParser → CallKind
@@ -109,18 +101,19 @@ abbrev pub date_time_number_by : Choices → ColumnChoices → List ℕ → Resu
 date_time_number_by chosen column line =
     as_number utc_microsecond
     (result_and_then (with_offset column.assumes_utc)
-    (date_time_by_parser column.parser chosen line))
+    (without_place (date_time_by_parser column.parser chosen line)))
 
 -- the number of a line in a column of date-times as their clocks show them: the microseconds since
 -- 1970-01-01T00:00:00 on the same clock, whatever the offset
 abbrev pub clock_number_by : Choices → LineParser → List ℕ → Result ℤ LineError
 clock_number_by chosen parser line =
-    as_number local_microsecond (date_time_by_parser parser chosen line)
+    as_number local_microsecond (without_place (date_time_by_parser parser chosen line))
 
 -- the number of a line in a column of the offsets of date-times: its seconds
 abbrev pub date_time_offset_number_by : Choices → LineParser → List ℕ → Result ℤ LineError
 date_time_offset_number_by chosen parser line =
-    offset_as_number (λ value. value.time.offset) (date_time_by_parser parser chosen line)
+    offset_as_number (λ value. value.time.offset)
+    (without_place (date_time_by_parser parser chosen line))
 
 -- a column of date-times at the front of lines, where the parser is one of these: it reads the
 -- microseconds since 1970-01-01T00:00:00 in UTC, and how many bytes the date-time takes
@@ -145,20 +138,11 @@ front_call reader = record {
 abbrev pub no_front : DateTimeFront
 no_front = record { microseconds = least_of_64_bits; size = 0 }
 
--- the time of a line, or the error, and the place of a line, which is its end where an offset is
--- missing, if the parser is one of times
-abbrev pub time_by_parser : LineParser → Choices
-    → Option ((List ℕ → Result TimeOfDay ParseError) × (List ℕ → ℕ))
-time_by_parser LineParser.Text chosen = Some (
-  (λ line. time_answer chosen.behavior line),
-  (λ line. unwrap_or (refused_place (time_answer_or placed chosen.behavior line)) (length line)),
-)
+-- the time of a line, or the fault and its place, if the parser is one of times
+abbrev pub time_by_parser : LineParser → Choices → Option (List ℕ → Result TimeOfDay Refused)
+time_by_parser LineParser.Text chosen = Some (time_answer chosen.behavior)
 time_by_parser LineParser.OrTimestamp chosen = None
-time_by_parser LineParser.Strict chosen = Some (
-  (λ line. strict_time_answer chosen.behavior line),
-  (λ line. unwrap_or (refused_place (strict_time_answer_or placed chosen.behavior line))
-      (length line)),
-)
+time_by_parser LineParser.Strict chosen = Some (strict_time_answer chosen.behavior)
 
 -- the kind of calls that parse times as a parser does
 abbrev pub time_kind : LineParser → CallKind
@@ -166,13 +150,14 @@ time_kind LineParser.Text = CallKind.Time
 time_kind LineParser.OrTimestamp = CallKind.Time
 time_kind LineParser.Strict = CallKind.TimeStrict
 
--- a column that reads times as numbers, where the parser is one of times
+-- a column that reads times as numbers, where the parser is one of times; the place of a line is
+-- its end, where an offset is missing
 abbrev pub time_call : (Result TimeOfDay ParseError → Result ℤ LineError) → Choices → LineParser
     → Option (LineCall ℤ)
 time_call number chosen parser =
     option_map (λ time. record {
-      answer = λ line. number (time.0 line);
-      place = time.1;
+      answer = λ line. number (without_place (time line));
+      place = λ line. unwrap_or (refused_place (time line)) (length line);
       kind = time_kind parser;
     })
     (time_by_parser parser chosen)
@@ -209,12 +194,12 @@ date_call parser reader = record {
 -- the number of a line in a column of durations: its microseconds, with the sign
 abbrev pub duration_number_by : Choices → List ℕ → Result ℤ LineError
 duration_number_by chosen line =
-    number_of_duration (duration_answer chosen.order chosen.behavior line)
+    number_of_duration (without_place (duration_answer chosen.order chosen.behavior line))
 
 -- the place of a line in a column of durations: its beginning, where the number is too large
 abbrev pub duration_place_by : Choices → List ℕ → ℕ
 duration_place_by chosen line =
-    unwrap_or (refused_place (duration_answer_or placed chosen.order chosen.behavior line)) 0
+    unwrap_or (refused_place (duration_answer chosen.order chosen.behavior line)) 0
 
 -- a column of durations
 abbrev pub duration_call : Choices → LineCall ℤ

@@ -4,9 +4,8 @@ use Rattle.std.specs.Ordering.{int_eq}
 use Rattle.speedate.specs.Base.{CallKind, ParseError}
 use Rattle.speedate.specs.Calendar.{Ymd}
 use Rattle.speedate.specs.Config.{Choices}
-use Rattle.speedate.specs.Date.{date_answer_or, date_front_or}
-use Rattle.speedate.specs.Date.{date_or_timestamp_or, new_date_answer}
-use Rattle.speedate.specs.Refused.{placed}
+use Rattle.speedate.specs.Date.{date_answer, date_front, date_or_timestamp}
+use Rattle.speedate.specs.Date.{new_date_answer}
 use Rattle.speedate_c.specs.Code.{front_form, or_timestamp_form, text_form}
 use Rattle.speedate_c.specs.Written.{Reading, front, whole}
 use Rattle.speedate_c.specs.declared.date.SpeedateDate.{SpeedateDate}
@@ -27,9 +26,9 @@ first_day = record { year = 1970; month = 1; day = 1 }
 abbrev pub date_reading : ℤ → Choices → List ℕ → Option (Reading Ymd)
 date_reading form chosen text =
     if int_eq form text_form
-    then Some (whole text CallKind.Date (date_answer_or placed text))
+    then Some (whole text CallKind.Date (date_answer text))
     else (if int_eq form or_timestamp_form
-    then Some (whole text CallKind.DateOrTimestamp (date_or_timestamp_or placed chosen.unit text))
+    then Some (whole text CallKind.DateOrTimestamp (date_or_timestamp chosen.unit text))
     else (if int_eq form front_form
-    then Some (front CallKind.Date (date_front_or placed text))
+    then Some (front CallKind.Date (date_front text))
     else None))

@@ -6,13 +6,11 @@ use Rattle.std.specs.Ordering.{int_eq}
 use Rattle.speedate.specs.Base.{CallKind, ParseError}
 use Rattle.speedate.specs.Calendar.{month_length}
 use Rattle.speedate.specs.Config.{Choices}
-use Rattle.speedate.specs.DateTime.{DateAndTime, date_time_answer_or}
-use Rattle.speedate.specs.DateTime.{date_time_front_or}
-use Rattle.speedate.specs.DateTime.{date_time_or_timestamp_or}
+use Rattle.speedate.specs.DateTime.{DateAndTime, date_time_answer, date_time_front}
+use Rattle.speedate.specs.DateTime.{date_time_or_timestamp}
 use Rattle.speedate.specs.Offset.{is_offset}
-use Rattle.speedate.specs.Refused.{placed}
 use Rattle.speedate.specs.Requirement.{result_and_then, result_map}
-use Rattle.speedate.specs.Strict.{strict_date_time_answer_or}
+use Rattle.speedate.specs.Strict.{strict_date_time_answer}
 use Rattle.speedate_c.specs.Code.{front_form, or_timestamp_form, strict_form, text_form}
 use Rattle.speedate_c.specs.Date.{date_of, shown_date}
 use Rattle.speedate_c.specs.Time.{attached_offset, time_of, shown_time}
@@ -46,13 +44,13 @@ shown_date_time value = record { date = shown_date value.date; time = shown_time
 abbrev pub date_time_reading : ℤ → Choices → List ℕ → Option (Reading DateAndTime)
 date_time_reading form chosen text =
     if int_eq form text_form
-    then Some (whole text CallKind.DateTime (date_time_answer_or placed chosen.behavior text))
+    then Some (whole text CallKind.DateTime (date_time_answer chosen.behavior text))
     else (if int_eq form or_timestamp_form
     then Some (whole text CallKind.DateTimeOrTimestamp
-    (date_time_or_timestamp_or placed chosen.unit chosen.behavior chosen.offset text))
+    (date_time_or_timestamp chosen.unit chosen.behavior chosen.offset text))
     else (if int_eq form strict_form
     then Some (whole text CallKind.DateTimeStrict
-    (strict_date_time_answer_or placed chosen.behavior text))
+    (strict_date_time_answer chosen.behavior text))
     else (if int_eq form front_form
-    then Some (front CallKind.DateTime (date_time_front_or placed chosen.behavior text))
+    then Some (front CallKind.DateTime (date_time_front chosen.behavior text))
     else None)))

@@ -3,8 +3,7 @@ use Rattle.std.specs.Prelude.{ℕ, ◌==◌, nat_le, nat_lt, Bool, true, false, 
 use Rattle.std.specs.Ordering.{int_eq}
 use Rattle.speedate.specs.Base.{CallKind, ParseError}
 use Rattle.speedate.specs.Config.{Choices}
-use Rattle.speedate.specs.Duration.{duration_answer_or, signed_amount}
-use Rattle.speedate.specs.Refused.{placed}
+use Rattle.speedate.specs.Duration.{duration_answer, signed_amount}
 use Rattle.speedate_c.specs.Code.{text_form}
 use Rattle.speedate.specs.DurationNumbers.{DurationNumbers}
 use Rattle.speedate.specs.Timestamp.{seconds_per_day}
@@ -61,5 +60,5 @@ abbrev pub duration_reading : ℤ → Choices → List ℕ → Option (Reading D
 duration_reading form chosen text =
     if int_eq form text_form
     then Some (whole text CallKind.Duration
-    (duration_answer_or placed chosen.order chosen.behavior text))
+    (duration_answer chosen.order chosen.behavior text))
     else None

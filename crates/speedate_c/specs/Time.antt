@@ -3,10 +3,8 @@ use Rattle.std.specs.Prelude.{ℕ, ℤ, pos, negsuc, List, Option, Some, None, R
 use Rattle.std.specs.Ordering.{int_eq}
 use Rattle.speedate.specs.Base.{CallKind, ParseError}
 use Rattle.speedate.specs.Config.{Choices}
-use Rattle.speedate.specs.Refused.{placed}
-use Rattle.speedate.specs.Strict.{strict_time_answer_or}
-use Rattle.speedate.specs.Time.{new_time_answer, time_answer_or}
-use Rattle.speedate.specs.Time.{time_front_or, TimeOfDay}
+use Rattle.speedate.specs.Strict.{strict_time_answer}
+use Rattle.speedate.specs.Time.{new_time_answer, time_answer, time_front, TimeOfDay}
 use Rattle.speedate.specs.declared.FractionDigits.{FractionDigits}
 use Rattle.speedate.specs.Requirement.{result_and_then, result_map}
 use Rattle.speedate_c.specs.Code.{front_form, strict_form, text_form}
@@ -59,9 +57,9 @@ fraction_digits_of number =
 abbrev pub time_reading : ℤ → Choices → List ℕ → Option (Reading TimeOfDay)
 time_reading form chosen text =
     if int_eq form text_form
-    then Some (whole text CallKind.Time (time_answer_or placed chosen.behavior text))
+    then Some (whole text CallKind.Time (time_answer chosen.behavior text))
     else (if int_eq form strict_form
-    then Some (whole text CallKind.TimeStrict (strict_time_answer_or placed chosen.behavior text))
+    then Some (whole text CallKind.TimeStrict (strict_time_answer chosen.behavior text))
     else (if int_eq form front_form
-    then Some (front CallKind.Time (time_front_or placed chosen.behavior text))
+    then Some (front CallKind.Time (time_front chosen.behavior text))
     else None))

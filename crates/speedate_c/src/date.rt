@@ -5,6 +5,7 @@ ghost use Rattle.std.specs.Prelude.{◌≡◌, ◌≢◌, ◌≤◌, length, nat
 ghost use Rattle.speedate.specs.Date.{ymd, date_answer, date_or_timestamp, date_text, ◌gives◌};
 ghost use Rattle.speedate.specs.Calendar.{date_order, date_added};
 ghost use Rattle.speedate.specs.Calendar.{days_between, month_length, ordinal_day};
+ghost use Rattle.speedate.specs.Refused.{without_place};
 ghost use Rattle.speedate.specs.Requirement.{result_map};
 ghost use Rattle.speedate_c.specs.Written.{written_answer, written_optional_date};
 ghost use Rattle.speedate_c.specs.Written.{written_text, written_value, with_option, with_value};
@@ -114,7 +115,8 @@ pub extern "C" fn speedate_date_parse_or_timestamp(
 ) -> i32
     ensures answer { (result, out.new)
         ≡ with_option (choices_of config) (config_out_of_range, out.old)
-        (λ config. written_answer shown_date out.old (date_or_timestamp config.unit text.now)) }
+        (λ config. written_answer shown_date out.old
+        (without_place (date_or_timestamp config.unit text.now))) }
 {
     let config = config_or_return!(config.to_date_config());
     write_date(Date::parse_bytes_with_config(text, &config), out)
@@ -124,7 +126,8 @@ pub extern "C" fn speedate_date_parse_or_timestamp(
 /// from `2020-02-29`.
 #[unsafe(no_mangle)]
 pub extern "C" fn speedate_date_parse_text(text: &[u8], out: &mut SpeedateDate) -> i32
-    ensures answer { (result, out.new) ≡ written_answer shown_date out.old (date_answer text.now) }
+    ensures answer { (result, out.new)
+        ≡ written_answer shown_date out.old (without_place (date_answer text.now)) }
 {
     write_date(Date::parse_bytes_rfc3339(text), out)
 }

@@ -6,6 +6,7 @@ ghost use Rattle.speedate.specs.DateTime.{date_and_time, date_time_answer, date_
 ghost use Rattle.speedate.specs.DateTime.{date_time_or_timestamp};
 ghost use Rattle.speedate.specs.DateTime.{date_time_instant_order, date_time_in_timezone, ◌gives◌};
 ghost use Rattle.speedate.specs.Requirement.{result_map};
+ghost use Rattle.speedate.specs.Refused.{without_place};
 ghost use Rattle.speedate.specs.Strict.{strict_date_time_answer};
 ghost use Rattle.speedate_c.specs.Written.{written_answer, written_text};
 ghost use Rattle.speedate_c.specs.Written.{written_value, with_option, with_value};
@@ -156,7 +157,8 @@ pub extern "C" fn speedate_datetime_parse_or_timestamp(
     ensures answer { (result, out.new)
         ≡ with_option (choices_of config) (config_out_of_range, out.old)
         (λ config. written_answer shown_date_time out.old
-        (date_time_or_timestamp config.unit config.behavior config.offset text.now)) }
+        (without_place
+        (date_time_or_timestamp config.unit config.behavior config.offset text.now))) }
 {
     let config = config_or_return!(config.to_config());
     write_date_time(DateTime::parse_bytes_with_config(text, &config), out)
@@ -174,7 +176,7 @@ pub extern "C" fn speedate_datetime_parse_text(
     ensures answer { (result, out.new)
         ≡ with_option (choices_of config) (config_out_of_range, out.old)
         (λ config. written_answer shown_date_time out.old
-        (date_time_answer config.behavior text.now)) }
+        (without_place (date_time_answer config.behavior text.now))) }
 {
     let config = config_or_return!(config.to_config());
     let answer = DateTime::parse_bytes_rfc3339_with_config(text, &config.time_config);
@@ -193,7 +195,7 @@ pub extern "C" fn speedate_datetime_parse_strict(
     ensures answer { (result, out.new)
         ≡ with_option (choices_of config) (config_out_of_range, out.old)
         (λ config. written_answer shown_date_time out.old
-        (strict_date_time_answer config.behavior text.now)) }
+        (without_place (strict_date_time_answer config.behavior text.now))) }
 {
     let config = config_or_return!(config.to_config());
     let behavior = config.time_config.microseconds_precision_overflow_behavior;

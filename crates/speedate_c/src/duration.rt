@@ -1,6 +1,7 @@
 //! Durations as C sees them.
 
 ghost use Rattle.std.specs.Prelude.{◌≡◌, ◌≢◌, ◌≤◌, ◌↔◌, IsOk, if◌then◌else◌, length, nat_le};
+ghost use Rattle.speedate.specs.Refused.{without_place};
 ghost use Rattle.speedate.specs.Duration.{duration_numbers, duration_answer, duration_text};
 ghost use Rattle.speedate.specs.Duration.{◌gives◌};
 ghost use Rattle.speedate.specs.DurationNumbers.{IsDuration, normal_form, signed_microsecond};
@@ -103,7 +104,7 @@ pub extern "C" fn speedate_duration_parse_text(
     ensures answer { (result, out.new)
         ≡ with_option (choices_of config) (config_out_of_range, out.old)
         (λ config. written_answer shown_duration out.old
-        (duration_answer config.order config.behavior text.now)) }
+        (without_place (duration_answer config.order config.behavior text.now))) }
 {
     let config = config_or_return!(config.to_config());
     let answer = Duration::parse_bytes_with_config(text, &config.time_config);

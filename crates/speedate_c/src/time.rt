@@ -8,6 +8,7 @@ ghost use Rattle.speedate.specs.Requirement.{result_map};
 ghost use Rattle.speedate.specs.Time.{time_of_day, millisecond_of_day, second_of_day, time_answer};
 ghost use Rattle.speedate.specs.Time.{time_text, ◌gives◌, time_instant_order};
 ghost use Rattle.speedate.specs.Time.{time_in_timezone};
+ghost use Rattle.speedate.specs.Refused.{without_place};
 ghost use Rattle.speedate.specs.Strict.{strict_time_answer};
 ghost use Rattle.speedate_c.specs.Written.{written_answer, written_text};
 ghost use Rattle.speedate_c.specs.Written.{written_value, with_option, with_value};
@@ -121,7 +122,8 @@ pub extern "C" fn speedate_time_parse_text(
 ) -> i32
     ensures answer { (result, out.new)
         ≡ with_option (choices_of config) (config_out_of_range, out.old)
-        (λ config. written_answer shown_time out.old (time_answer config.behavior text.now)) }
+        (λ config. written_answer shown_time out.old
+        (without_place (time_answer config.behavior text.now))) }
 {
     let config = config_or_return!(config.to_config());
     let time = Time::parse_bytes_with_config(text, &config.time_config);
@@ -141,7 +143,7 @@ pub extern "C" fn speedate_time_parse_strict(
     ensures answer { (result, out.new)
         ≡ with_option (choices_of config) (config_out_of_range, out.old)
         (λ config. written_answer shown_time out.old
-        (strict_time_answer config.behavior text.now)) }
+        (without_place (strict_time_answer config.behavior text.now))) }
 {
     let config = config_or_return!(config.to_config());
     let behavior = config.time_config.microseconds_precision_overflow_behavior;

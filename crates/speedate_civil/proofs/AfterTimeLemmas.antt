@@ -8,7 +8,6 @@ use Rattle.std.specs.Char.{is_ascii_digit}
 use Rattle.speedate_base.specs.Ascii.{colon, full_stop}
 use Rattle.speedate_base.specs.Digits.{run_length, six_digit_text, two_digit_text, is_decimal_mark}
 use Rattle.speedate_base.specs.Offset.{IsWholeMinutes}
-use Rattle.speedate_base.specs.Requirement.{first_fault_or}
 use Rattle.speedate_civil.specs.Time.{Clock, clock_front, minute_text, begins_offset, offset_front}
 use Rattle.speedate_civil.specs.Time.{TimeOfDay, IsTime, clock_text, continues_fraction}
 use Rattle.speedate_civil.specs.Time.{is_after_time, time_front, time_text}
@@ -18,6 +17,11 @@ use Rattle.speedate_civil.specs.Date.{date_front}
 use Rattle.speedate_civil.proofs.DateTimeLemmas.{date_time_text-front}
 use Rattle.speedate_civil.proofs.ReadLemmas.{read-then, read-value}
 use Rattle.speedate_civil.proofs.TimeLemmas.{time_text-front}
+use Rattle.speedate_base.specs.Refused.{first_refused_or, from_byte}
+use Rattle.speedate_civil.proofs.ReadLemmas.{read-part}
+use Rattle.speedate_base.proofs.RefusalLemmas.{refusal-ok, seen-read}
+use Rattle.speedate_base.specs.Refused.{placed}
+use Rattle.speedate_base.specs.Requirement.{shifted}
 
 begins-none : (rest : List ℕ)
     → IfOk (offset_front rest) (λ front. front.0 ≡ None → begins_offset rest ≡ false)
@@ -59,7 +63,7 @@ ends-at behavior time rest text size text_is long left without stops read =
     let fronted = ap (time_front behavior) (sym text_is) ∙ read in
     read-value (EndsThere time rest) (time_front behavior text) front fronted
     (read-then _ _ (clock_front behavior text) (λ clock clocked.
-    read-then _ _ (offset_front (drop clock.size text)) (λ offset after is.
+    read-part _ _ _ (offset_front (drop clock.size text)) (λ offset after is.
     let stopped = stops clock clocked (search rules) in
     let here : offset_front rest ≡ Ok offset = search rules in
     let begins = read-value _ (offset_front rest) offset here (begins-none rest) (search rules) in
@@ -112,9 +116,13 @@ date_time_text-front-iff behavior value rest valid whole = (
       let text : List ℕ = date_time_text value ++ rest in
       let front : DateAndTime × ℕ = (value, length (date_time_text value)) in
       let Is = AllEndsThere value rest in
-      let answer = first_fault_or (separator_table text) (time_front behavior (drop 11 text)) in
+      let table = separator_table text in
+      let answer = time_front behavior (drop 11 text) in
       let of_time = time_text-front-iff behavior value.time rest valid.time whole in
       read-value Is (date_time_front behavior text) front read
       (read-then Is _ (date_front text) (λ date dated.
-      read-then Is _ answer (λ time timed is. of_time.1 (search rules)))) refl,
+      read-then Is _ (first_refused_or table (from_byte 11 answer)) (λ time timed is.
+      let after = (refusal-ok placed table (from_byte 11 answer) time timed).1 in
+      let read = seen-read (shifted 11 placed) answer time after in
+      of_time.1 (search rules)))) refl,
 )

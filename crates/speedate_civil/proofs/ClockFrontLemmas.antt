@@ -8,9 +8,10 @@ use Rattle.speedate_base.specs.Digits.{two_digits_at, two_digit_value, eight_at,
 use Rattle.speedate_base.specs.Digits.{fit_digits, digit_pairs}
 use Rattle.speedate_base.specs.Requirement.{first_refusal_or, result_map, shifted}
 use Rattle.speedate_base.proofs.PatternLemmas.{fit_length-all}
-use Rattle.speedate_base.proofs.RefusalLemmas.{shifted-shifted}
-use Rattle.speedate_civil.specs.Time.{Clock, at_hour, clock_front_or, minute_clock, minute_front_or}
+use Rattle.speedate_civil.specs.Time.{Clock, at_hour, clock_front, minute_clock, minute_front}
 use Rattle.speedate_civil.specs.Time.{second_table}
+use Rattle.speedate_base.proofs.RefusalLemmas.{seen-map, seen-part, seen-table}
+use Rattle.speedate_base.specs.Refused.{first_refused_or, from_byte, seen_as}
 
 -- a clock as it looks
 abbrev pub pattern : List ℕ
@@ -49,13 +50,15 @@ after_table refuse behavior text hour =
 pub decided : {E : Type 0} (refuse : ParseError → ℕ → E) (start : ℕ) (behavior : Behavior)
     (text numbers : List ℕ) → Front text numbers → 5 ≤ length text
     → get_or numbers 0 0 ≤ 23 → get_or numbers 3 0 ≤ 59
-    → clock_front_or (shifted start refuse) behavior text
+    → seen_as (shifted start refuse) (clock_front behavior text)
     ≡ after_table (shifted (start + 3) refuse) behavior text (get_or numbers 0 0)
 decided refuse start behavior text numbers front long early short =
     let hour = subst (λ (n : ℕ). n ≤ 23) front.hour_is early in
     let minute = subst (λ (n : ℕ). n ≤ 59) front.minute_is short in
-    let rows : clock_front_or (shifted start refuse) behavior text
-    ≡ after_table (shifted 3 (shifted start refuse)) behavior text (get_or numbers 0 0) =
+    let rest : List ℕ = drop 3 text in
+    let number = get_or numbers 0 0 in
+    let later = first_refused_or (second_table behavior rest) (Ok (minute_clock rest)) in
+    let rows : clock_front behavior text ≡ result_map (at_hour number) (from_byte 3 later) =
     rw (
       le-leb 5 (length text) long,
       front.hour,
@@ -65,9 +68,10 @@ decided refuse start behavior text numbers front long early short =
       le-leb (two_digit_value (drop 3 text) 0) 59 minute,
       front.hour_is,
     ) refl in
-    let number = get_or numbers 0 0 in
-    let after = λ (refuse : ParseError → ℕ → _). after_table refuse behavior text number in
-    rows ∙ ap after (shifted-shifted start 3 refuse)
+    ap (seen_as (shifted start refuse)) rows
+    ∙ seen-map (shifted start refuse) (at_hour number) (from_byte 3 later)
+    ∙ ap (result_map (at_hour number)) (seen-part refuse start 3 later
+    ∙ seen-table (shifted (start + 3) refuse) (second_table behavior rest) (Ok (minute_clock rest)))
 
 -- the fourth or the fifth of five does not hold
 fourth-of : (a b c d e : Bool) (rest count : ℕ)
@@ -84,7 +88,7 @@ fourth-of true true true true true rest count is some few = absurd (omega arith)
 pub no-minute : {E : Type 0} (refuse : ParseError → ℕ → E) (behavior : Behavior)
     (text front : List ℕ) (fits : ℕ) → 5 ≤ length text
     → front ≡ eight_at text 0 → fits ≡ fit_length pattern front → 3 ≤ fits → fits < 5
-    → clock_front_or refuse behavior text ≡ Err (refuse ParseError.InvalidCharMinute 3)
+    → seen_as refuse (clock_front behavior text) ≡ Err (refuse ParseError.InvalidCharMinute 3)
 no-minute refuse behavior text front fits long from counted some few =
     let is : fits ≡ fit_length pattern (eight_at text 0) = counted ∙ ap (fit_length pattern) from in
     let tests = fourth-of _ _ _ _ _ _ fits is some few in
@@ -121,11 +125,12 @@ minute-read text front numbers fits from counted enough spelled =
 pub minute-decided : {E : Type 0} (refuse : ParseError → ℕ → E) (behavior : Behavior)
     (text numbers : List ℕ)
     → Minute text numbers → get_or numbers 0 0 ≤ 59
-    → minute_front_or refuse behavior text ≡ first_refusal_or refuse (second_table behavior text)
-    (Ok (minute_clock text))
+    → seen_as refuse (minute_front behavior text)
+    ≡ first_refusal_or refuse (second_table behavior text) (Ok (minute_clock text))
 minute-decided refuse behavior text numbers minute short =
     let range = subst (λ (n : ℕ). n ≤ 59) minute.is short in
-    rw (minute.digits, le-leb (two_digit_value text 0) 59 range) refl
+    rw (minute.digits, le-leb (two_digit_value text 0) 59 range)
+    (seen-table refuse (second_table behavior text) (Ok (minute_clock text)))
 
 -- two tests of which one does not hold
 first-two : (a b : Bool) (rest : ℕ) → (if a then 1 + (if b then 1 + rest else 0) else 0) < 2
@@ -137,7 +142,7 @@ first-two true true rest few = absurd (omega arith)
 pub minute-none : {E : Type 0} (refuse : ParseError → ℕ → E) (behavior : Behavior)
     (text front : List ℕ) (fits : ℕ) → front ≡ eight_at text 0
     → fits ≡ fit_length pattern front → fits < 2
-    → minute_front_or refuse behavior text ≡ Err (refuse ParseError.InvalidCharMinute 0)
+    → seen_as refuse (minute_front behavior text) ≡ Err (refuse ParseError.InvalidCharMinute 0)
 minute-none refuse behavior text front fits from counted few =
     let same = counted ∙ ap (fit_length pattern) from in
     rw (first-two _ _ _ (subst (λ (count : ℕ). count < 2) same few)) refl

@@ -19,7 +19,7 @@ use Rattle.speedate_base.proofs.TimestampLemmas.{instant_microsecond, instant_at
 use Rattle.speedate_civil.proofs.DayNumberLemmas.{day_number-date_of_number}
 use Rattle.speedate_base.proofs.RefusalLemmas.{refusal-value}
 use Rattle.speedate_base.specs.Requirement.{fault_alone}
-use Rattle.speedate_civil.proofs.ReadLemmas.{read-map, read-rows, read-then, read-value}
+use Rattle.speedate_civil.proofs.ReadLemmas.{read-map, read-table, read-then, read-value}
 
 later-is : (microseconds : ℕ) (instant : Instant)
     → instant_microsecond (later_instant microseconds instant)
@@ -44,7 +44,7 @@ instant_date_time-holds : (P : ℤ → Type 0) (offset : Option ℤ) (instant : 
 instant_date_time-holds P offset instant held =
     let Is = λ (value : DateAndTime). P (local_microsecond value) in
     read-map Is (date_time_at offset) (range_answer instant)
-    (read-rows (λ (at : Instant). Is (date_time_at offset at)) (range_table instant) _
+    (read-table fault_alone (λ (at : Instant). Is (date_time_at offset at)) (range_table instant) _
     (λ rows. subst P (sym (ap (λ (n : ℤ). pos 1000000 *ℤ n +ℤ pos instant.microsecond)
     (local-is offset instant rows.0))) held))
 
@@ -56,7 +56,7 @@ instant_date_time-shown offset instant value same =
     let Is = IsShownAt offset instant in
     read-value Is (instant_date_time offset instant) value same
     (read-map Is (date_time_at offset) (range_answer instant)
-    (read-rows (λ (at : Instant). Is (date_time_at offset at)) (range_table instant) _
+    (read-table fault_alone (λ (at : Instant). Is (date_time_at offset at)) (range_table instant) _
     (λ rows. date_time_at-shown offset instant rows.0)))
 
 -- the date-time of a timestamp lies as many microseconds after 1970-01-01T00:00:00 as the timestamp

@@ -5,7 +5,7 @@ use Rattle.std.proofs.lemmas.Grind.{common_steps}
 use Rattle.speedate_civil.specs.Base.{Behavior}
 use Rattle.speedate_base.specs.Ascii.{capital_t}
 use Rattle.speedate_base.specs.Offset.{IsWholeMinutes}
-use Rattle.speedate_base.specs.Requirement.{fault_alone, with_no_more, result_and_then}
+use Rattle.speedate_base.specs.Requirement.{result_and_then}
 use Rattle.speedate_civil.specs.DateTime.{DateAndTime, IsDateAndTime, date_time_front}
 use Rattle.speedate_civil.specs.DateTime.{date_time_answer, date_time_text}
 use Rattle.speedate_civil.specs.DateTime.{cut_date_time, date_time_text_with}
@@ -16,6 +16,7 @@ use Rattle.speedate_civil.proofs.FrontLemmas.{date_time_front-is}
 use Rattle.speedate_base.proofs.RefusalLemmas.{refusal-whole}
 use Rattle.speedate_civil.proofs.TimeLemmas.{time_text-front, time_text_with-front}
 use Rattle.speedate_civil.proofs.TimeLemmas.{nothing-after}
+use Rattle.speedate_base.specs.Refused.{alone_or, placed}
 
 -- a date with its letter, and then a time, that were appended one after another
 pub date_time-joined : (old first second date time : List ℕ)
@@ -47,8 +48,8 @@ date_time_text-reads behavior value valid whole =
     let front = sym (ap (date_time_front behavior) (append-nil text))
     ∙ date_time_text-front behavior value [] valid whole (nothing-after value.time) in
     let fault = λ (read : DateAndTime). end_fault read.time.offset in
-    ap (result_and_then (with_no_more fault text)) front
-    ∙ refusal-whole fault_alone fault text value (length text) refl
+    ap (result_and_then (alone_or fault text)) front
+    ∙ refusal-whole placed fault text value (length text) refl
 
 -- the text of a date-time with a number of digits is read as the date-time, rounded down to these
 -- digits
@@ -66,5 +67,5 @@ date_time_text_with-reads behavior digits value valid whole =
     (time_text_with-front behavior digits value.time valid.time whole)
     ∙ ap (λ (size : ℕ). Ok (cut, size)) long in
     let fault = λ (read : DateAndTime). end_fault read.time.offset in
-    ap (result_and_then (with_no_more fault text)) front
-    ∙ refusal-whole fault_alone fault text cut (length text) refl
+    ap (result_and_then (alone_or fault text)) front
+    ∙ refusal-whole placed fault text cut (length text) refl

@@ -8,7 +8,8 @@ use Rattle.speedate_base.specs.Requirement.{all_at_byte, first_refusal_or}
 use Rattle.speedate_base.specs.Timestamp.{Instant, UnitRow, decimal_instant, digits_row}
 use Rattle.speedate_base.specs.Timestamp.{later_answer, range_answer, range_table}
 use Rattle.speedate_civil.specs.DateTime.{DateAndTime, IsDateAndTime, local_second, date_time_at}
-use Rattle.speedate_civil.specs.DateTime.{date_time_timestamp_answer, decimal_instant_or}
+use Rattle.speedate_civil.specs.DateTime.{date_time_timestamp_answer, decimal_instant_answer}
+use Rattle.speedate_civil.specs.DateTime.{decimal_table}
 use Rattle.speedate_civil.specs.DateTime.{instant_date_time}
 use Rattle.speedate_base.proofs.TimestampLemmas.{instant_of_seconds}
 use Rattle.speedate_civil.specs.Base.{Behavior, ParseError, TimestampUnit}
@@ -16,6 +17,8 @@ use Rattle.speedate_civil.proofs.DateOrderLemmas.{date_of_number-day_number}
 use Rattle.speedate_civil.proofs.DateTimestampLemmas.{day-of, second-of}
 use Rattle.speedate_base.proofs.RefusalLemmas.{refusal-all}
 use Rattle.speedate_civil.proofs.DayNumberLemmas.{day_number-small}
+use Rattle.speedate_base.proofs.RefusalLemmas.{seen-table}
+use Rattle.speedate_base.specs.Refused.{seen_as}
 
 -- less than a second more than an instant of whole seconds
 later-microsecond : (second : ℤ) (microsecond : ℕ) → unsigned_abs second < 300000000000
@@ -63,10 +66,11 @@ pub decimal-refused : {E : Type 0} (refuse : ParseError → ℕ → E) (row : Un
     (behavior : Behavior) (text : List ℕ) (decimal : DecimalParts) (fault : ParseError)
     → (digits_row behavior row decimal).holds ≡ true
     → Err fault ≡ range_answer (decimal_instant row decimal)
-    → Err (refuse fault 0) ≡ decimal_instant_or refuse row behavior text decimal
+    → Err (refuse fault 0) ≡ seen_as refuse (decimal_instant_answer row behavior text decimal)
 decimal-refused refuse row behavior text decimal fault few refused =
     let instant = decimal_instant row decimal in
     let range = first_refusal_or refuse (all_at_byte 0 (range_table instant)) (Ok instant) in
     let place = length text - length decimal.fraction + row.digits in
     range-refused refuse instant instant fault refused
     ∙ ap (λ (test : Bool). if test then range else Err (refuse row.too_long place)) (sym few)
+    ∙ sym (seen-table refuse (decimal_table row behavior text decimal) (Ok instant))

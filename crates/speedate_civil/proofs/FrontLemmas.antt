@@ -9,7 +9,7 @@ use Rattle.std.specs.List.{prefix_len}
 use Rattle.std.proofs.lemmas.List.{drop-take}
 use Rattle.speedate_base.specs.Ascii.{colon, hyphen}
 use Rattle.speedate_base.specs.Digits.{run_length, run_digits, two_digit_value, is_decimal_mark}
-use Rattle.speedate_base.specs.Requirement.{fault_alone, AllHold, with_no_more, first_fault_or}
+use Rattle.speedate_base.specs.Requirement.{fault_alone, AllHold}
 use Rattle.speedate_base.specs.Requirement.{result_and_then, result_map, with_size}
 use Rattle.speedate_civil.specs.Calendar.{Ymd}
 use Rattle.speedate_civil.specs.Time.{Clock, at_hour, clock_answer, clock_front, hour_table}
@@ -22,8 +22,13 @@ use Rattle.speedate_civil.specs.DateTime.{DateAndTime, DateTime, date_and_time, 
 use Rattle.speedate_civil.specs.DateTime.{date_time_front, separator_table}
 use Rattle.speedate_civil.specs.Date.{date_front, date_answer, date_numbers, date_table}
 use Rattle.speedate_civil.proofs.OffsetLemmas.{offset-cases}
-use Rattle.speedate_base.proofs.RefusalLemmas.{refusal-all, refusal-ok}
+use Rattle.speedate_base.specs.declared.refusal.Refused.{Refused}
+use Rattle.speedate_base.specs.Refused.{placed, without_place}
+use Rattle.speedate_base.proofs.RefusalLemmas.{refusal-all, refusal-ok, seen-read}
 use Rattle.speedate_civil.proofs.ReadLemmas.{read-map, read-rows, read-then, read-value}
+use Rattle.speedate_base.specs.Refused.{alone_or, first_refused_or, from_byte}
+use Rattle.speedate_base.specs.Requirement.{moved, shifted}
+use Rattle.speedate_civil.proofs.ReadLemmas.{read-from, read-part}
 
 -- bytes of a text, from a place on, and 0 for those after its end
 abbrev pub bytes_from : ℕ → ℕ → List ℕ → List ℕ
@@ -109,24 +114,21 @@ digits-taken west sign count numbers there is within =
 abbrev IsTaken : List ℕ → Option ℤ × ℕ → Type 0
 IsTaken rest front = (count : ℕ) → front.1 ≤ count → offset_front (take count rest) ≡ Ok front
 
--- the offset, by what it begins with
-abbrev OffsetTaken : List ℕ → Result (Option ℤ × ℕ) ParseError → Type 0
-OffsetTaken rest answer = IfOk answer (IsTaken rest)
-
 signed-taken : (west : Bool) (sign : ℕ) (rest : List ℕ)
     → ((count : ℕ) → sign + offset_digits_size (drop sign rest) ≤ count
-    → offset_front (take count rest) ≡ signed_front west sign (drop sign (take count rest)))
-    → OffsetTaken rest (signed_front west sign (drop sign rest))
+    → offset_front (take count rest)
+    ≡ from_byte sign (signed_front west sign (drop sign (take count rest))))
+    → IfOk (signed_front west sign (drop sign rest)) (IsTaken rest)
 signed-taken west sign rest is =
     let numbers : List ℕ = drop sign rest in
     read-rows (IsTaken rest) (offset_digits numbers) _ (λ digits.
     read-rows (IsTaken rest) (offset_ranges numbers) _ (λ ranges count within.
     let dropped = dropped-front sign count rest (omega (arith, within)) in
     is count within
-    ∙ ap (signed_front west sign) dropped
+    ∙ ap (from_byte sign) (ap (signed_front west sign) dropped
     ∙ digits-taken west sign (count - sign) numbers _ refl (omega (arith, within))
-    ∙ refusal-all fault_alone (offset_digits numbers) _ digits
-    ∙ refusal-all fault_alone (offset_ranges numbers) _ ranges))
+    ∙ refusal-all placed (offset_digits numbers) _ digits
+    ∙ refusal-all placed (offset_ranges numbers) _ ranges)))
 
 -- what begins no offset begins none in a front of it
 no_minus-taken : (rest : List ℕ) (count : ℕ) → has_minus_sign rest ≡ false
@@ -143,9 +145,9 @@ none-taken rest count plus utc minus =
       no_minus-taken rest count minus,
     ) refl
 
-offset-taken : (rest : List ℕ) → OffsetTaken rest (offset_front rest)
+offset-taken : (rest : List ℕ) → IfOk (offset_front rest) (IsTaken rest)
 offset-taken rest =
-    offset-cases (OffsetTaken rest) rest
+    offset-cases (IsTaken rest) rest
     (λ some. signed-taken (slice_index rest 0 == hyphen) 1 rest (λ count within.
     rw (get_or-take count rest 0 0 (omega (arith, within)), some) refl))
     (λ none utc count within.
@@ -179,16 +181,17 @@ clock-read behavior text clock read =
     let IsMinute = λ (minute : Clock). Is (with_hour minute) in
     read-value Is (clock_front behavior text) clock read
     (read-rows Is (hour_table text) _ (λ hour.
-    read-rows Is (minute_digits rest) _ (λ digits.
+    read-rows Is (moved 3 (minute_digits rest)) _ (λ digits.
     read-rows Is (hour_range text) _ (λ range.
-    read-map Is with_hour _
+    read-map Is with_hour (from_byte 3 (clock_answer behavior rest))
+    (read-from IsMinute 3 (clock_answer behavior rest)
     (read-rows IsMinute (minute_table behavior rest) _ (λ minute. record {
       hour = hour;
       digits = digits;
       range = range;
       minute = minute;
       is = refl;
-    }))))))
+    })))))))
 
 -- how many bytes it takes
 pub clock-size : (behavior : Behavior) (text : List ℕ) (clock : Clock)
@@ -209,7 +212,7 @@ time_front-taken : (behavior : Behavior) (text : List ℕ)
     → time_front behavior (take count text) ≡ Ok front)
 time_front-taken behavior text =
     read-then _ _ (clock_front behavior text) (λ clock read.
-    read-then _ _ (offset_front (drop clock.size text)) (λ offset after count within inside.
+    read-part _ _ _ (offset_front (drop clock.size text)) (λ offset after count within inside.
     let less = count - clock.size in
     let rest : List ℕ = drop clock.size text in
     let same = clock-size behavior text clock read in
@@ -222,9 +225,9 @@ time_front-taken behavior text =
 
 -- what is read of the bytes that it takes takes them all
 taken-alone : {A : Type 0} (fault : A → ParseError) (text : List ℕ)
-    (answer : Result (A × ℕ) ParseError) (front : A × ℕ)
+    (answer : Result (A × ℕ) Refused) (front : A × ℕ)
     → front.1 ≤ length text → answer ≡ Ok front
-    → result_and_then (with_no_more fault (take front.1 text)) answer ≡ Ok front.0
+    → result_and_then (alone_or fault (take front.1 text)) answer ≡ Ok front.0
 taken-alone fault text answer front inside read = search rules
 
 pub time_front-alone : (behavior : Behavior) (text : List ℕ) (front : TimeOfDay × ℕ)
@@ -244,7 +247,7 @@ date-taken text count ten inside = grind (arith, common_steps)
 -- so a date that was read ends within its text, and is that of its bytes alone
 pub date_front-within : (text : List ℕ) → IfOk (date_front text) (λ front. front.1 ≤ length text)
 date_front-within text =
-    let answer : Result (Ymd × ℕ) ParseError = Ok (date_numbers text, 10) in
+    let answer : Result (Ymd × ℕ) Refused = Ok (date_numbers text, 10) in
     let Within = λ (front : Ymd × ℕ). front.1 ≤ length text in
     read-rows Within (date_table text) answer (λ rows. leb-true 10 (length text) rows.0)
 
@@ -257,7 +260,7 @@ date_front-alone text =
     let Alone = λ (read : Ymd × ℕ). date_answer (take read.1 text) ≡ Ok read.0 in
     read-rows Alone (date_table text) (Ok front) (λ rows.
     let inside : 10 ≤ length text = leb-true 10 (length text) rows.0 in
-    let met = refusal-all fault_alone (date_table text) (Ok front) rows in
+    let met = refusal-all placed (date_table text) (Ok front) rows in
     taken-alone fault text answer front inside (date-taken text 10 (omega arith) inside ∙ met))
 
 -- a date, a separator and a time are a date-time
@@ -278,13 +281,14 @@ date_time_front-taken behavior text =
     let table = separator_table text in
     let answer = time_front behavior rest in
     read-then _ _ (date_front text) (λ date dated.
-    read-then _ _ (first_fault_or table answer) (λ time read count within inside.
-    let after = refusal-ok fault_alone table answer time read in
+    read-then _ _ (first_refused_or table (from_byte 11 answer)) (λ time read count within inside.
+    let after = refusal-ok placed table (from_byte 11 answer) time read in
+    let was = seen-read (shifted 11 placed) answer time after.1 in
     let less = count - 11 in
     let date_is = date-taken text count (omega (arith, within)) inside ∙ dated in
     let byte = get_or-take count text 10 0 (omega (arith, within)) in
     let cut_rest = dropped-front 11 count text (omega (arith, within)) in
-    let taken = read-value _ answer time after.1 (time_front-taken behavior rest) in
+    let taken = read-value _ answer time was (time_front-taken behavior rest) in
     let few : less ≤ length rest = omega (arith, inside, length-drop 11 text) in
     let time_is = taken less (omega (arith, within)) few in
     let timed = ap (time_front behavior) cut_rest ∙ time_is in
@@ -302,10 +306,11 @@ date_time_front-alone behavior text front read inside =
 -- so it is of what a call returns
 pub date_time_read-alone : (behavior : Behavior) (text : List ℕ)
     (result : Result (DateTime × ℕ) ParseError)
-    → result_map (with_size date_and_time) result ≡ date_time_front behavior text
+    → result_map (with_size date_and_time) result ≡ without_place (date_time_front behavior text)
     → IfOk result (λ front. front.1 ≤ length text)
     → IfOk result
     (λ front. date_time_answer behavior (take front.1 text) ≡ Ok (date_and_time front.0))
 date_time_read-alone behavior text (Ok front) is within =
-    date_time_front-alone behavior text (date_and_time front.0, front.1) (sym is) within
+    date_time_front-alone behavior text (date_and_time front.0, front.1)
+    (seen-read fault_alone (date_time_front behavior text) _ (sym is)) within
 date_time_read-alone behavior text (Err fault) is within = tt

@@ -1,6 +1,6 @@
 -- Laws of the order by instants: it is total, among values with offsets and among those without,
 -- but across both it is not transitive; and without offsets it is the order of the texts.
-use Rattle.std.proofs.Common.{◌≡◌, ℕ, ◌<◌, Bool, true, false, ◌&&◌, List, ◌∷◌, ◌++◌, ◌==◌, ℤ, neg_ℤ, pos, ◌-ℤ◌, Option, Some, None, refl, is_some, nat_cmp, int_cmp, Ordering, rules, arith, ◌∙◌, ap, sym}
+use Rattle.std.proofs.Common.{◌≡◌, ℕ, ◌<◌, Bool, true, false, ◌&&◌, List, ◌∷◌, ◌++◌, ◌==◌, ℤ, neg_ℤ, pos, Option, Some, None, refl, is_some, nat_cmp, Ordering, rules, arith, ◌∙◌, ap, sym}
 use Rattle.std.specs.Cmp.{IsTotalOrder, on_total}
 use Rattle.std.specs.Cmp.Lexicographic.{slice_cmp}
 use Rattle.std.specs.Ordering.{ordering_then, ordering_reverse, on}
@@ -85,13 +85,6 @@ date_time_instant_order-clocks first second =
     by true same = date_time_instant-shifted first second (same refl)
     by false same = refl
 
--- and the instants in UTC that of others
-pub date_time_instant_order-instants : (first second : DateAndTime)
-    → (is_some first.time.offset && is_some second.time.offset) ≡ true
-    → date_time_instant_order first second ≡ on (date_time_instant true) instant_order first second
-date_time_instant_order-instants first second both =
-    ap (λ (is_utc : Bool). on (date_time_instant is_utc) instant_order first second) both
-
 -- two printed fractions are ordered as the microseconds
 fractions-order : (first second : ℕ) (one two : Bool) → (first == 0) ≡ one → (second == 0) ≡ two
     → slice_cmp nat_cmp (fraction_text first) (fraction_text second) ≡ nat_cmp first second
@@ -121,18 +114,6 @@ date_time_text-order first second one two none nothing =
     ∙ date_time_instant-order first second one two
     ∙ ap (ordering_then (date_order first.date second.date)) (sym shown ∙ times)
     ∙ sym (date_text-front-order first.date second.date text other)
-
--- at one offset the order by instant is that of what clocks show
-moved-order : (first second offset : ℤ)
-    → int_cmp (first -ℤ offset) (second -ℤ offset) ≡ int_cmp first second
-moved-order first second offset = grind (arith, ints)
-
-same_offset-order : (first second : DateAndTime) (offset : Option ℤ) → first.time.offset ≡ offset
-    → second.time.offset ≡ offset
-    → date_time_instant_order first second ≡ on (date_time_instant false) instant_order first second
-same_offset-order first second None one two = rw one refl
-same_offset-order first second (Some offset) one two =
-    rw (one, two, moved-order) refl
 
 cut_second : (value : DateAndTime) → IsDateAndTime value
     → IsDateAndTime (cut_date_time FractionDigits.Zero value)
@@ -166,7 +147,7 @@ seconds-order : (first second : DateAndTime) → IsDateAndTime first → IsDateA
 seconds-order first second valid other same =
     let one = cut_date_time FractionDigits.Zero first in
     let two = cut_date_time FractionDigits.Zero second in
-    same_offset-order one two second.time.offset same refl
+    date_time_instant_order-clocks one two (λ both. same)
     ∙ date_time_instant-order one two (cut_second first valid) (cut_second second other)
     ∙ ap (ordering_then (date_order first.date second.date))
     (time_instant-order one.time two.time

@@ -8,7 +8,6 @@ pub mod DateTimeLemmas
 pub mod DateTimeTimestampLemmas
 pub mod DateTimestampLemmas
 pub mod DayNumberLemmas
-pub mod ErrorPlaceLemmas
 mod FrontLemmas
 mod FullClockLemmas
 pub mod InstantOrderLemmas

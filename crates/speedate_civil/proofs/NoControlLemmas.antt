@@ -1,6 +1,6 @@
 -- No control character stands in a value at the front of a text.
 use Rattle.std.proofs.Common.{◌≡◌, ℕ, suc, ◌+◌, ◌-◌, ◌≤◌, Bool, true, false, ◌==◌, List, drop, slice_index, Option, ℤ, IfOk, Result, Ok, refl, arith, ap, subst, ◌∙◌, inl, inr}
-use Rattle.speedate_civil.specs.Base.{Behavior, ParseError}
+use Rattle.speedate_civil.specs.Base.{Behavior}
 use Rattle.std.proofs.lemmas.Bool.{and_parts, cases_lt}
 use Rattle.std.proofs.lemmas.Bool.Decides.{nat_tests}
 use Rattle.std.proofs.lemmas.List.{get_or-drop}
@@ -8,7 +8,7 @@ use Rattle.std.proofs.lemmas.List.Sums.{prefix_len_passes}
 use Rattle.std.specs.Char.{is_ascii_digit}
 use Rattle.speedate_base.specs.Ascii.{HasNoControl, colon, hyphen, space}
 use Rattle.speedate_base.specs.Digits.{run_length, four_digits_at, two_digits_at, is_decimal_mark}
-use Rattle.speedate_base.specs.Requirement.{fault_alone, AllHold, ◌implies◌, first_fault_or}
+use Rattle.speedate_base.specs.Requirement.{AllHold, ◌implies◌}
 use Rattle.speedate_civil.specs.Calendar.{Ymd}
 use Rattle.speedate_civil.specs.Date.{date_front, date_numbers, date_table}
 use Rattle.speedate_civil.specs.DateTime.{date_time_front, is_separator, separator_table}
@@ -18,8 +18,13 @@ use Rattle.speedate_civil.specs.Time.{offset_digits, offset_digits_size, offset_
 use Rattle.speedate_civil.specs.Time.{offset_ranges, signed_front, time_front}
 use Rattle.speedate_civil.proofs.FrontLemmas.{clock-read, clock-size, minute_size}
 use Rattle.speedate_civil.proofs.OffsetLemmas.{offset-cases}
-use Rattle.speedate_base.proofs.RefusalLemmas.{refusal-ok}
+use Rattle.speedate_base.proofs.RefusalLemmas.{refusal-ok, seen-read}
+use Rattle.speedate_base.specs.declared.refusal.Refused.{Refused}
+use Rattle.speedate_base.specs.Refused.{placed}
 use Rattle.speedate_civil.proofs.ReadLemmas.{read-rows, read-then, read-value}
+use Rattle.speedate_base.specs.Refused.{first_refused_or, from_byte}
+use Rattle.speedate_base.specs.Requirement.{shifted}
+use Rattle.speedate_civil.proofs.ReadLemmas.{read-part}
 
 -- bytes one after the other
 none : (text : List ℕ) → HasNoControl 0 text
@@ -165,7 +170,7 @@ offset : (rest : List ℕ) → IfOk (offset_front rest) (λ front. HasNoControl 
 offset rest =
     let IsPrinted = λ (front : Option ℤ × ℕ). HasNoControl front.1 rest in
     let first = more 0 rest (none rest) in
-    offset-cases (λ answer. IfOk answer IsPrinted) rest
+    offset-cases IsPrinted rest
     (λ some. signed (slice_index rest 0 == hyphen) 1 rest (first (sign_byte _ some)))
     (λ other utc. first (utc_byte _ utc))
     (λ other unread there. signed true 3 rest (minus_sign rest there))
@@ -178,7 +183,7 @@ time_front-no_control behavior text =
     read-then _ _ (clock_front behavior text) (λ clock read.
     let rest : List ℕ = drop clock.size text in
     let before = clock-no_control behavior text clock read in
-    read-then _ _ (offset_front rest) (λ front after.
+    read-part _ _ _ (offset_front rest) (λ front after.
     let printed = read-value _ (offset_front rest) front after (offset rest) in
     joined clock.size front.1 text before printed))
 
@@ -192,11 +197,12 @@ date_time_front-no_control behavior text =
     let rest : List ℕ = drop 11 text in
     let answer = time_front behavior rest in
     let table = separator_table text in
-    let value : Result (Ymd × ℕ) ParseError = Ok (date_numbers text, 10) in
+    let value : Result (Ymd × ℕ) Refused = Ok (date_numbers text, 10) in
     read-then _ _ (date_front text) (λ date dated.
-    let rows = (refusal-ok fault_alone (date_table text) value date dated).0 in
-    read-then _ _ (first_fault_or table answer) (λ time read.
-    let after = refusal-ok fault_alone table answer time read in
+    let rows = (refusal-ok placed (date_table text) value date dated).0 in
+    read-then _ _ (first_refused_or table (from_byte 11 answer)) (λ time read.
+    let after = refusal-ok placed table (from_byte 11 answer) time read in
     let before = more 10 text (date_rows text rows) (separator _ after.0.0) in
-    let printed = read-value _ answer time after.1 (time_front-no_control behavior rest) in
+    let is = seen-read (shifted 11 placed) answer time after.1 in
+    let printed = read-value _ answer time is (time_front-no_control behavior rest) in
     joined 11 time.1 text before printed))

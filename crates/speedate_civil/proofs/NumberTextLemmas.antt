@@ -1,7 +1,6 @@
 -- No text that begins as a date is a number.
 use Rattle.std.proofs.Common.{◌≡◌, ◌≢◌, ℕ, ◌<◌, Bool, true, false, ◌==◌, List, length, slice_index, nat_le, if◌then◌else◌, Option, None, ℤ, Result, Ok, Err, refl, rules, arith, ap, eqb-true, leb-true}
 use Rattle.speedate_civil.specs.Base.{ParseError}
-use Rattle.std.proofs.lemmas.Bool.Decides.{nat_tests}
 use Rattle.std.specs.Char.{is_ascii_digit}
 use Rattle.speedate_base.specs.Ascii.{hyphen, full_stop}
 use Rattle.speedate_base.specs.Digits.{four_digits_at}
@@ -10,11 +9,12 @@ use Rattle.speedate_base.specs.Numbers.{decimal_answer}
 use Rattle.speedate_civil.specs.Calendar.{Ymd}
 use Rattle.speedate_civil.specs.Date.{date_front, date_answer}
 use Rattle.speedate_civil.specs.ParserParts.{may_be_number}
+use Rattle.speedate_base.specs.declared.refusal.Refused.{Refused}
+use Rattle.speedate_base.specs.Refused.{placed, without_place}
 use Rattle.speedate_base.proofs.NumberLemmas.{number_answer-other}
 
 -- a text that meets the first three rows of a table meets the first and the third
-rows-met : {A : Type 0} (a b c : Bool) (first second third : ParseError)
-    (next answer : Result A ParseError)
+rows-met : {A E : Type 0} (a b c : Bool) (first second third : E) (next answer : Result A E)
     → (if a then (if b then (if c then next else Err third) else Err second) else Err first)
     ≡ answer
     → answer ≢ Err first → answer ≢ Err second → answer ≢ Err third → (a ≡ true) × (c ≡ true)
@@ -35,7 +35,8 @@ pub number_answer-date : (text : List ℕ) (date : Ymd × ℕ) → date_front te
 number_answer-date text date read =
     let rows = rows-met (nat_le 10 (length text)) (four_digits_at text 0)
     (slice_index text 4 == hyphen)
-    ParseError.TooShort ParseError.InvalidCharYear ParseError.InvalidCharDateSep _ (Ok date) read
+    (placed ParseError.TooShort (length text)) (placed ParseError.InvalidCharYear 0)
+    (placed ParseError.InvalidCharDateSep 4) _ (Ok date) read
     (λ other. cc) (λ other. cc) (λ other. cc) in
     hyphen-no_number text rows.0 rows.1
 
@@ -46,20 +47,23 @@ other-fault refused fault answer behind number same = search rules
 
 -- and one that is refused by a fault after the first hyphen, in an answer that keeps the faults of
 -- a date at its front
-pub number_answer-refused : {A : Type 0} (text : List ℕ) (answer : Result A ParseError)
+pub number_answer-refused : {A : Type 0} (text : List ℕ) (answer : Result A Refused)
     (fault : ParseError)
-    → ((other : ParseError) → date_front text ≡ Err other → answer ≡ Err other)
-    → answer ≡ Err fault → may_be_number fault ≡ false
+    → ((other : Refused) → date_front text ≡ Err other → answer ≡ Err other)
+    → without_place answer ≡ Err fault → may_be_number fault ≡ false
     → number_answer text ≡ NoNumber
 number_answer-refused text answer refused keeps read behind =
+    let alone = without_place answer in
     let rows = rows-met (nat_le 10 (length text)) (four_digits_at text 0)
     (slice_index text 4 == hyphen)
-    ParseError.TooShort ParseError.InvalidCharYear ParseError.InvalidCharDateSep _
-    (date_front text) refl
-    (λ same. other-fault refused ParseError.TooShort answer behind refl read (keeps _ same))
-    (λ same. other-fault refused ParseError.InvalidCharYear answer behind refl read (keeps _ same))
-    (λ same. other-fault refused ParseError.InvalidCharDateSep answer behind refl read
-    (keeps _ same)) in
+    (placed ParseError.TooShort (length text)) (placed ParseError.InvalidCharYear 0)
+    (placed ParseError.InvalidCharDateSep 4) _ (date_front text) refl
+    (λ same. other-fault refused ParseError.TooShort alone behind refl read
+    (ap without_place (keeps _ same)))
+    (λ same. other-fault refused ParseError.InvalidCharYear alone behind refl read
+    (ap without_place (keeps _ same)))
+    (λ same. other-fault refused ParseError.InvalidCharDateSep alone behind refl read
+    (ap without_place (keeps _ same))) in
     hyphen-no_number text rows.0 rows.1
 
 -- a text that is no number is no whole number
@@ -69,16 +73,9 @@ no-whole whole decimal none = search rules
 pub whole_number-none : (text : List ℕ) → number_answer text ≡ NoNumber → whole_number text ≡ None
 whole_number-none text none = no-whole (whole_number text) (decimal_answer text) none
 
-pub whole_number-refused : (text : List ℕ) (fault : ParseError) → date_answer text ≡ Err fault
+pub whole_number-refused : (text : List ℕ) (fault : ParseError)
+    → without_place (date_answer text) ≡ Err fault
     → may_be_number fault ≡ false → whole_number text ≡ None
 whole_number-refused text refused read behind =
-    grind (
-      arith,
-      nat_tests,
-      number_answer-refused,
-      whole_number-none,
-      rows-met,
-      hyphen-no_number,
-      other-fault,
-      no-whole,
-    )
+    whole_number-none text (number_answer-refused text (date_answer text) refused
+    (λ other is. rw is refl) read behind)

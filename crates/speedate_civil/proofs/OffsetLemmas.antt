@@ -1,9 +1,8 @@
 -- Offsets at the front of a text, by what they begin with; and a printed offset of whole minutes is
 -- read as itself.
-use Rattle.std.proofs.Common.{◌≡◌, ◌≢◌, ◌∙◌, ap, sym, add-zero, get_or-drop, ℕ, zero, suc, ◌%◌, ◌<◌, Bool, true, false, not, ◌||◌, List, ◌∷◌, ◌++◌, length, drop, ◌==◌, slice_index, Option, Some, None, ℤ, pos, negsuc, Result, Ok, refl, is_some, rules, arith, le-ltb, ne_eqb}
+use Rattle.std.proofs.Common.{IfOk, ◌≡◌, ◌≢◌, ◌∙◌, ap, sym, add-zero, get_or-drop, ℕ, zero, suc, ◌%◌, ◌<◌, Bool, true, false, not, ◌||◌, List, ◌∷◌, ◌++◌, length, drop, ◌==◌, slice_index, Option, Some, None, ℤ, pos, negsuc, Ok, refl, is_some, rules, arith, le-ltb, ne_eqb}
 use Rattle.std.proofs.lemmas.Bool.Decides.{nat_tests}
 use Rattle.std.specs.Option.{ForSome}
-use Rattle.speedate_civil.specs.Base.{ParseError}
 use Rattle.speedate_base.specs.Ascii.{plus_sign, hyphen, capital_z}
 use Rattle.speedate_base.specs.Numbers.{with_sign}
 use Rattle.speedate_base.specs.Offset.{IsOffset, IsWholeMinutes}
@@ -11,20 +10,27 @@ use Rattle.speedate_base.specs.Timestamp.{seconds_per_day}
 use Rattle.speedate_civil.specs.ParserParts.{IsOffsetOrUtc}
 use Rattle.speedate_civil.specs.Time.{begins_offset, has_minus_sign, is_plus_or_minus, is_utc}
 use Rattle.speedate_civil.specs.Time.{offset_front, offset_text, offset_size_text, signed_front}
+use Rattle.speedate_base.specs.Refused.{from_byte}
+use Rattle.speedate_civil.proofs.ReadLemmas.{if_cases, read-from}
 
 -- what holds of the offset of a text by what it begins with, `+` or `-`, `Z` or `z`, U+2212 or none
 -- of them, holds of it
-pub offset-cases : (P : Result (Option ℤ × ℕ) ParseError → Type 0) (rest : List ℕ)
+pub offset-cases : (P : Option ℤ × ℕ → Type 0) (rest : List ℕ)
     → (is_plus_or_minus (slice_index rest 0) ≡ true
-    → P (signed_front (slice_index rest 0 == hyphen) 1 (drop 1 rest)))
+    → IfOk (signed_front (slice_index rest 0 == hyphen) 1 (drop 1 rest)) P)
     → (is_plus_or_minus (slice_index rest 0) ≡ false → is_utc (slice_index rest 0) ≡ true
-    → P (Ok (Some (pos 0), 1)))
+    → P (Some (pos 0), 1))
     → (is_plus_or_minus (slice_index rest 0) ≡ false → is_utc (slice_index rest 0) ≡ false
-    → has_minus_sign rest ≡ true → P (signed_front true 3 (drop 3 rest)))
+    → has_minus_sign rest ≡ true → IfOk (signed_front true 3 (drop 3 rest)) P)
     → (is_plus_or_minus (slice_index rest 0) ≡ false → is_utc (slice_index rest 0) ≡ false
-    → has_minus_sign rest ≡ false → P (Ok (None, 0)))
-    → P (offset_front rest)
-offset-cases P rest signed utc minus none = search rules
+    → has_minus_sign rest ≡ false → P (None, 0))
+    → IfOk (offset_front rest) P
+offset-cases P rest signed utc minus none =
+    if_cases (λ answer. IfOk answer P) (is_plus_or_minus (slice_index rest 0)) _ _
+    (λ some. read-from P 1 _ (signed some)) (λ other.
+    if_cases (λ answer. IfOk answer P) (is_utc (slice_index rest 0)) _ _ (utc other) (λ unread.
+    if_cases (λ answer. IfOk answer P) (has_minus_sign rest) _ _
+    (λ there. read-from P 3 _ (minus other unread there)) (none other unread)))
 
 -- an offset other than 0 is printed with a sign
 offset_text-west : (size : ℕ)
@@ -61,11 +67,11 @@ pub offset_text-front : (offset : Option ℤ) (rest : List ℕ) → ForSome offs
 offset_text-front None rest valid whole ends = no_offset rest ends
 offset_text-front (Some (pos zero)) rest valid whole ends = refl
 offset_text-front (Some (pos (suc size))) rest valid whole ends =
-    rw (offset_text-east size) (signed-printed false (suc size) rest (valid (pos (suc size)) refl)
-    (whole (pos (suc size)) refl))
+    rw (offset_text-east size) (ap (from_byte 1) (signed-printed false (suc size) rest
+    (valid (pos (suc size)) refl) (whole (pos (suc size)) refl)))
 offset_text-front (Some (negsuc size)) rest valid whole ends =
-    rw (offset_text-west size) (signed-printed true (suc size) rest (valid (negsuc size) refl)
-    (whole (negsuc size) refl))
+    rw (offset_text-west size) (ap (from_byte 1) (signed-printed true (suc size) rest
+    (valid (negsuc size) refl) (whole (negsuc size) refl)))
 
 -- the byte at a place is the first of what begins there
 pub first-of : (bytes : List ℕ) (place byte : ℕ) → byte ≡ slice_index bytes place

@@ -19,8 +19,8 @@ use Rattle.speedate_base.specs.Digits.{run_length, two_digits_at, two_digit_text
 use Rattle.speedate_base.specs.Digits.{four_digit_value, is_decimal_mark}
 use Rattle.speedate_base.specs.Numbers.{with_sign}
 use Rattle.speedate_base.specs.Config.{refuses_digits}
-use Rattle.speedate_base.specs.Requirement.{fault_alone, Requirement, ◌implies◌, AllHold}
-use Rattle.speedate_base.specs.Requirement.{with_no_more, first_fault_or, result_map}
+use Rattle.speedate_base.specs.Requirement.{TextRow, ◌implies◌, AllHold}
+use Rattle.speedate_base.specs.Requirement.{result_map}
 use Rattle.speedate_base.specs.Requirement.{result_and_then}
 use Rattle.speedate_civil.specs.Calendar.{Ymd, IsDate}
 use Rattle.speedate_civil.specs.Time.{Clock, clock_front, has_decimal_mark, has_second, minute_text}
@@ -43,9 +43,15 @@ use Rattle.speedate_civil.proofs.FrontLemmas.{ClockRead, bytes_from, clock-read,
 use Rattle.speedate_civil.proofs.FrontLemmas.{date_time_front-is, minute_size, time_front-is}
 use Rattle.speedate_civil.proofs.OffsetLemmas.{offset-cases}
 use Rattle.speedate_civil.proofs.ReadLemmas.{read-rows, read-then, read-value}
-use Rattle.speedate_base.proofs.RefusalLemmas.{refusal-all, refusal-ok, refusal-value}
+use Rattle.speedate_base.proofs.RefusalLemmas.{refusal-all, refusal-ok, refusal-value, seen-read}
+use Rattle.speedate_base.specs.declared.refusal.Refused.{Refused}
+use Rattle.speedate_base.specs.Refused.{placed, without_place}
 use Rattle.speedate_base.proofs.RefusalLemmas.{refusal-whole}
 use Rattle.speedate_civil.proofs.TimeLemmas.{front-printed}
+use Rattle.speedate_base.proofs.RefusalLemmas.{seen_then}
+use Rattle.speedate_base.specs.Refused.{alone_or, first_refused_or, from_byte}
+use Rattle.speedate_base.specs.Requirement.{shifted}
+use Rattle.speedate_civil.proofs.ReadLemmas.{read-part}
 
 -- bytes of a text, from a place on, one by one
 bytes-are : (count place : ℕ) (text : List ℕ) → place + count ≤ length text
@@ -167,7 +173,7 @@ offset-all (byte ∷ numbers) rows =
     let text : List ℕ = byte ∷ numbers in
     let Whole = λ (front : Option ℤ × ℕ). front.1 ≡ length text → IsTimeOffset text in
     let IsOne = λ (left : List ℕ). IsTimeOffset (byte ∷ left) in
-    offset-cases (λ answer. IfOk answer Whole) text
+    offset-cases Whole text
     (λ some. numoffset byte numbers some (search rules))
     (λ none utc one.
     let ended : numbers ≡ [] = nil_from_length numbers (omega (arith, one)) in
@@ -203,7 +209,7 @@ full-time-of behavior text rows =
     let plain = not-true (slice_index text 8 == comma) rows.1.0 in
     read-then _ _ (clock_front behavior text) (λ clock read.
     let rest : List ℕ = drop clock.size text in
-    read-then _ _ (offset_front rest) (λ offset after whole.
+    read-part _ _ _ (offset_front rest) (λ offset after whole.
     let inside : clock.size ≤ length text = omega (arith, whole) in
     let parts = partial-time-of behavior text clock read inside rows.0 plain in
     let meets = subst Meets (sym parts.1) rows.1.1 in
@@ -268,8 +274,8 @@ taken-of behavior text offset clock after read rest long second plain place =
     let offset_is = ap offset_front rest ∙ after.read in
     let front = time_front-is behavior text clock after.front read offset_is in
     let all : length text ≡ size = omega (arith, long, after.whole) in
-    let whole = refusal-whole fault_alone fault text time size all in
-    let is = ap (result_and_then (with_no_more fault text)) front ∙ whole in
+    let whole = refusal-whole placed fault text time size all in
+    let is = ap (result_and_then (alone_or fault text)) front ∙ whole in
     let rows : AllHold (strict_offset (drop (offset_place text) text)) = search rules in
     (time, (is, (second, (search rules, rows))))
 
@@ -362,8 +368,9 @@ date-time-of behavior text rows =
     let table = separator_table text in
     let answer = time_front behavior rest in
     read-then _ _ (date_front text) (λ date dated.
-    read-then _ _ (first_fault_or table answer) (λ time timed whole.
-    let read = (refusal-ok fault_alone table answer time timed).1 in
+    read-then _ _ (first_refused_or table (from_byte 11 answer)) (λ time timed whole.
+    let after = (refusal-ok placed table (from_byte 11 answer) time timed).1 in
+    let read = seen-read (shifted 11 placed) answer time after in
     let all : time.1 ≡ length rest = omega (arith, whole, length-drop 11 text) in
     let separated = drop_more text 10 0 (omega (arith, whole)) in
     record {
@@ -387,12 +394,12 @@ date-time-parts behavior date separator time valid parted value read =
     let whole : DateAndTime = record { date = date; time = value } in
     let fault = λ (found : DateAndTime). end_fault found.time.offset in
     let time_fault = λ (found : TimeOfDay). end_fault found.offset in
-    let timed = (with_no_more-iff time_fault time (time_front behavior time) value).0 read in
+    let timed = (with_no_more-iff placed time_fault time (time_front behavior time) value).0 read in
     let dated = date_text-front date (separator ∷ time) valid in
     let rows : AllHold (separator_table text) = (search rules, tt) in
     let is = date_time_front-is behavior text (date, 10) (value, length time) dated rows timed in
-    ap (result_and_then (with_no_more fault text)) is
-    ∙ refusal-whole fault_alone fault text whole (11 + length time) (omega arith)
+    ap (result_and_then (alone_or fault text)) is
+    ∙ refusal-whole placed fault text whole (11 + length time) (omega arith)
 
 -- a text that the strict reader takes as a date-time
 abbrev DateTimeTaken : Behavior → List ℕ → Type 0
@@ -419,13 +426,14 @@ date-time-taken behavior text is =
     (value, (answer taken.0 taken.1.0, (search rules, taken.1.1)))
 
 -- a result whose value meets further rows is a value if and only if a text is one of the rules
-strict : {Place A B : Type 0} (view : A → B) (result : Result A ParseError)
-    (rows : List (Requirement Place)) (answer : Result B ParseError) (IsOne : Type 0)
-    → result_map view result ≡ result_and_then (λ (read : B). first_fault_or rows (Ok read)) answer
+strict : {A B : Type 0} (view : A → B) (result : Result A ParseError) (rows : List TextRow)
+    (answer : Result B Refused) (IsOne : Type 0)
+    → result_map view result
+    ≡ without_place (result_and_then (λ (read : B). first_refused_or rows (Ok read)) answer)
     → ((value : B) → answer ≡ Ok value → AllHold rows → IsOne)
     → (IsOne → (value : B) × ((answer ≡ Ok value) × AllHold rows)) → IsOk result ↔ IsOne
 strict view result rows answer IsOne is to from =
-    grind (arith, refusal-all, refusal-value)
+    grind (arith, refusal-all, refusal-value, seen_then, seen-read)
 
 -- what is read and meets the rows of the rules is one of them
 is-full-time : (behavior : Behavior) (text : List ℕ) (time : TimeOfDay)
@@ -433,7 +441,7 @@ is-full-time : (behavior : Behavior) (text : List ℕ) (time : TimeOfDay)
     → IsFullTime behavior text
 is-full-time behavior text time read rows =
     let fault = λ (value : TimeOfDay). end_fault value.offset in
-    let whole = (with_no_more-iff fault text (time_front behavior text) time).0 read in
+    let whole = (with_no_more-iff placed fault text (time_front behavior text) time).0 read in
     read-value _ _ (time, length text) whole (full-time-of behavior text rows) refl
 
 is-date-time : (behavior : Behavior) (text : List ℕ) (value : DateAndTime)
@@ -441,12 +449,12 @@ is-date-time : (behavior : Behavior) (text : List ℕ) (value : DateAndTime)
     → IsDateTime behavior text
 is-date-time behavior text value read rows =
     let fault = λ (found : DateAndTime). end_fault found.time.offset in
-    let whole = (with_no_more-iff fault text (date_time_front behavior text) value).0 read in
+    let whole = (with_no_more-iff placed fault text (date_time_front behavior text) value).0 read in
     read-value _ _ (value, length text) whole (date-time-of behavior text rows) refl
 
 -- so a text is taken if and only if it is one of the rules
 pub time-strict : (behavior : Behavior) (text : List ℕ) (result : Result Time ParseError)
-    → result_map time_of_day result ≡ strict_time_answer behavior text
+    → result_map time_of_day result ≡ without_place (strict_time_answer behavior text)
     → IsOk result ↔ IsFullTime behavior text
 time-strict behavior text result is =
     let answer = time_answer behavior text in
@@ -454,7 +462,7 @@ time-strict behavior text result is =
     (is-full-time behavior text) (full-time-taken behavior text)
 
 pub date-time-strict : (behavior : Behavior) (text : List ℕ) (result : Result DateTime ParseError)
-    → result_map date_and_time result ≡ strict_date_time_answer behavior text
+    → result_map date_and_time result ≡ without_place (strict_date_time_answer behavior text)
     → IsOk result ↔ IsDateTime behavior text
 date-time-strict behavior text result is =
     let answer = date_time_answer behavior text in

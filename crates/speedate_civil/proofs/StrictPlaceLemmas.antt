@@ -1,27 +1,29 @@
 -- Where a text is read as a time or as a date-time, the places of the rows of RFC 3339 lie within
 -- it.
-use Rattle.std.proofs.Common.{◌≡◌, ◌≤◌, ◌<◌, ◌+◌, ◌∙◌, ◌==◌, ◌||◌, not, ℕ, List, length, drop, slice_index, true, false, Option, ℤ, IfOk, IfSome, Result, Ok, Err, refl, leb-true, ltb-true, sym, subst, ap, rules, arith}
+use Rattle.std.proofs.Common.{◌≡◌, ◌≤◌, ◌<◌, ◌+◌, ◌==◌, ◌||◌, not, ℕ, List, length, drop, slice_index, true, false, Option, ℤ, IfOk, IfSome, Ok, refl, leb-true, ltb-true, subst, ap, rules, arith}
 use Rattle.std.proofs.lemmas.Bool.{cases_lt}
 use Rattle.std.proofs.lemmas.Bool.Decides.{nat_tests}
 use Rattle.std.proofs.lemmas.List.{drop-drop, get_or-drop, get_or_past, length-drop}
 use Rattle.speedate_base.specs.Ascii.{colon, comma}
-use Rattle.speedate_base.specs.Requirement.{fault_alone, first_fault_or, first_place, moved}
-use Rattle.speedate_base.specs.Requirement.{refusal_map}
+use Rattle.speedate_base.specs.Requirement.{first_place, moved}
 use Rattle.speedate_base.proofs.RequirementLemmas.{AreWithin, are_within-moved, first_place-within}
 use Rattle.speedate_base.proofs.RequirementLemmas.{with_no_more-iff}
-use Rattle.speedate_civil.specs.Base.{Behavior, ParseError}
+use Rattle.speedate_civil.specs.Base.{Behavior}
 use Rattle.speedate_civil.specs.Date.{date_front}
-use Rattle.speedate_civil.specs.DateTime.{DateAndTime, date_time_answer, date_time_answer_or}
+use Rattle.speedate_civil.specs.DateTime.{DateAndTime, date_time_answer}
 use Rattle.speedate_civil.specs.DateTime.{date_time_front, separator_table}
 use Rattle.speedate_civil.specs.Strict.{offset_place, strict_date_time, strict_time}
 use Rattle.speedate_civil.specs.Time.{Clock, TimeOfDay, clock_front, end_fault, has_minus_sign}
 use Rattle.speedate_civil.specs.Time.{is_utc, offset_digits, offset_front, offset_ranges}
-use Rattle.speedate_civil.specs.Time.{time_answer, time_answer_or, time_front}
-use Rattle.speedate_civil.proofs.ErrorPlaceLemmas.{date_time_answer-view, time_answer-view}
+use Rattle.speedate_civil.specs.Time.{time_answer, time_front}
 use Rattle.speedate_civil.proofs.FrontLemmas.{clock-read, clock-size}
 use Rattle.speedate_civil.proofs.OffsetLemmas.{offset-cases}
 use Rattle.speedate_base.proofs.RefusalLemmas.{refusal-ok}
 use Rattle.speedate_civil.proofs.ReadLemmas.{read-rows, read-then, read-value}
+use Rattle.speedate_base.proofs.RefusalLemmas.{seen-read}
+use Rattle.speedate_base.specs.Refused.{first_refused_or, from_byte, placed}
+use Rattle.speedate_base.specs.Requirement.{shifted}
+use Rattle.speedate_civil.proofs.ReadLemmas.{read-part}
 
 -- a comma stands within its text
 comma-there : (text : List ℕ) → not (slice_index text 8 == comma) ≡ false → 8 ≤ length text
@@ -51,7 +53,7 @@ WholeIsLong rest front = front.1 ≡ length rest → IsLong rest
 -- and so does each offset that is read
 offset-long : (rest : List ℕ) → IfOk (offset_front rest) (WholeIsLong rest)
 offset-long rest =
-    offset-cases (λ answer. IfOk answer (WholeIsLong rest)) rest
+    offset-cases (WholeIsLong rest) rest
     (λ some. read-rows _ (offset_digits (drop 1 rest)) _ (λ digits.
     read-rows _ (offset_ranges (drop 1 rest)) _ (λ ranges whole long plain fails. search rules)))
     (λ none utc whole long plain fails. absurd (cc))
@@ -73,7 +75,7 @@ rows-within : (behavior : Behavior) (text : List ℕ)
     (λ front. front.1 ≡ length text → AreWithin (length text) (strict_time text))
 rows-within behavior text =
     read-then _ _ (clock_front behavior text) (λ clock read.
-    read-then _ _ (offset_front (drop clock.size text)) (λ offset after whole.
+    read-part _ _ _ (offset_front (drop clock.size text)) (λ offset after whole.
     let hour = (clock-read behavior text clock read).hour in
     let left = length-drop clock.size text in
     let all : offset.1 ≡ length (drop clock.size text) = omega (arith, whole, left) in (
@@ -98,26 +100,12 @@ rows-within behavior text =
       ),
     )))
 
--- what is read with one refusal is read with any other
-read-alike : {A E D : Type 0} (answer : Result A E) (other : Result A D) (value : A)
-    → refusal_map (λ (refusal : E). tt {0}) answer
-    ≡ refusal_map (λ (refusal : D). tt {0}) other
-    → answer ≡ Ok value → other ≡ Ok value
-read-alike answer (Ok found) value same read = search rules
-read-alike answer (Err fault) value same read = search rules
-
-pub strict-within : {E : Type 0} (refuse : ParseError → ℕ → E) (behavior : Behavior)
-    (text : List ℕ) (time : TimeOfDay)
-    → time_answer_or refuse behavior text ≡ Ok time
+pub strict-within : (behavior : Behavior) (text : List ℕ) (time : TimeOfDay)
+    → time_answer behavior text ≡ Ok time
     → IfSome (first_place (strict_time text)) (λ place. place ≤ length text)
-strict-within {E = E} refuse behavior text time read =
-    let given = time_answer_or refuse behavior text in
-    let answer = time_answer behavior text in
-    let given_seen = time_answer-view (λ (refusal : E). tt {0}) refuse behavior text in
-    let seen = time_answer-view (λ (fault : ParseError). tt {0}) fault_alone behavior text in
-    let alone = read-alike given answer time (given_seen ∙ sym seen) read in
+strict-within behavior text time read =
     let fault = λ (value : TimeOfDay). end_fault value.offset in
-    let whole = (with_no_more-iff fault text (time_front behavior text) time).0 alone in
+    let whole = (with_no_more-iff placed fault text (time_front behavior text) time).0 read in
     let rows = read-value _ _ (time, length text) whole (rows-within behavior text) refl in
     first_place-within (length text) (strict_time text) rows
 
@@ -129,8 +117,9 @@ date_time-rows-within behavior text =
     let table = separator_table text in
     let answer = time_front behavior rest in
     read-then _ _ (date_front text) (λ date dated.
-    read-then _ _ (first_fault_or table answer) (λ time timed whole.
-    let read = (refusal-ok fault_alone table answer time timed).1 in
+    read-then _ _ (first_refused_or table (from_byte 11 answer)) (λ time timed whole.
+    let after = (refusal-ok placed table (from_byte 11 answer) time timed).1 in
+    let read = seen-read (shifted 11 placed) answer time after in
     let size : 11 + length rest ≡ length text = omega (arith, whole, length-drop 11 text) in
     let all : time.1 ≡ length rest = omega (arith, whole, size) in
     let rows = read-value _ _ time read (rows-within behavior rest) all in
@@ -138,18 +127,12 @@ date_time-rows-within behavior text =
     let Within = λ (size : ℕ). AreWithin size (moved 11 (strict_time rest)) in
     (λ fails. omega (arith, size), λ letter. subst Within size later)))
 
-pub strict_date_time-within : {E : Type 0} (refuse : ParseError → ℕ → E) (behavior : Behavior)
-    (text : List ℕ) (value : DateAndTime)
-    → date_time_answer_or refuse behavior text ≡ Ok value
+pub strict_date_time-within : (behavior : Behavior) (text : List ℕ) (value : DateAndTime)
+    → date_time_answer behavior text ≡ Ok value
     → IfSome (first_place (strict_date_time text)) (λ place. place ≤ length text)
-strict_date_time-within {E = E} refuse behavior text value read =
-    let given = date_time_answer_or refuse behavior text in
-    let answer = date_time_answer behavior text in
-    let given_seen = date_time_answer-view (λ (refusal : E). tt {0}) refuse behavior text in
-    let seen = date_time_answer-view (λ (fault : ParseError). tt {0}) fault_alone behavior text in
-    let alone = read-alike given answer value (given_seen ∙ sym seen) read in
+strict_date_time-within behavior text value read =
     let fault = λ (found : DateAndTime). end_fault found.time.offset in
-    let whole = (with_no_more-iff fault text (date_time_front behavior text) value).0 alone in
+    let whole = (with_no_more-iff placed fault text (date_time_front behavior text) value).0 read in
     let within = date_time-rows-within behavior text in
     let rows = read-value _ _ (value, length text) whole within refl in
     first_place-within (length text) (strict_date_time text) rows

@@ -8,30 +8,33 @@ use Rattle.std.specs.List.{list_all}
 use Rattle.speedate_base.specs.Digits.{two_digit_text, six_digit_text, fraction_value}
 use Rattle.speedate_base.specs.Digits.{is_decimal_mark}
 use Rattle.speedate_base.specs.Offset.{IsWholeMinutes}
-use Rattle.speedate_base.specs.Requirement.{fault_alone, shifted, with_no_more, result_and_then}
+use Rattle.speedate_base.specs.Requirement.{shifted, result_and_then}
 use Rattle.speedate_civil.specs.Time.{Clock, at_hour, clock_answer, clock_front, clock_with_offset}
-use Rattle.speedate_civil.specs.Time.{minute_text, end_fault, offset_front_or, offset_text}
-use Rattle.speedate_civil.specs.Time.{TimeOfDay, IsTime, time_after_clock_or, time_front}
+use Rattle.speedate_civil.specs.Time.{minute_text, end_fault, offset_front, offset_text}
+use Rattle.speedate_civil.specs.Time.{TimeOfDay, IsTime, time_after_clock, time_front}
 use Rattle.speedate_civil.specs.Time.{time_answer, clock_text, time_text, is_after_time}
 use Rattle.speedate_civil.specs.Time.{begins_offset, cut_time, FractionDigits, three_digit_text}
 use Rattle.speedate_civil.specs.Time.{time_text_with}
-use Rattle.speedate_base.proofs.RefusalLemmas.{refusal-whole, shifted-shifted}
+use Rattle.speedate_base.proofs.RefusalLemmas.{refusal-whole}
 use Rattle.speedate_civil.proofs.ClockLemmas.{clock-whole, clock-fraction, clock-secfrac}
 use Rattle.speedate_civil.proofs.OffsetLemmas.{offset_text-first, offset_text-front}
+use Rattle.speedate_base.proofs.RefusalLemmas.{seen-part, seen_then}
+use Rattle.speedate_base.specs.Refused.{alone_or, from_byte, placed, seen_as}
 
 -- what is read after a clock, which begins at a byte of the whole text, decides on the time
 pub after-read : {E : Type 0} (refuse : ParseError → ℕ → E) (start : ℕ) (clock : Clock)
     (text : List ℕ) (offset : Result (Option ℤ × ℕ) E)
-    → offset ≡ offset_front_or (shifted (start + clock.size) refuse) (drop clock.size text)
+    → offset ≡ seen_as (shifted (start + clock.size) refuse) (offset_front (drop clock.size text))
     → result_and_then (λ (after : Option ℤ × ℕ). Ok
     (clock_with_offset clock after.0, clock.size + after.1)) offset
-    ≡ time_after_clock_or (shifted start refuse) text clock
+    ≡ seen_as (shifted start refuse) (time_after_clock text clock)
 after-read refuse start clock text offset read =
+    let rest = offset_front (drop clock.size text) in
     ap (result_and_then (λ (after : Option ℤ × ℕ). Ok
     (clock_with_offset clock after.0, clock.size + after.1)))
-    (read
-    ∙ ap (λ (refuse : ParseError → ℕ → _). offset_front_or refuse (drop clock.size text))
-    (sym (shifted-shifted start clock.size refuse)))
+    (read ∙ sym (seen-part refuse start clock.size rest))
+    ∙ sym (seen_then (shifted start refuse) (λ (after : Option ℤ × ℕ). Ok
+    (clock_with_offset clock after.0, clock.size + after.1)) (from_byte clock.size rest))
 
 -- a printed hour, before a clock that is read
 pub front-printed : (behavior : Behavior) (hour minute second : ℕ) (tail : List ℕ) (clock : Clock)
@@ -140,8 +143,8 @@ time_text-reads behavior time valid whole =
     let fault = λ (read : TimeOfDay). end_fault read.offset in
     let front = sym (ap (time_front behavior) (append-nil text))
     ∙ time_text-front behavior time [] valid whole (nothing-after time) in
-    ap (result_and_then (with_no_more fault text)) front
-    ∙ refusal-whole fault_alone fault text time (length text) refl
+    ap (result_and_then (alone_or fault text)) front
+    ∙ refusal-whole placed fault text time (length text) refl
 
 -- the text of a time with a number of digits is read as the time, rounded down to these digits
 none-continues : (offset : Option ℤ) → (is_some offset || true) ≡ true
@@ -176,6 +179,6 @@ pub time_text_with-reads : (behavior : Behavior) (digits : FractionDigits) (time
 time_text_with-reads behavior digits time valid whole =
     let text = time_text_with digits time in
     let fault = λ (read : TimeOfDay). end_fault read.offset in
-    ap (result_and_then (with_no_more fault text))
+    ap (result_and_then (alone_or fault text))
     (time_text_with-front behavior digits time valid whole)
-    ∙ refusal-whole fault_alone fault text (cut_time digits time) (length text) refl
+    ∙ refusal-whole placed fault text (cut_time digits time) (length text) refl

@@ -8,8 +8,9 @@ use Rattle.speedate_base.specs.Digits.{two_digits_at, two_digit_value, two_digit
 use Rattle.speedate_base.specs.Numbers.{whole_number}
 use Rattle.speedate_base.specs.Timestamp.{seconds_per_day, Instant, instant_answer, range_answer}
 use Rattle.speedate_base.specs.Requirement.{NumberRow, TextRow, ◌else_fault◌, ◌at_byte◌}
-use Rattle.speedate_base.specs.Requirement.{fault_alone, first_fault_or, first_refusal_or}
-use Rattle.speedate_base.specs.Requirement.{with_no_more_or, ◌implies◌, or_number, refused_at}
+use Rattle.speedate_base.specs.declared.refusal.Refused.{Refused}
+use Rattle.speedate_base.specs.Refused.{alone_or, first_refused_or, placed}
+use Rattle.speedate_base.specs.Requirement.{first_fault_or, ◌implies◌, or_number, refused_at}
 use Rattle.speedate_base.specs.Requirement.{result_map, with_size, ◌>>=◌}
 pub use Rattle.speedate_civil.specs.declared.date.Date.{Date}
 use Rattle.speedate_civil.specs.Calendar.{Ymd, month_length, epoch_day, date_of_number}
@@ -71,24 +72,15 @@ date_table text = let date = date_numbers text in
     ∷ (day_row date at_byte 8)
     ∷ []
 
--- the date at the front of a text, and how many bytes it takes, or the text's refusal, made of its
--- fault and its place
-abbrev pub date_front_or : {E : Type 0} → (ParseError → ℕ → E) → List ℕ → Result (Ymd × ℕ) E
-date_front_or refuse text = first_refusal_or refuse (date_table text) (Ok (date_numbers text, 10))
+-- the date at the front of a text, and how many bytes it takes, or the text's fault and its place
+abbrev pub date_front : List ℕ → Result (Ymd × ℕ) Refused
+date_front text = first_refused_or (date_table text) (Ok (date_numbers text, 10))
 
--- the date that a text is, or the text's refusal
-abbrev pub date_answer_or : {E : Type 0} → (ParseError → ℕ → E) → List ℕ → Result Ymd E
-date_answer_or refuse text = do
-  date ← date_front_or refuse text
-  with_no_more_or refuse (λ read. ParseError.ExtraCharacters) text date
-
--- the date at the front of a text, and how many bytes it takes, or the text's fault
-abbrev pub date_front : List ℕ → Result (Ymd × ℕ) ParseError
-date_front text = date_front_or fault_alone text
-
--- the date that a text is, or the text's fault
-abbrev pub date_answer : List ℕ → Result Ymd ParseError
-date_answer text = date_answer_or fault_alone text
+-- the date that a text is, or the text's fault and its place
+abbrev pub date_answer : List ℕ → Result Ymd Refused
+date_answer text = do
+  date ← date_front text
+  alone_or (λ read. ParseError.ExtraCharacters) text date
 
 -- the one text by which a date is printed
 abbrev pub date_text : Ymd → List ℕ
@@ -126,17 +118,11 @@ date_timestamp_answer unit exact timestamp = do
   instant_date exact within
 
 -- the answer to a text that is a number, which is an exact timestamp as a whole
-abbrev pub date_number_answer_or : {E : Type 0} → (ParseError → ℕ → E) → TimestampUnit
-    → Option ℤ → Option (Result Ymd E)
-date_number_answer_or refuse unit number =
-    option_map (λ timestamp. refused_at refuse 0 (date_timestamp_answer unit true timestamp)) number
+abbrev pub date_number_answer : TimestampUnit → Option ℤ → Option (Result Ymd Refused)
+date_number_answer unit number =
+    option_map (λ timestamp. refused_at placed 0 (date_timestamp_answer unit true timestamp)) number
 
--- the date that a text is, as its text or as an exact timestamp, or the text's refusal
-abbrev pub date_or_timestamp_or : {E : Type 0} → (ParseError → ℕ → E) → TimestampUnit → List ℕ
-    → Result Ymd E
-date_or_timestamp_or refuse unit text =
-    or_number (date_number_answer_or refuse unit (whole_number text)) (date_answer_or refuse text)
-
--- the same, with the text's fault
-abbrev pub date_or_timestamp : TimestampUnit → List ℕ → Result Ymd ParseError
-date_or_timestamp unit text = date_or_timestamp_or fault_alone unit text
+-- the date that a text is, as its text or as an exact timestamp, or the text's fault and its place
+abbrev pub date_or_timestamp : TimestampUnit → List ℕ → Result Ymd Refused
+date_or_timestamp unit text =
+    or_number (date_number_answer unit (whole_number text)) (date_answer text)

@@ -11,16 +11,17 @@ use Rattle.speedate_base.specs.Timestamp.{UnitRow, decimal_row, decimal_instant,
 use Rattle.speedate_base.specs.Timestamp.{Instant, timestamp_microsecond, instant_answer}
 use Rattle.speedate_base.specs.Timestamp.{range_answer, range_table, last_second, later_answer}
 use Rattle.speedate_base.specs.Requirement.{TextRow, ◌else_fault◌, ◌at_byte◌, all_at_byte}
-use Rattle.speedate_base.specs.Requirement.{fault_alone, first_fault_or, first_refusal_or, shifted}
-use Rattle.speedate_base.specs.Requirement.{with_no_more_or, result_map, or_number, refused_at}
+use Rattle.speedate_base.specs.Requirement.{first_fault_or, result_map, or_number, refused_at}
 use Rattle.speedate_base.specs.Requirement.{with_size, ◌>>=◌}
+use Rattle.speedate_base.specs.declared.refusal.Refused.{Refused}
+use Rattle.speedate_base.specs.Refused.{alone_or, first_refused_or, from_byte, placed}
 pub use Rattle.speedate_civil.specs.declared.datetime.DateTime.{DateTime}
 use Rattle.speedate_civil.specs.declared.datetime.now.Moment.{Moment}
 use Rattle.speedate_civil.specs.Instant.{by_instant, move_table}
 use Rattle.speedate_civil.specs.Calendar.{Ymd, IsDate, midnight_second, date_of_number}
-use Rattle.speedate_civil.specs.Date.{ymd, date_front_or, date_text, day_at, second_at}
+use Rattle.speedate_civil.specs.Date.{ymd, date_front, date_text, day_at, second_at}
 use Rattle.speedate_civil.specs.Time.{microsecond_range, TimeOfDay, IsTime, second_of_day}
-use Rattle.speedate_civil.specs.Time.{time_of_day, end_fault, time_front_or, time_text, time_at}
+use Rattle.speedate_civil.specs.Time.{time_of_day, end_fault, time_front, time_text, time_at}
 use Rattle.speedate_civil.specs.Time.{FractionDigits, time_text_with, cut_time}
 
 -- a date-time by its date and its time of day
@@ -94,28 +95,18 @@ separator_table text =
     ∷ []
 
 -- the date-time at the front of a text, a date, a separator and a time, and how many bytes it
--- takes, or the text's refusal
-abbrev pub date_time_front_or : {E : Type 0} → (ParseError → ℕ → E) → Behavior → List ℕ
-    → Result (DateAndTime × ℕ) E
-date_time_front_or refuse behavior text = do
-  date ← date_front_or refuse text
-  time ← first_refusal_or refuse (separator_table text)
-      (time_front_or (shifted 11 refuse) behavior (drop 11 text))
+-- takes, or the text's fault and its place
+abbrev pub date_time_front : Behavior → List ℕ → Result (DateAndTime × ℕ) Refused
+date_time_front behavior text = do
+  date ← date_front text
+  time ← first_refused_or (separator_table text) (from_byte 11 (time_front behavior (drop 11 text)))
   Ok (record { date = date.0; time = time.0 }, 11 + time.1)
 
--- the date-time that a text is, or the text's refusal
-abbrev pub date_time_answer_or : {E : Type 0} → (ParseError → ℕ → E) → Behavior → List ℕ
-    → Result DateAndTime E
-date_time_answer_or refuse behavior text = do
-  value ← date_time_front_or refuse behavior text
-  with_no_more_or refuse (λ read. end_fault read.time.offset) text value
-
--- the same, with the text's fault
-abbrev pub date_time_front : Behavior → List ℕ → Result (DateAndTime × ℕ) ParseError
-date_time_front behavior text = date_time_front_or fault_alone behavior text
-
-abbrev pub date_time_answer : Behavior → List ℕ → Result DateAndTime ParseError
-date_time_answer behavior text = date_time_answer_or fault_alone behavior text
+-- the date-time that a text is, or the text's fault and its place
+abbrev pub date_time_answer : Behavior → List ℕ → Result DateAndTime Refused
+date_time_answer behavior text = do
+  value ← date_time_front behavior text
+  alone_or (λ read. end_fault read.time.offset) text value
 
 -- so many bytes at the front of a text, none of them a control character, are a date-time for each
 -- behavior, which has this microsecond in UTC, and an offset, unless one is assumed
@@ -194,47 +185,37 @@ decimal_table row behavior text decimal =
     (digits_row behavior row decimal at_byte (length text - length decimal.fraction + row.digits))
     ∷ all_at_byte 0 (range_table (decimal_instant row decimal))
 
--- the instant of a decimal timestamp, which is all of a text, or the text's refusal
-abbrev pub decimal_instant_or : {E : Type 0} → (ParseError → ℕ → E) → UnitRow → Behavior → List ℕ
-    → DecimalParts → Result Instant E
-decimal_instant_or refuse row behavior text decimal =
-    first_refusal_or refuse (decimal_table row behavior text decimal)
-    (Ok (decimal_instant row decimal))
+-- the instant of a decimal timestamp, which is all of a text, or the text's fault and its place
+abbrev pub decimal_instant_answer : UnitRow → Behavior → List ℕ → DecimalParts
+    → Result Instant Refused
+decimal_instant_answer row behavior text decimal =
+    first_refused_or (decimal_table row behavior text decimal) (Ok (decimal_instant row decimal))
 
--- the instant of a number, which is all of a text, if there is one, or the text's refusal
-abbrev pub number_instant_or : {E : Type 0} → (ParseError → ℕ → E) → TimestampUnit → Behavior
-    → List ℕ → Number → Option (Result Instant E)
-number_instant_or refuse unit behavior text (Whole timestamp) =
-    Some (refused_at refuse 0 (whole_instant unit timestamp))
-number_instant_or refuse unit behavior text (Fractional decimal) =
-    Some (decimal_instant_or refuse (decimal_row unit decimal) behavior text decimal)
-number_instant_or refuse unit behavior text NoNumber = None
+-- the instant of a number, which is all of a text, if there is one, or the text's fault and its
+-- place
+abbrev pub number_instant : TimestampUnit → Behavior → List ℕ → Number
+    → Option (Result Instant Refused)
+number_instant unit behavior text (Whole timestamp) =
+    Some (refused_at placed 0 (whole_instant unit timestamp))
+number_instant unit behavior text (Fractional decimal) =
+    Some (decimal_instant_answer (decimal_row unit decimal) behavior text decimal)
+number_instant unit behavior text NoNumber = None
 
 -- the date-time that a text is, as its text or as that of the instant of a timestamp, or the text's
--- refusal
-abbrev pub date_time_or_timestamp_or : {E : Type 0} → (ParseError → ℕ → E) → TimestampUnit
-    → Behavior → Option ℤ → List ℕ → Result DateAndTime E
-date_time_or_timestamp_or refuse unit behavior offset text =
-    or_number (option_map (result_map (date_time_at offset))
-    (number_instant_or refuse unit behavior text (number_answer text)))
-    (date_time_answer_or refuse behavior text)
-
--- the same, with the text's fault
+-- fault and its place
 abbrev pub date_time_or_timestamp : TimestampUnit → Behavior → Option ℤ → List ℕ
-    → Result DateAndTime ParseError
+    → Result DateAndTime Refused
 date_time_or_timestamp unit behavior offset text =
-    date_time_or_timestamp_or fault_alone unit behavior offset text
+    or_number (option_map (result_map (date_time_at offset))
+    (number_instant unit behavior text (number_answer text)))
+    (date_time_answer behavior text)
 
 -- the same, by a configuration
-abbrev pub date_time_by_config_or : {E : Type 0} → (ParseError → ℕ → E) → DateTimeConfig → List ℕ
-    → Result DateAndTime E
-date_time_by_config_or refuse config text =
+abbrev pub date_time_by_config : DateTimeConfig → List ℕ → Result DateAndTime Refused
+date_time_by_config config text =
     let time = config.time_config in
-    date_time_or_timestamp_or refuse config.timestamp_unit
+    date_time_or_timestamp config.timestamp_unit
     time.microseconds_precision_overflow_behavior time.unix_timestamp_offset text
-
-abbrev pub date_time_by_config : DateTimeConfig → List ℕ → Result DateAndTime ParseError
-date_time_by_config config text = date_time_by_config_or fault_alone config text
 
 -- the moment of a second and a microsecond, as an instant, or the fault
 abbrev pub new_moment_answer : ℕ → ℕ → Result Instant ParseError

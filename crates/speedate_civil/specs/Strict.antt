@@ -9,11 +9,12 @@ use Rattle.speedate_base.specs.Ascii.{plus_sign, hyphen, colon, full_stop, capit
 use Rattle.speedate_base.specs.Ascii.{small_t, small_z, comma}
 use Rattle.speedate_base.specs.Config.{refuses_digits}
 use Rattle.speedate_base.specs.Digits.{two_digit_text, four_digit_text, run_length}
-use Rattle.speedate_base.specs.Requirement.{TextRow, ◌else_fault◌, ◌at_byte◌, moved, fault_alone}
-use Rattle.speedate_base.specs.Requirement.{first_refusal_or, ◌>>=◌}
+use Rattle.speedate_base.specs.Requirement.{TextRow, ◌else_fault◌, ◌at_byte◌, moved, ◌>>=◌}
+use Rattle.speedate_base.specs.declared.refusal.Refused.{Refused}
+use Rattle.speedate_base.specs.Refused.{first_refused_or}
 use Rattle.speedate_civil.specs.Calendar.{month_length}
-use Rattle.speedate_civil.specs.DateTime.{DateAndTime, date_time_answer_or}
-use Rattle.speedate_civil.specs.Time.{has_minus_sign, is_utc, TimeOfDay, time_answer_or}
+use Rattle.speedate_civil.specs.DateTime.{DateAndTime, date_time_answer}
+use Rattle.speedate_civil.specs.Time.{has_minus_sign, is_utc, TimeOfDay, time_answer}
 
 -- a text is 2DIGIT, as time-hour, time-minute and time-second are (RFC 3339 5.6): the digits of a
 -- number up to the highest
@@ -117,23 +118,14 @@ strict_date_time text =
     else_fault ParseError.InvalidCharDateTimeSep at_byte 10)
     ∷ moved 11 (strict_time (drop 11 text))
 
--- the time that a text of RFC 3339 is, or the text's refusal
-abbrev pub strict_time_answer_or : {E : Type 0} → (ParseError → ℕ → E) → Behavior → List ℕ
-    → Result TimeOfDay E
-strict_time_answer_or refuse behavior text = do
-  time ← time_answer_or refuse behavior text
-  first_refusal_or refuse (strict_time text) (Ok time)
+-- the time that a text of RFC 3339 is, or the text's fault and its place
+abbrev pub strict_time_answer : Behavior → List ℕ → Result TimeOfDay Refused
+strict_time_answer behavior text = do
+  time ← time_answer behavior text
+  first_refused_or (strict_time text) (Ok time)
 
--- the date-time that a text of RFC 3339 is, or the text's refusal
-abbrev pub strict_date_time_answer_or : {E : Type 0} → (ParseError → ℕ → E) → Behavior → List ℕ
-    → Result DateAndTime E
-strict_date_time_answer_or refuse behavior text = do
-  value ← date_time_answer_or refuse behavior text
-  first_refusal_or refuse (strict_date_time text) (Ok value)
-
--- the same, with the text's fault
-abbrev pub strict_time_answer : Behavior → List ℕ → Result TimeOfDay ParseError
-strict_time_answer behavior text = strict_time_answer_or fault_alone behavior text
-
-abbrev pub strict_date_time_answer : Behavior → List ℕ → Result DateAndTime ParseError
-strict_date_time_answer behavior text = strict_date_time_answer_or fault_alone behavior text
+-- the date-time that a text of RFC 3339 is, or the text's fault and its place
+abbrev pub strict_date_time_answer : Behavior → List ℕ → Result DateAndTime Refused
+strict_date_time_answer behavior text = do
+  value ← date_time_answer behavior text
+  first_refused_or (strict_date_time text) (Ok value)

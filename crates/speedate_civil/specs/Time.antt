@@ -14,8 +14,9 @@ use Rattle.speedate_base.specs.Numbers.{with_sign}
 use Rattle.speedate_base.specs.Offset.{IsOffset, offset_table}
 use Rattle.speedate_base.specs.Timestamp.{Instant, seconds_per_day}
 use Rattle.speedate_base.specs.Requirement.{NumberRow, TextRow, ◌else_fault◌, ◌at_byte◌}
-use Rattle.speedate_base.specs.Requirement.{fault_alone, first_fault_or, first_refusal_or}
-use Rattle.speedate_base.specs.Requirement.{◌implies◌, result_map, shifted, with_no_more_or}
+use Rattle.speedate_base.specs.declared.refusal.Refused.{Refused}
+use Rattle.speedate_base.specs.Refused.{alone_or, first_refused_or, from_byte}
+use Rattle.speedate_base.specs.Requirement.{first_fault_or, moved, ◌implies◌, result_map}
 use Rattle.speedate_base.specs.Requirement.{with_size, ◌>>=◌}
 pub use Rattle.speedate_civil.specs.declared.time.Time.{Time}
 pub use Rattle.speedate_civil.specs.declared.time.digits.FractionDigits.{FractionDigits}
@@ -194,38 +195,23 @@ minute_table behavior rest =
     (nat_le (two_digit_value rest 0) 59 else_fault ParseError.OutOfRangeMinute at_byte 0)
     ∷ second_table behavior rest
 
--- the clock whose minute begins a text, given that it is two digits, or the text's refusal
-abbrev pub clock_answer_or : {E : Type 0} → (ParseError → ℕ → E) → Behavior → List ℕ
-    → Result Clock E
-clock_answer_or refuse behavior rest =
-    first_refusal_or refuse (minute_table behavior rest) (Ok (minute_clock rest))
+-- the clock whose minute begins a text, given that it is two digits, or the fault and its place
+abbrev pub clock_answer : Behavior → List ℕ → Result Clock Refused
+clock_answer behavior rest =
+    first_refused_or (minute_table behavior rest) (Ok (minute_clock rest))
 
--- the clock, from its minute on, at the front of a text, or the text's refusal
-abbrev pub minute_front_or : {E : Type 0} → (ParseError → ℕ → E) → Behavior → List ℕ
-    → Result Clock E
-minute_front_or refuse behavior rest =
-    first_refusal_or refuse (minute_digits rest) (clock_answer_or refuse behavior rest)
+-- the clock, from its minute on, at the front of a text, or the fault and its place
+abbrev pub minute_front : Behavior → List ℕ → Result Clock Refused
+minute_front behavior rest = first_refused_or (minute_digits rest) (clock_answer behavior rest)
 
--- the clock, from its hour on, at the front of a text, or the text's refusal
-abbrev pub clock_front_or : {E : Type 0} → (ParseError → ℕ → E) → Behavior → List ℕ
-    → Result Clock E
-clock_front_or refuse behavior text =
+-- the clock, from its hour on, at the front of a text, or the fault and its place
+abbrev pub clock_front : Behavior → List ℕ → Result Clock Refused
+clock_front behavior text =
     let rest = drop 3 text in
-    first_refusal_or refuse (hour_table text)
-    (first_refusal_or (shifted 3 refuse) (minute_digits rest)
-    (first_refusal_or refuse (hour_range text)
-    (result_map (at_hour (two_digit_value text 0))
-    (clock_answer_or (shifted 3 refuse) behavior rest))))
-
--- the same, with the text's fault
-abbrev pub clock_answer : Behavior → List ℕ → Result Clock ParseError
-clock_answer behavior rest = clock_answer_or fault_alone behavior rest
-
-abbrev pub minute_front : Behavior → List ℕ → Result Clock ParseError
-minute_front behavior rest = minute_front_or fault_alone behavior rest
-
-abbrev pub clock_front : Behavior → List ℕ → Result Clock ParseError
-clock_front behavior text = clock_front_or fault_alone behavior text
+    first_refused_or (hour_table text)
+    (first_refused_or (moved 3 (minute_digits rest))
+    (first_refused_or (hour_range text)
+    (result_map (at_hour (two_digit_value text 0)) (from_byte 3 (clock_answer behavior rest)))))
 
 -- a minute and a second in print
 abbrev pub minute_text : ℕ → ℕ → List ℕ
@@ -313,33 +299,24 @@ offset_ranges numbers =
     ∷ (nat_lt (offset_size numbers) seconds_per_day else_fault ParseError.OutOfRangeTz at_byte 0)
     ∷ []
 
--- the offset after a sign, which is given by its bytes, and how many bytes both take, or the
--- refusal
-abbrev pub signed_front_or : {E : Type 0} → (ParseError → ℕ → E) → Bool → ℕ → List ℕ
-    → Result (Option ℤ × ℕ) E
-signed_front_or refuse west sign numbers =
-    first_refusal_or refuse (offset_digits numbers)
-    (first_refusal_or refuse (offset_ranges numbers)
+-- the offset after a sign, which is given by its bytes, and how many bytes both take, or the fault
+-- and its place after the sign
+abbrev pub signed_front : Bool → ℕ → List ℕ → Result (Option ℤ × ℕ) Refused
+signed_front west sign numbers =
+    first_refused_or (offset_digits numbers)
+    (first_refused_or (offset_ranges numbers)
     (Ok (Some (with_sign west (offset_size numbers)), sign + offset_digits_size numbers)))
 
--- the offset that follows a time, if any, and how many bytes it takes, or the refusal of what
--- follows it
-abbrev pub offset_front_or : {E : Type 0} → (ParseError → ℕ → E) → List ℕ
-    → Result (Option ℤ × ℕ) E
-offset_front_or refuse rest =
+-- the offset that follows a time, if any, and how many bytes it takes, or the fault of what follows
+-- it and its place
+abbrev pub offset_front : List ℕ → Result (Option ℤ × ℕ) Refused
+offset_front rest =
     if is_plus_or_minus (slice_index rest 0)
-    then signed_front_or (shifted 1 refuse) (slice_index rest 0 == hyphen) 1 (drop 1 rest)
+    then from_byte 1 (signed_front (slice_index rest 0 == hyphen) 1 (drop 1 rest))
     else (if is_utc (slice_index rest 0) then Ok (Some (pos 0), 1)
     else (if has_minus_sign rest
-    then signed_front_or (shifted 3 refuse) true 3 (drop 3 rest)
+    then from_byte 3 (signed_front true 3 (drop 3 rest))
     else Ok (None, 0)))
-
--- the same, with the fault
-abbrev pub signed_front : Bool → ℕ → List ℕ → Result (Option ℤ × ℕ) ParseError
-signed_front west sign numbers = signed_front_or fault_alone west sign numbers
-
-abbrev pub offset_front : List ℕ → Result (Option ℤ × ℕ) ParseError
-offset_front rest = offset_front_or fault_alone rest
 
 -- an offset begins a text: a sign, `Z` or `z`
 abbrev pub begins_offset : List ℕ → Bool
@@ -376,33 +353,22 @@ clock_with_offset clock offset = record {
 }
 
 -- the time of a clock at the front of a text and the offset that follows it, and how many bytes it
--- takes, or the offset's refusal
-abbrev pub time_after_clock_or : {E : Type 0} → (ParseError → ℕ → E) → List ℕ → Clock
-    → Result (TimeOfDay × ℕ) E
-time_after_clock_or refuse text clock = do
-  offset ← offset_front_or (shifted clock.size refuse) (drop clock.size text)
+-- takes, or the offset's fault and its place
+abbrev pub time_after_clock : List ℕ → Clock → Result (TimeOfDay × ℕ) Refused
+time_after_clock text clock = do
+  offset ← from_byte clock.size (offset_front (drop clock.size text))
   Ok (clock_with_offset clock offset.0, clock.size + offset.1)
 
 -- the time at the front of a text, a clock and the offset that follows it, and how many bytes it
--- takes, or the text's refusal
-abbrev pub time_front_or : {E : Type 0} → (ParseError → ℕ → E) → Behavior → List ℕ
-    → Result (TimeOfDay × ℕ) E
-time_front_or refuse behavior text =
-    clock_front_or refuse behavior text >>= time_after_clock_or refuse text
+-- takes, or the text's fault and its place
+abbrev pub time_front : Behavior → List ℕ → Result (TimeOfDay × ℕ) Refused
+time_front behavior text = clock_front behavior text >>= time_after_clock text
 
--- the time that a text is, or the text's refusal
-abbrev pub time_answer_or : {E : Type 0} → (ParseError → ℕ → E) → Behavior → List ℕ
-    → Result TimeOfDay E
-time_answer_or refuse behavior text = do
-  time ← time_front_or refuse behavior text
-  with_no_more_or refuse (λ read. end_fault read.offset) text time
-
--- the same, with the text's fault
-abbrev pub time_front : Behavior → List ℕ → Result (TimeOfDay × ℕ) ParseError
-time_front behavior text = time_front_or fault_alone behavior text
-
-abbrev pub time_answer : Behavior → List ℕ → Result TimeOfDay ParseError
-time_answer behavior text = time_answer_or fault_alone behavior text
+-- the time that a text is, or the text's fault and its place
+abbrev pub time_answer : Behavior → List ℕ → Result TimeOfDay Refused
+time_answer behavior text = do
+  time ← time_front behavior text
+  alone_or (λ read. end_fault read.offset) text time
 
 -- an hour, a minute and a second in print
 abbrev pub clock_text : TimeOfDay → List ℕ

@@ -7,6 +7,7 @@ use Rattle.speedate.specs.Date.{date_text, date_or_timestamp}
 use Rattle.speedate.specs.DateTime.{date_time_text, date_time_or_timestamp}
 use Rattle.speedate.specs.Duration.{duration_answer, duration_text}
 use Rattle.speedate.specs.Fault.{fault_name}
+use Rattle.speedate.specs.Refused.{without_place}
 use Rattle.speedate.specs.Time.{time_answer, time_text}
 use Rattle.speedate_stream.specs.Machine.{Machine, longest_line}
 use Rattle.speedate_lines.specs.declared.answer.Answering.{Answering}
@@ -35,13 +36,16 @@ word Kind.StrictDuration = codes "duration-strict"
 
 -- the reply to a text of a kind
 abbrev pub reply_to : Kind → List ℕ → List ℕ
-reply_to Kind.Date text = reply date_text (date_or_timestamp TimestampUnit.Infer text)
-reply_to Kind.Time text = reply time_text (time_answer Behavior.Error text)
+reply_to Kind.Date text =
+    reply date_text (without_place (date_or_timestamp TimestampUnit.Infer text))
+reply_to Kind.Time text = reply time_text (without_place (time_answer Behavior.Error text))
 reply_to Kind.DateTime text =
-    reply date_time_text (date_time_or_timestamp TimestampUnit.Infer Behavior.Error None text)
-reply_to Kind.Duration text = reply duration_text (duration_answer IsoOrder.Lax Behavior.Error text)
+    reply date_time_text
+    (without_place (date_time_or_timestamp TimestampUnit.Infer Behavior.Error None text))
+reply_to Kind.Duration text =
+    reply duration_text (without_place (duration_answer IsoOrder.Lax Behavior.Error text))
 reply_to Kind.StrictDuration text =
-    reply duration_text (duration_answer IsoOrder.Strict Behavior.Error text)
+    reply duration_text (without_place (duration_answer IsoOrder.Strict Behavior.Error text))
 
 -- all kinds
 abbrev pub kinds : List Kind

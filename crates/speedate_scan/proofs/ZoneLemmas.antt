@@ -2,21 +2,21 @@
 use Rattle.std.proofs.Common.{◌≡◌, ◌∙◌, ap, sym, refl, rules, arith, codes, ℕ, ℤ, pos, ◌+◌, ◌==◌, ◌||◌, Bool, true, false, List, [], ◌∷◌, drop, slice_index, Option, Some, None, is_some, Result, Ok, Err, if◌then◌else◌}
 use Rattle.speedate.specs.Base.{Behavior, ParseError}
 use Rattle.speedate.specs.Calendar.{Ymd}
-use Rattle.speedate.specs.Date.{date_front, date_front_or}
+use Rattle.speedate.specs.Date.{date_front}
 use Rattle.speedate.specs.DateTime.{DateAndTime, date_time_front, is_separator}
-use Rattle.speedate.specs.Refused.{placed}
+use Rattle.speedate.specs.Refused.{from_byte, placed}
 use Rattle.std.proofs.lemmas.Bool.{or_parts}
 use Rattle.std.proofs.lemmas.Bool.Decides.{nat_tests}
 use Rattle.std.proofs.lemmas.List.{drop-drop}
-use Rattle.speedate.specs.Requirement.{refusal_map, result_and_then, shifted}
-use Rattle.speedate.specs.Time.{Clock, TimeOfDay, clock_front, clock_front_or}
+use Rattle.speedate.specs.Requirement.{result_and_then, shifted}
+use Rattle.speedate.specs.Time.{Clock, TimeOfDay, clock_front}
 use Rattle.speedate.specs.Time.{clock_with_offset}
 use Rattle.speedate.specs.Time.{has_minus_sign, is_plus_or_minus, is_utc}
 use Rattle.speedate.specs.Time.{offset_front, signed_front}
 use Rattle.speedate.specs.Ascii.{capital_z, hyphen}
 use Rattle.speedate_base.specs.declared.refusal.Refused.{Refused}
 use Rattle.speedate_scan.specs.Reading.{relaxed_front, with_late_zone, zoned}
-use Rattle.speedate_civil.proofs.ErrorPlaceLemmas.{clock_front-view, date_front-view}
+use Rattle.speedate_base.proofs.RefusalLemmas.{seen-read}
 use Rattle.speedate_scan.specs.Zone.{begins_with, capital_g, capital_u, late_zone, may_begin_zone}
 use Rattle.speedate_scan.specs.Zone.{no_zone}
 use Rattle.speedate_scan.specs.Zone.{signed_zone, utc_zone}
@@ -30,9 +30,15 @@ unfolding signed_zone
 signed_read start sign west numbers zone read = search rules
 
 -- and it is there
-signed_some : (sign : ℕ) (west : Bool) (numbers : List ℕ) (zone : Option ℤ × ℕ)
+some_read : (sign : ℕ) (west : Bool) (numbers : List ℕ) (zone : Option ℤ × ℕ)
     → signed_front west sign numbers ≡ Ok zone → is_some zone.0 ≡ true
-signed_some sign west numbers zone read = search rules
+some_read sign west numbers zone read = search rules
+
+signed_some : (from sign : ℕ) (west : Bool) (numbers : List ℕ) (zone : Option ℤ × ℕ)
+    → from_byte from (signed_front west sign numbers) ≡ Ok zone → is_some zone.0 ≡ true
+signed_some from sign west numbers zone read =
+    some_read sign west numbers zone
+    (seen-read (shifted from placed) (signed_front west sign numbers) zone read)
 
 -- the zone of a line by the offset that the library reads
 abbrev late : List ℕ → Option ℤ × ℕ → Option ℤ × ℕ
@@ -44,7 +50,7 @@ chosen : (zone other : Option ℤ × ℕ) (answer : Result (Option ℤ × ℕ) R
     → answer ≡ Ok (if is_some zone.0 then zone else other)
 chosen zone other answer read some = read ∙ rw some refl
 
-abbrev read_as : {A : Type 0} → A → Result A ParseError
+abbrev read_as : {A : Type 0} → A → Result A Refused
 read_as value = Ok value
 
 abbrev none : Option ℤ
@@ -56,8 +62,9 @@ front_of one other same = cc
 value_of : (one other : Option ℤ × ℕ) → read_as one ≡ Ok other → one ≡ other
 value_of one other same = cc
 
-by_sign : (plus utc minus : Bool) (after after_minus : Result (Option ℤ × ℕ) ParseError)
-    (there there_minus : Result (Option ℤ × ℕ) Refused) (other zone : Option ℤ × ℕ)
+by_sign : (plus utc minus : Bool)
+    (after after_minus there there_minus : Result (Option ℤ × ℕ) Refused)
+    (other zone : Option ℤ × ℕ)
     → (after ≡ Ok zone → there ≡ Ok (if is_some zone.0 then zone else other))
     → (after_minus ≡ Ok zone → there_minus ≡ Ok (if is_some zone.0 then zone else other))
     → (if plus then after else if utc then Ok (Some (pos 0), 1)
@@ -72,12 +79,13 @@ by_sign false false true after after_minus there there_minus other zone one two 
 by_sign false false false after after_minus there there_minus other zone one two read =
     rw (← value_of (None, 0) zone read) refl
 
-signed_chosen : (start sign : ℕ) (west : Bool) (numbers : List ℕ) (zone other : Option ℤ × ℕ)
-    → signed_front west sign numbers ≡ Ok zone
+signed_chosen : (start from sign : ℕ) (west : Bool) (numbers : List ℕ) (zone other : Option ℤ × ℕ)
+    → from_byte from (signed_front west sign numbers) ≡ Ok zone
     → signed_zone start west sign numbers ≡ Ok (if is_some zone.0 then zone else other)
-signed_chosen start sign west numbers zone other read =
+signed_chosen start from sign west numbers zone other read =
+    let front = seen-read (shifted from placed) (signed_front west sign numbers) zone read in
     chosen zone other (signed_zone start west sign numbers)
-    (signed_read start sign west numbers zone read) (signed_some sign west numbers zone read)
+    (signed_read start sign west numbers zone front) (signed_some from sign west numbers zone read)
 
 offset_read : (start : ℕ) (rest : List ℕ) (zone : Option ℤ × ℕ)
     → offset_front rest ≡ Ok zone → zone_front start rest ≡ Ok (late rest zone)
@@ -85,14 +93,15 @@ unfolding zone_front
 offset_read start rest zone read =
     by_sign (is_plus_or_minus (slice_index rest 0)) (is_utc (slice_index rest 0))
     (has_minus_sign rest) _ _ _ _ (late_zone rest) zone
-    (signed_chosen (start + 1) 1 (slice_index rest 0 == hyphen) (drop 1 rest) zone (late_zone rest))
-    (signed_chosen (start + 3) 3 true (drop 3 rest) zone (late_zone rest)) read
+    (signed_chosen (start + 1) 1 1 (slice_index rest 0 == hyphen) (drop 1 rest) zone
+    (late_zone rest))
+    (signed_chosen (start + 3) 3 3 true (drop 3 rest) zone (late_zone rest)) read
 
 no_some : (size : ℕ) → is_some none ≡ true → size ≡ 0
 no_some size some = cc
 
 -- an offset that is not there takes nothing
-none_by_sign : (plus utc minus : Bool) (after after_minus : Result (Option ℤ × ℕ) ParseError)
+none_by_sign : (plus utc minus : Bool) (after after_minus : Result (Option ℤ × ℕ) Refused)
     (size : ℕ) → (after ≡ Ok (None, size) → is_some none ≡ true)
     → (after_minus ≡ Ok (None, size) → is_some none ≡ true)
     → (if plus then after else if utc then Ok (Some (pos 0), 1)
@@ -109,15 +118,15 @@ offset_none : (rest : List ℕ) (size : ℕ) → offset_front rest ≡ Ok (None,
 offset_none rest size read =
     none_by_sign (is_plus_or_minus (slice_index rest 0)) (is_utc (slice_index rest 0))
     (has_minus_sign rest) _ _ size
-    (signed_some 1 (slice_index rest 0 == hyphen) (drop 1 rest) (None, size))
-    (signed_some 3 true (drop 3 rest) (None, size)) read
+    (signed_some 1 1 (slice_index rest 0 == hyphen) (drop 1 rest) (None, size))
+    (signed_some 3 3 true (drop 3 rest) (None, size)) read
 
 -- The steps of the library and of a line after a date, and after a clock.
 
-abbrev dated : Ymd → TimeOfDay × ℕ → Result (DateAndTime × ℕ) ParseError
+abbrev dated : Ymd → TimeOfDay × ℕ → Result (DateAndTime × ℕ) Refused
 dated date time = Ok (record { date = date; time = time.0 }, 11 + time.1)
 
-abbrev timed : Clock → Option ℤ × ℕ → Result (TimeOfDay × ℕ) ParseError
+abbrev timed : Clock → Option ℤ × ℕ → Result (TimeOfDay × ℕ) Refused
 timed clock zone = Ok (clock_with_offset clock zone.0, clock.size + zone.1)
 
 abbrev with_clock : Ymd → Clock → Result (Ymd × Clock) Refused
@@ -142,33 +151,32 @@ zoned_late text date clock (None, size) read =
     rw after refl
 
 after_clock : (text : List ℕ) (date : Ymd) (clock : Clock) (front : DateAndTime × ℕ)
-    (offset : Result (Option ℤ × ℕ) ParseError)
+    (offset : Result (Option ℤ × ℕ) Refused)
     → offset_front (drop (11 + clock.size) text) ≡ offset
-    → result_and_then (dated date) (result_and_then (timed clock) offset) ≡ Ok front
+    → result_and_then (dated date)
+    (from_byte 11 (result_and_then (timed clock) (from_byte clock.size offset))) ≡ Ok front
     → zoned_at text (date, clock) ≡ Ok (with_late_zone text front)
 after_clock text date clock front (Ok zone) there read =
     let zone_is = offset_read (11 + clock.size) (drop (11 + clock.size) text) zone there in
     let whole = zoned_late text date clock zone there in
     let same = front_of _ _ read in
     rw zone_is (ap Ok whole ∙ ap (λ (f : DateAndTime × ℕ). Ok (with_late_zone text f)) same)
-after_clock text date clock front (Err fault) there read = cc
+after_clock text date clock front (Err refused) there read = cc
 
 -- The chain of both, over plain answers.
 
-abbrev parted : {A : Type 0} → Bool → Result A ParseError → Result A ParseError
-parted separated next = if separated then next else Err ParseError.InvalidCharDateTimeSep
-
-abbrev parted_at : {A : Type 0} → Bool → Result A Refused → Result A Refused
-parted_at separated next =
+abbrev parted : {A : Type 0} → Bool → Result A Refused → Result A Refused
+parted separated next =
     if separated then next else Err (placed ParseError.InvalidCharDateTimeSep 10)
 
-abbrev library_chain : List ℕ → Result (Ymd × ℕ) ParseError → Bool → Result Clock ParseError
-    → Result (DateAndTime × ℕ) ParseError
+abbrev library_chain : List ℕ → Result (Ymd × ℕ) Refused → Bool → Result Clock Refused
+    → Result (DateAndTime × ℕ) Refused
 library_chain text at_date separated at_clock =
     result_and_then (λ (date : Ymd × ℕ).
     result_and_then (dated date.0)
-    (parted separated (result_and_then (λ (clock : Clock).
-    result_and_then (timed clock) (offset_front (drop clock.size (drop 11 text)))) at_clock)))
+    (parted separated (from_byte 11 (result_and_then (λ (clock : Clock).
+    result_and_then (timed clock)
+    (from_byte clock.size (offset_front (drop clock.size (drop 11 text))))) at_clock))))
     at_date
 
 abbrev line_chain : List ℕ → Result (Ymd × ℕ) Refused → Bool → Result Clock Refused
@@ -176,31 +184,19 @@ abbrev line_chain : List ℕ → Result (Ymd × ℕ) Refused → Bool → Result
 line_chain text at_date separated at_clock =
     result_and_then (zoned_at text)
     (result_and_then (λ (date : Ymd × ℕ).
-    result_and_then (λ (clock : Clock). with_clock date.0 clock) (parted_at separated at_clock))
+    result_and_then (λ (clock : Clock). with_clock date.0 clock)
+    (parted separated (from_byte 11 at_clock)))
     at_date)
 
--- what is read without places is read with them
-abbrev IsRead : {A : Type 0} → Result A ParseError → Result A Refused → Type 0
-IsRead {A = A} answer with_places = (value : A) → answer ≡ Ok value → with_places ≡ Ok value
-
-is_read : {A : Type 0} (answer : Result A ParseError) (with_places : Result A Refused)
-    → refusal_map (λ (refused : Refused). refused.fault) with_places ≡ answer
-    → IsRead answer with_places
-is_read answer (Ok given) same value read = cc
-is_read answer (Err refused) same value read = cc
-
-chained : (text : List ℕ) (at_date : Result (Ymd × ℕ) ParseError) (separated : Bool)
-    (at_clock : Result Clock ParseError) (line_date : Result (Ymd × ℕ) Refused)
-    (line_clock : Result Clock Refused) (front : DateAndTime × ℕ)
-    → IsRead at_date line_date → IsRead at_clock line_clock
+chained : (text : List ℕ) (at_date : Result (Ymd × ℕ) Refused) (separated : Bool)
+    (at_clock : Result Clock Refused) (front : DateAndTime × ℕ)
     → library_chain text at_date separated at_clock ≡ Ok front
-    → line_chain text line_date separated line_clock ≡ Ok (with_late_zone text front)
-chained text (Ok date) true (Ok clock) line_date line_clock front dates clocks read =
-    rw (dates date refl, clocks clock refl)
-    (after_clock text date.0 clock front _ refl (rw drop-drop at read))
-chained text (Ok date) true (Err fault) line_date line_clock front dates clocks read = cc
-chained text (Ok date) false at_clock line_date line_clock front dates clocks read = cc
-chained text (Err fault) separated at_clock line_date line_clock front dates clocks read = cc
+    → line_chain text at_date separated at_clock ≡ Ok (with_late_zone text front)
+chained text (Ok date) true (Ok clock) front read =
+    after_clock text date.0 clock front _ refl (rw drop-drop at read)
+chained text (Ok date) true (Err refused) front read = cc
+chained text (Ok date) false at_clock front read = cc
+chained text (Err refused) separated at_clock front read = cc
 
 -- a date-time that the library reads at the front of a text is the one of a line, but for a zone
 -- after a blank
@@ -209,15 +205,8 @@ pub library_is_zoned : (behavior : Behavior) (text : List ℕ) (front : DateAndT
     → relaxed_front behavior text ≡ Ok (with_late_zone text front)
 unfolding relaxed_front
 library_is_zoned behavior text front read =
-    let fault = λ (refused : Refused). refused.fault in
-    let rest : List ℕ = drop 11 text in
     chained text (date_front text) (is_separator (slice_index text 10))
-    (clock_front behavior rest) (date_front_or placed text)
-    (clock_front_or (shifted 11 placed) behavior rest) front
-    (is_read (date_front text) _ (date_front-view fault placed text))
-    (is_read (clock_front behavior rest) _
-    (clock_front-view fault (shifted 11 placed) behavior rest))
-    read
+    (clock_front behavior (drop 11 text)) front read
 
 -- no text begins with a word whose first byte is another
 other_word : (byte first : ℕ) (bytes word : List ℕ) → (byte == first) ≡ false

@@ -5,9 +5,8 @@ use Rattle.std.specs.Char.{is_ascii_digit}
 use Rattle.speedate.specs.Ascii.{capital_m, capital_p, capital_t, capital_y, colon, comma}
 use Rattle.speedate_base.specs.Digits.{is_decimal_mark}
 use Rattle.speedate.specs.Base.{Behavior, IsoOrder}
-use Rattle.speedate.specs.Duration.{duration_answer_or}
+use Rattle.speedate.specs.Duration.{duration_answer}
 use Rattle.speedate.specs.DurationNumbers.{DurationNumbers}
-use Rattle.speedate.specs.Refused.{placed}
 use Rattle.speedate_base.specs.Numbers.{has_minus, sign_size}
 use Rattle.speedate_base.specs.declared.refusal.Refused.{Refused}
 use Rattle.speedate_scan.specs.Field.{Field, mark_length, nth_field}
@@ -81,8 +80,7 @@ seventh_digit text =
 
 -- the duration that a text is
 unfoldable pub duration_whole : List ℕ → Result DurationNumbers Refused
-duration_whole text =
-    duration_answer_or placed IsoOrder.Lax Behavior.Error text
+duration_whole text = duration_answer IsoOrder.Lax Behavior.Error text
 
 -- what makes a duration inexact that begins at a byte of a line, by its place, before what else may
 abbrev pub bad_at : ℕ → Why → Option ℕ → Option Bad → Option Bad

@@ -4,21 +4,20 @@ use Rattle.std.specs.Result.{result_unwrap_or}
 use Rattle.std.specs.Char.{is_ascii_digit}
 use Rattle.speedate.specs.Base.{Behavior, ParseError, TimestampUnit}
 use Rattle.speedate.specs.Ascii.{capital_p, capital_t, colon, hyphen, small_t}
-use Rattle.speedate.specs.Requirement.{first_refusal_or, result_map, with_no_more_or, with_size}
-use Rattle.speedate.specs.Requirement.{shifted, ◌>>=◌}
-use Rattle.speedate.specs.Refused.{placed}
+use Rattle.speedate.specs.Requirement.{result_map, with_size, ◌>>=◌}
+use Rattle.speedate.specs.Refused.{alone_or, first_refused_or, from_byte, placed}
 use Rattle.speedate_base.specs.Numbers.{sign_size}
 use Rattle.speedate_base.specs.declared.refusal.Refused.{Refused}
 use Rattle.speedate.specs.Calendar.{Ymd}
-use Rattle.speedate.specs.Date.{date_answer_or, date_front_or}
+use Rattle.speedate.specs.Date.{date_answer, date_front}
 use Rattle.speedate.specs.DateTime.{DateAndTime}
 use Rattle.speedate_civil.specs.declared.datetime.DateTime.{DateTime}
-use Rattle.speedate.specs.DateTime.{date_time_front_or, date_time_with_offset, separator_table}
-use Rattle.speedate.specs.DateTime.{date_time_or_timestamp_or}
+use Rattle.speedate.specs.DateTime.{date_time_front, date_time_with_offset, separator_table}
+use Rattle.speedate.specs.DateTime.{date_time_or_timestamp}
 use Rattle.speedate.specs.DateTime.{utc_microsecond}
 use Rattle.speedate.specs.Lines.{without_return}
-use Rattle.speedate.specs.Strict.{strict_date_time_answer_or}
-use Rattle.speedate.specs.Time.{Clock, clock_front_or, clock_with_offset, end_fault, minute_time}
+use Rattle.speedate.specs.Strict.{strict_date_time_answer}
+use Rattle.speedate.specs.Time.{Clock, clock_front, clock_with_offset, end_fault, minute_time}
 use Rattle.speedate_stream.specs.Machine.{longest_line}
 use Rattle.speedate_scan.specs.Field.{Field, goes_on, mark_length, nth_field}
 use Rattle.speedate_scan.specs.Fraction.{value_past_microsecond}
@@ -39,9 +38,9 @@ pub use Rattle.speedate_scan.specs.declared.reading.Glance.{Glance}
 -- a date, a separator and a clock at the front of a text, as the library reads them
 abbrev pub date_and_clock : Behavior → List ℕ → Result (Ymd × Clock) Refused
 date_and_clock behavior text = do
-  date ← date_front_or placed text
-  clock ← first_refusal_or placed (separator_table text)
-      (clock_front_or (shifted 11 placed) behavior (drop 11 text))
+  date ← date_front text
+  clock ← first_refused_or (separator_table text)
+      (from_byte 11 (clock_front behavior (drop 11 text)))
   Ok (date.0, clock)
 
 -- the date-time of a date, a clock and the zone after it, and how many bytes it takes
@@ -66,11 +65,11 @@ with_late_zone text (value, size) =
 
 -- the date-time that the library reads at the front of a text, and how many bytes it takes
 unfoldable pub library_front : Behavior → List ℕ → Result (DateAndTime × ℕ) Refused
-library_front behavior text = date_time_front_or placed behavior text
+library_front behavior text = date_time_front behavior text
 
 -- the date-time of RFC 3339 that a text is
 unfoldable pub strict_whole : Behavior → List ℕ → Result DateAndTime Refused
-strict_whole behavior text = strict_date_time_answer_or placed behavior text
+strict_whole behavior text = strict_date_time_answer behavior text
 
 -- the date-time at the front of a text, whose own text is one of RFC 3339 alone
 unfoldable pub strict_front : Behavior → List ℕ → Result (DateAndTime × ℕ) Refused
@@ -86,7 +85,7 @@ midnight_of date = record { date = date; time = minute_time 0 0 None }
 -- the midnight of the date at the front of a text, and how many bytes the date takes
 unfoldable pub midnight_front : List ℕ → Result (DateAndTime × ℕ) Refused
 midnight_front text =
-    result_map (with_size midnight_of) (date_front_or placed text)
+    result_map (with_size midnight_of) (date_front text)
 
 -- the refusal of a number that the library does not read, since it has more than 64 bits
 abbrev pub past_64_bits : List ℕ → Refused
@@ -104,7 +103,7 @@ or_past_64_bits text (Err refused) =
 unfoldable pub timestamp_of : TimestampUnit → Behavior → List ℕ → Result DateAndTime Refused
 timestamp_of unit behavior text =
     or_past_64_bits text
-    (date_time_or_timestamp_or placed unit behavior (Some (pos 0)) text)
+    (date_time_or_timestamp unit behavior (Some (pos 0)) text)
 
 -- the date-time in UTC of the Unix timestamp at the front of a text, and how many bytes it takes
 unfoldable pub timestamp_front : TimestampUnit → Behavior → List ℕ
@@ -122,7 +121,7 @@ front_of (Form.Timestamp unit) behavior text = timestamp_front unit behavior tex
 
 -- the value at the front of a text, if nothing follows it
 abbrev pub whole_front : List ℕ → DateAndTime × ℕ → Result DateAndTime Refused
-whole_front text front = with_no_more_or placed (λ read. end_fault read.time.offset) text front
+whole_front text front = alone_or (λ read. end_fault read.time.offset) text front
 
 -- the date-time that a text is
 unfoldable pub relaxed_whole : Behavior → List ℕ → Result DateAndTime Refused
@@ -139,7 +138,7 @@ timestamp_whole unit behavior text = do
 -- the midnight of the date that a text is
 unfoldable pub midnight_whole : List ℕ → Result DateAndTime Refused
 midnight_whole text =
-    result_map midnight_of (date_answer_or placed text)
+    result_map midnight_of (date_answer text)
 
 -- the value that a text is
 abbrev pub whole_of : Form → Behavior → List ℕ → Result DateAndTime Refused

@@ -6,12 +6,12 @@ use Rattle.std.specs.Result.{result_unwrap_or}
 use Rattle.speedate_base.specs.Ascii.{capital_z, colon, full_stop, hyphen, plus_sign, space}
 use Rattle.speedate_base.specs.Digits.{two_digit_value, two_digits_at}
 use Rattle.speedate_base.specs.Numbers.{with_sign}
-use Rattle.speedate_base.specs.Requirement.{◌at_byte◌, ◌else_fault◌, first_refusal_or, shifted}
+use Rattle.speedate_base.specs.Requirement.{◌at_byte◌, ◌else_fault◌}
 use Rattle.speedate_base.specs.declared.refusal.Refused.{Refused}
 use Rattle.speedate.specs.Base.{ParseError}
-use Rattle.speedate.specs.Refused.{placed}
+use Rattle.speedate.specs.Refused.{first_refused_or, from_byte}
 use Rattle.speedate_civil.specs.Time.{has_minus_sign, is_plus_or_minus, is_utc, offset_minute_place}
-use Rattle.speedate_civil.specs.Time.{signed_front_or}
+use Rattle.speedate_civil.specs.Time.{signed_front}
 
 -- Where a value ends.
 
@@ -38,9 +38,9 @@ utc_zone size = (Some (pos 0), size)
 -- the zone of an hour, which is at `start` of the whole text, after a sign of so many bytes
 abbrev pub hour_zone : ℕ → Bool → ℕ → ℕ → Result (Option ℤ × ℕ) Refused
 hour_zone start west sign hour =
-    first_refusal_or (shifted start placed)
-    ((nat_le hour 23 else_fault ParseError.OutOfRangeTz at_byte 0) ∷ [])
-    (Ok (Some (with_sign west (3600 * hour)), sign + 2))
+    from_byte start
+    (first_refused_or ((nat_le hour 23 else_fault ParseError.OutOfRangeTz at_byte 0) ∷ [])
+    (Ok (Some (with_sign west (3600 * hour)), sign + 2)))
 
 -- an hour and a minute stand after a sign: `HH:MM` or `HHMM`
 abbrev pub has_minute : List ℕ → Bool
@@ -50,7 +50,7 @@ has_minute numbers =
 -- the zone by the bytes after its sign: `HH:MM` or `HHMM`, as the library reads them, or `HH`
 unfoldable pub signed_zone : ℕ → Bool → ℕ → List ℕ → Result (Option ℤ × ℕ) Refused
 signed_zone start west sign numbers =
-    if has_minute numbers then signed_front_or (shifted start placed) west sign numbers
+    if has_minute numbers then from_byte start (signed_front west sign numbers)
     else if two_digits_at numbers 0 then hour_zone start west sign (two_digit_value numbers 0)
     else Ok no_zone
 

@@ -3,9 +3,8 @@
 ghost use Rattle.std.specs.Prelude.{◌≡◌, ◌+◌, ◌≤◌, IfErr, IfOk, IfSome, Ok, Some, length, pos, true};
 ghost use Rattle.std.specs.Option.{ForSome};
 ghost use Rattle.speedate_base.specs.Offset.{IsOffset};
-ghost use Rattle.speedate.specs.Refused.{placed};
 ghost use Rattle.speedate_civil.specs.Time.{clock_parts, clock_with_offset, end_fault};
-ghost use Rattle.speedate_civil.specs.DateTime.{date_time_or_timestamp_or};
+ghost use Rattle.speedate_civil.specs.DateTime.{date_time_or_timestamp};
 ghost use Rattle.speedate_scan.specs.Reading.{claims, claims_date, date_and_clock, library_front};
 ghost use Rattle.speedate_scan.specs.Reading.{with_late_zone};
 ghost use Rattle.speedate.specs.Base.{Behavior, IsoOrder};
@@ -356,7 +355,7 @@ fn library_timestamp(
     behavior: MicrosecondsPrecisionOverflowBehavior,
 ) -> Result<DateTime, Refused>
     ensures value { result_map date_and_time result
-        ≡ date_time_or_timestamp_or placed unit behavior (Some (pos 0)) text.now }
+        ≡ date_time_or_timestamp unit behavior (Some (pos 0)) text.now }
     ensures within { IfErr result (λ refused. refused.place ≤ length text.now) }
 {
     DateTime::parse_or_place(text, &timestamps(unit, behavior))

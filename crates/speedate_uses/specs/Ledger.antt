@@ -4,6 +4,7 @@ use Rattle.speedate.specs.Base.{ParseError}
 use Rattle.std.specs.Ordering.{is_le}
 use Rattle.speedate.specs.Calendar.{Ymd, date_order}
 use Rattle.speedate.specs.Date.{date_front}
+use Rattle.speedate.specs.Refused.{without_place}
 
 -- two dates that were read are in order; what was refused is not
 abbrev pub dates_in_order : Result (Ymd × ℕ) ParseError → Result (Ymd × ℕ) ParseError → Bool
@@ -13,4 +14,5 @@ dates_in_order (Err fault) later = false
 
 -- two lines begin with dates, and the second's is not before the first's
 abbrev pub is_in_order : List ℕ → List ℕ → Bool
-is_in_order line next = dates_in_order (date_front line) (date_front next)
+is_in_order line next =
+    dates_in_order (without_place (date_front line)) (without_place (date_front next))

@@ -5,6 +5,7 @@ use Rattle.std.specs.Ordering.{int_cmp, is_le, nat_cmp, ordering_then}
 use Rattle.speedate.specs.Base.{Behavior, ParseError}
 use Rattle.speedate.specs.DateTime.{DateAndTime, date_time_front, date_time_instant_order}
 use Rattle.speedate.specs.DateTime.{local_second, utc_second}
+use Rattle.speedate.specs.Refused.{without_place}
 
 -- a date-time that was read lies between two others by instant, both among them; what was refused
 -- does not
@@ -15,7 +16,8 @@ lies_between first last (Err fault) = false
 
 -- a line begins with a date-time that lies between two others by instant
 abbrev pub is_between : Behavior → DateAndTime → DateAndTime → List ℕ → Bool
-is_between behavior first last line = lies_between first last (date_time_front behavior line)
+is_between behavior first last line =
+    lies_between first last (without_place (date_time_front behavior line))
 
 -- what tells the instant of a date-time: its second in UTC, as which a clock without an offset
 -- counts, and its microsecond

@@ -5,6 +5,7 @@ ghost use Rattle.std.specs.Borrow.{Bor};
 ghost use Rattle.std.specs.List.{IsAllAdjacentAnswer};
 ghost use Rattle.std.specs.List.Sorted.{IsPermutation, IsSortedByKey, IsStableByKey};
 ghost use Rattle.speedate.specs.Date.{date_front, ymd, ◌gives_front◌};
+ghost use Rattle.speedate.specs.Refused.{without_place};
 ghost use Rattle.speedate.specs.Requirement.{result_map, with_size};
 ghost use Rattle.speedate.specs.Calendar.{date_order};
 ghost use Rattle.speedate.specs.Numbers.{number_answer, scaled_number};
@@ -61,7 +62,8 @@ pub fn are_in_order(lines: &[&[u8]]) -> bool
 fn front_at(lines: &[&[u8]], place: usize) -> Front
     requires { place < length lines.now }
     ensures front { (line : Bor (List ℕ))
-        → result gives_front date_front (slice_index_or lines.now place line).now }
+        → result gives_front without_place
+        (date_front (slice_index_or lines.now place line).now) }
 {
     Date::parse_front(lines[place])
 }

@@ -6,6 +6,7 @@ ghost use Rattle.std.specs.List.Sorted.{IsPermutation, IsSortedByKey, IsStableBy
 ghost use Rattle.std.specs.Ordering.{is_lt};
 ghost use Rattle.speedate.specs.Config.{time_choices};
 ghost use Rattle.speedate.specs.DateTime.{DateAndTime, date_and_time, date_time_front, date_time_instant_order};
+ghost use Rattle.speedate.specs.Refused.{without_place};
 ghost use Rattle.speedate.specs.Requirement.{result_map};
 ghost use Rattle.speedate_uses.specs.Log.{instant_key, instant_key_order, is_between, local_key};
 
@@ -25,7 +26,7 @@ pub fn log_entry<'a>(
     ensures entry { result_map {B = DateAndTime × List ℕ}
         (λ entry. (date_and_time entry.0, entry.1.now)) result
         ≡ result_map (λ front. (front.0, drop front.1 line.now))
-        (date_time_front (time_choices config.now).behavior line.now) }
+        (without_place (date_time_front (time_choices config.now).behavior line.now)) }
 {
     let (value, size) = DateTime::parse_front(line, config)?;
     Ok((value, &line[size..]))

@@ -36,6 +36,7 @@ pub enum DateTimeParser {
 
 impl DateTimeParser {
     ghost use Rattle.std.specs.Prelude.{◌≡◌, IsTrue, Ok};
+    ghost use Rattle.speedate_base.specs.Refused.{without_place};
     ghost use Rattle.speedate_civil.specs.DateTime.{◌gives◌};
     ghost use Rattle.speedate.specs.Column.{date_time_of_line, date_time_place, taken_answer};
     ghost use Rattle.speedate.specs.Column.{text_behavior};
@@ -43,7 +44,7 @@ impl DateTimeParser {
 
     /// Parses a line as a date-time.
     pub(super) fn parse(&self, line: &[u8]) -> Result<DateTime, ParseError>
-        ensures answer { result gives date_time_of_line self.now line.now }
+        ensures answer { result gives without_place (date_time_of_line self.now line.now) }
     {
         if let DateTimeParser::OrTimestamp(config) = self {
             return DateTime::parse_bytes_with_config(line, config);
@@ -122,6 +123,7 @@ pub struct DateTimeReader {
 impl DateTimeReader {
     ghost use Rattle.std.specs.Prelude.{◌≡◌};
     ghost use Rattle.speedate_base.specs.Config.{choices};
+    ghost use Rattle.speedate_base.specs.Refused.{without_place};
     ghost use Rattle.speedate_base.specs.Requirement.{result_and_then, result_map};
     ghost use Rattle.speedate_base.specs.Timestamp.{IsInYears, unix_instant};
     ghost use Rattle.speedate_civil.specs.DateTime.{date_and_time, date_time_at};
@@ -162,7 +164,8 @@ impl DateTimeReader {
         config: &DateTimeConfig,
     ) -> Result<i64, LineError>
         ensures number { result ≡ as_number utc_microsecond (result_and_then
-            (with_offset self.now.assumes_utc) (date_time_by_config config.now line.now)) }
+            (with_offset self.now.assumes_utc)
+            (without_place (date_time_by_config config.now line.now))) }
     {
         match DateTime::parse_bytes_rfc3339_with_config(line, &config.time_config) {
             Ok(value) => utc_number(&value, self.assumes_utc),

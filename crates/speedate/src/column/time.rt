@@ -23,12 +23,13 @@ pub enum TimeParser {
 }
 
 impl TimeParser {
+    ghost use Rattle.speedate_base.specs.Refused.{without_place};
     ghost use Rattle.speedate_civil.specs.Time.{◌gives◌};
     ghost use Rattle.speedate.specs.Column.{time_of_line, time_place};
 
     /// Parses a line as a time.
     fn parse(&self, line: &[u8]) -> Result<Time, ParseError>
-        ensures answer { result gives time_of_line self.now line.now }
+        ensures answer { result gives without_place (time_of_line self.now line.now) }
     {
         match self {
             TimeParser::Text(config) => Time::parse_bytes_with_config(line, config),

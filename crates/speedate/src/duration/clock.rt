@@ -2,9 +2,10 @@
 
 ghost use Rattle.std.specs.Prelude.{◌≡◌, ◌+◌, ◌-◌, ◌^◌, ◌<◌, ◌≤◌, length, min, false, Ok, Err, IfErr, IfOk, IsTrue};
 ghost use Rattle.speedate_base.specs.Digits.{run_length, run_value};
+ghost use Rattle.speedate_base.specs.Refused.{seen_as};
 ghost use Rattle.speedate_base.specs.Requirement.{first_refusal_or, shifted};
-ghost use Rattle.speedate.specs.ClockForm.{colon_place, has_hours, hours_table, after_hours_or};
-ghost use Rattle.speedate.specs.ClockForm.{clock_form_or};
+ghost use Rattle.speedate.specs.ClockForm.{colon_place, has_hours, hours_table, after_hours};
+ghost use Rattle.speedate.specs.ClockForm.{clock_form};
 
 use super::unsigned::UnsignedDuration;
 use speedate_base::config::MicrosecondsPrecisionOverflowBehavior as Behavior;
@@ -26,7 +27,6 @@ impl UnsignedDuration {
     /// Parses a duration as a clock shows it, whose hours are the digits at its front, and which begins at
     /// `start` of the whole text: a day, an hour and three seconds from `b"25:00:03"`.
     #[inline(always)]
-    #[tactic(auto, unfolding(crate::specs::ClockForm::clock_form_or))]
     pub(super) fn from_clock<E: Refusal>(
         bytes: &[u8],
         hours: DigitRun,
@@ -36,7 +36,7 @@ impl UnsignedDuration {
         requires length { hours.length ≡ run_length bytes.now 0 }
         requires value { hours.value ≡ min (run_value bytes.now 0) (2 ^ 64 - 1) }
         requires start { start + length bytes.now + 16 ≤ usize.MAX }
-        ensures answer { result ≡ clock_form_or (shifted start E.refusal) behavior bytes.now }
+        ensures answer { result ≡ seen_as (shifted start E.refusal) (clock_form behavior bytes.now) }
         ensures placed { IfErr result (E.lies_within (start + length bytes.now)) }
     {
         let end = hours_end::<E>(bytes, hours.length, start)?;
@@ -54,6 +54,7 @@ impl UnsignedDuration {
     /// Parses what follows the hours of a clock, from its minute on, which begins at `start` of the whole
     /// text: all of `rest`.
     #[inline(always)]
+    #[tactic(auto, using(speedate_base::proofs::RefusalLemmas::seen_then))]
     fn after_hours<E: Refusal>(
         rest: &[u8],
         hours: u32,
@@ -62,7 +63,8 @@ impl UnsignedDuration {
     ) -> Result<Self, E>
         requires hours { hours ≤ 2400000000 }
         requires start { start + length rest.now + 16 ≤ usize.MAX }
-        ensures answer { result ≡ after_hours_or (shifted start E.refusal) behavior hours rest.now }
+        ensures answer { result
+            ≡ seen_as (shifted start E.refusal) (after_hours behavior hours rest.now) }
         ensures placed { IfErr result (E.lies_within (start + length rest.now)) }
     {
         if !takes_digits(behavior, rest.len(), REST_LENGTH_MAX) {

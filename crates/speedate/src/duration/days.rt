@@ -2,9 +2,11 @@
 
 ghost use Rattle.std.specs.Prelude.{◌≡◌, ◌-◌, ◌^◌, ◌≤◌, ◌+◌, length, min, Some, None, IfSome, IfErr, IfOk, if◌then◌else◌};
 ghost use Rattle.speedate_base.specs.Digits.{run_length, run_value};
+ghost use Rattle.speedate_base.specs.Refused.{seen_as};
 ghost use Rattle.speedate_base.specs.Requirement.{shifted};
 ghost use Rattle.speedate.specs.DayForm.{size_of_one, day_endings, gaps, has_whole_ending};
-ghost use Rattle.speedate.specs.DayForm.{IsWholeDays, is_day_letter, days_front_or, after_days_or, day_form_or};
+ghost use Rattle.speedate.specs.DayForm.{IsWholeDays, is_day_letter, days_front};
+ghost use Rattle.speedate.specs.DayForm.{after_days, day_form};
 
 use super::unsigned::UnsignedDuration;
 use speedate_base::config::MicrosecondsPrecisionOverflowBehavior as Behavior;
@@ -16,7 +18,7 @@ impl UnsignedDuration {
     /// Parses a duration whose days, the digits at its front, come first, and which begins at `start` of
     /// the whole text: a day and ten hours from `b"1 day, 10:00"`.
     #[inline(always)]
-    #[tactic(auto, unfolding(crate::specs::DayForm::day_form_or))]
+    #[tactic(auto, unfolding(crate::specs::DayForm::day_form), using(crate::proofs::DurationPlaceLemmas::part_rules))]
     pub(super) fn from_days<E: Refusal>(
         bytes: &[u8],
         days: DigitRun,
@@ -26,7 +28,7 @@ impl UnsignedDuration {
         requires length { days.length ≡ run_length bytes.now 0 }
         requires value { days.value ≡ min (run_value bytes.now 0) (2 ^ 64 - 1) }
         requires start { start + length bytes.now + 16 ≤ usize.MAX }
-        ensures answer { result ≡ day_form_or (shifted start E.refusal) behavior bytes.now }
+        ensures answer { result ≡ seen_as (shifted start E.refusal) (day_form behavior bytes.now) }
         ensures placed { IfErr result (E.lies_within (start + length bytes.now)) }
     {
         // Most durations of days end with the letter.
@@ -44,7 +46,7 @@ impl UnsignedDuration {
     /// Parses what follows the days, from `start` of the whole text on, nothing or a clock of fewer than 24
     /// hours, and joins the two.
     #[inline(always)]
-    #[tactic(auto, unfolding(crate::specs::DayForm::after_days_or))]
+    #[tactic(auto, unfolding(crate::specs::DayForm::after_days), using(speedate_base::proofs::RefusalLemmas::seen_then))]
     fn after_days<E: Refusal>(
         rest: &[u8],
         days: u32,
@@ -52,7 +54,8 @@ impl UnsignedDuration {
         behavior: Behavior,
     ) -> Result<Self, E>
         requires { start + length rest.now + 16 ≤ usize.MAX }
-        ensures answer { result ≡ after_days_or (shifted start E.refusal) behavior days rest.now }
+        ensures answer { result
+            ≡ seen_as (shifted start E.refusal) (after_days behavior days rest.now) }
         ensures placed { IfErr result (E.lies_within (start + length rest.now)) }
     {
         if rest.is_empty() {
@@ -93,7 +96,7 @@ fn days_at_front<E: Refusal>(bytes: &[u8], days: DigitRun, start: usize) -> Resu
     requires length { days.length ≡ run_length bytes.now 0 }
     requires value { days.value ≡ min (run_value bytes.now 0) (2 ^ 64 - 1) }
     requires start { start + length bytes.now + 16 ≤ usize.MAX }
-    ensures answer { result ≡ days_front_or (shifted start E.refusal) bytes.now }
+    ensures answer { result ≡ seen_as (shifted start E.refusal) (days_front bytes.now) }
     ensures within { IfOk result (λ days. days.1 ≤ length bytes.now) }
     ensures placed { IfErr result (E.lies_within (start + length bytes.now)) }
 {

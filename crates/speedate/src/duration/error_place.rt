@@ -1,11 +1,10 @@
 //! Where a text that is refused as a duration has its error.
 
-ghost use Rattle.std.specs.Prelude.{◌≡◌, ◌+◌, ◌≤◌, IfErr, IfSome, is_err, is_some, length};
+ghost use Rattle.std.specs.Prelude.{◌≡◌, ◌+◌, ◌≤◌, IfErr, IfSome, length};
 ghost use Rattle.speedate_base.specs.Config.{time_choices};
-ghost use Rattle.speedate_base.specs.Refused.{placed, refused_place};
-ghost use Rattle.speedate_base.specs.Requirement.{first_place, result_map, shifted};
-ghost use Rattle.speedate.specs.Duration.{duration_answer, duration_answer_or, duration_numbers};
-ghost use Rattle.speedate.specs.Duration.{signed_form_or};
+ghost use Rattle.speedate_base.specs.Refused.{from_byte, refused_place};
+ghost use Rattle.speedate_base.specs.Requirement.{first_place};
+ghost use Rattle.speedate.specs.Duration.{◌gives◌, duration_answer, signed_answer};
 ghost use Rattle.speedate.specs.DurationNumbers.{normal_rows};
 ghost use Rattle.speedate.specs.DurationPlace.{amount_numbers, amount_place};
 ghost use Rattle.speedate.specs.IsoParts.{IsIsoRead, bound_test};
@@ -25,9 +24,7 @@ impl Duration {
     ///
     /// It is the place in [the row](docs/GRAMMAR.md#durations) that names the error.
     pub fn error_place(bytes: &[u8], config: &TimeConfig) -> Option<usize>
-        ensures place { result ≡ refused_place (duration_answer_or placed
-            (time_choices config.now).order (time_choices config.now).behavior bytes.now) }
-        ensures refused { is_some result ≡ is_err (duration_answer
+        ensures place { result ≡ refused_place (duration_answer
             (time_choices config.now).order (time_choices config.now).behavior bytes.now) }
         ensures within { IfSome result (λ place. place ≤ length bytes.now) }
     {
@@ -47,7 +44,7 @@ impl Duration {
     /// 4 for `b"P1D1Q"`.
     #[tactic(auto, using(std::proofs::lemmas::List::take_rest))]
     pub fn parse_or_place(bytes: &[u8], config: &TimeConfig) -> Result<Self, Refused>
-        ensures answer { result_map duration_numbers result ≡ duration_answer_or placed
+        ensures answer { result gives duration_answer
             (time_choices config.now).order (time_choices config.now).behavior bytes.now }
         ensures within { IfErr result (λ refused. refused.place ≤ length bytes.now) }
     {
@@ -62,8 +59,7 @@ impl Duration {
     /// Parses a duration, or refuses the text with the place.
     #[tactic(auto, using(std::proofs::lemmas::List::take_rest))]
     fn placed(bytes: &[u8], order: IsoOrder, behavior: Behavior) -> Result<Self, Refused>
-        ensures answer { result_map duration_numbers result
-            ≡ duration_answer_or placed order behavior bytes.now }
+        ensures answer { result gives duration_answer order behavior bytes.now }
         ensures within { IfErr result (λ refused. refused.place ≤ length bytes.now) }
     {
         let (negative, size) = sign(bytes);
@@ -83,8 +79,8 @@ impl Duration {
     ) -> Result<Self, Refused>
         requires read { IsIsoRead order text.now }
         requires room { start + length text.now ≤ usize.MAX }
-        ensures answer { result_map duration_numbers result ≡ signed_form_or (shifted start placed)
-            (amount_place order text.now) positive amount }
+        ensures answer { result gives from_byte start (signed_answer
+            (amount_place order text.now) positive amount) }
         ensures within { IfErr result (λ refused. refused.place ≤ start + length text.now) }
     {
         match Self::with_sign(positive, amount) {
@@ -105,7 +101,7 @@ impl Duration {
 
 /// The place of the error for which a text is refused as a duration.
 fn duration_error_place(bytes: &[u8], order: IsoOrder, behavior: Behavior) -> Option<usize>
-    ensures place { result ≡ refused_place (duration_answer_or placed order behavior bytes.now) }
+    ensures place { result ≡ refused_place (duration_answer order behavior bytes.now) }
     ensures within { IfSome result (λ place. place ≤ length bytes.now) }
 {
     let (_, size) = sign(bytes);

@@ -5,7 +5,7 @@ ghost use Rattle.std.specs.Char.{is_ascii_digit};
 ghost use Rattle.std.specs.List.{list_all};
 ghost use Rattle.speedate_base.specs.Digits.{fraction_value, is_decimal_mark};
 ghost use Rattle.std.specs.Option.{option_map, is_some};
-ghost use Rattle.speedate_base.specs.Refused.{placed};
+ghost use Rattle.speedate_base.specs.Refused.{from_byte, placed, seen_as};
 ghost use Rattle.speedate_base.specs.Requirement.{result_map, shifted, with_size};
 ghost use Rattle.speedate.specs.IsoForm.{Component, TimeDesignator, units, unit_in, fraction_size};
 ghost use Rattle.speedate.specs.IsoForm.{unit_seconds, next_units_after, fraction_seconds};
@@ -160,7 +160,7 @@ pub(super) struct Sums {
 }
 
 impl Sums {
-    ghost use Rattle.speedate.specs.Duration.{iso_from_or, iso_form_or};
+    ghost use Rattle.speedate.specs.Duration.{iso_from, iso_form};
     ghost use Rattle.speedate.specs.IsoParts.{unit_parts, IsUnitOf, sums_parts, item_front_or};
 
     /// Parses all items of a duration, and adds them up. The text ends at `end` of the whole.
@@ -176,7 +176,7 @@ impl Sums {
     ) -> Result<UnsignedDuration, E>
         requires { length body.now ≤ end }
         ensures answer { result
-            ≡ iso_form_or (shifted (end - length body.now) E.refusal) order body.now }
+            ≡ seen_as (shifted (end - length body.now) E.refusal) (iso_form order body.now) }
         ensures placed { IfErr result (E.lies_within end) }
     {
         let none = Sums::none(order);
@@ -205,9 +205,9 @@ impl Sums {
     /// The sums with the short components after a `T`, if a first one begins a text, and what follows them.
     #[inline(always)]
     fn with_short_time(self, text: &[u8]) -> (Self, &[u8])
-        ensures answer { iso_from_or (shifted (length text.now - length result.1.now) placed)
-            (sums_parts result.0) result.1.now
-            ≡ iso_from_or placed (sums_parts self) text.now }
+        ensures answer { from_byte (length text.now - length result.1.now)
+            (iso_from (sums_parts result.0) result.1.now)
+            ≡ iso_from (sums_parts self) text.now }
         ensures within { length result.1.now ≤ length text.now }
     {
         match text {
@@ -221,9 +221,9 @@ impl Sums {
     /// add up.
     #[inline(always)]
     fn with_short_components(self, text: &[u8]) -> (Self, &[u8])
-        ensures answer { iso_from_or (shifted (length text.now - length result.1.now) placed)
-            (sums_parts result.0) result.1.now
-            ≡ iso_from_or placed (sums_parts self) text.now }
+        ensures answer { from_byte (length text.now - length result.1.now)
+            (iso_from (sums_parts result.0) result.1.now)
+            ≡ iso_from (sums_parts self) text.now }
         ensures within { length result.1.now ≤ length text.now }
     {
         let mut sums = self;
@@ -331,7 +331,8 @@ impl Sums {
     fn parse_items<E: Refusal>(self, text: &[u8], end: usize) -> Result<UnsignedDuration, E>
         requires { length text.now ≤ end }
         ensures answer { result
-            ≡ iso_from_or (shifted (end - length text.now) E.refusal) (sums_parts self) text.now }
+            ≡ seen_as (shifted (end - length text.now) E.refusal)
+            (iso_from (sums_parts self) text.now) }
         ensures placed { IfErr result (E.lies_within end) }
     {
         let mut sums = self;

@@ -2,6 +2,7 @@
 
 ghost use Rattle.std.specs.Prelude.{◌≡◌, ℕ, IfOk, List};
 ghost use Rattle.speedate_base.specs.Config.{time_choices};
+ghost use Rattle.speedate_base.specs.Refused.{without_place};
 ghost use Rattle.speedate_base.specs.Requirement.{result_map};
 ghost use Rattle.speedate_civil.specs.Base.{Behavior, IsoOrder};
 ghost use Rattle.speedate.specs.Duration.{duration_numbers, ◌gives◌, duration_answer};
@@ -73,7 +74,8 @@ impl Duration {
     /// - `ExtraCharacters` if something follows the clock.
     #[inline(always)]
     pub fn parse_str(text: &str) -> Result<Self, ParseError>
-        ensures answer { result gives duration_answer IsoOrder.Lax Behavior.Error text.now }
+        ensures answer { result
+            gives without_place (duration_answer IsoOrder.Lax Behavior.Error text.now) }
     {
         Self::parse_bytes(text.as_bytes())
     }
@@ -86,7 +88,8 @@ impl Duration {
     /// Those of [`Duration::parse_str`], in its order.
     #[inline(always)]
     pub fn parse_bytes(bytes: &[u8]) -> Result<Self, ParseError>
-        ensures answer { result gives duration_answer IsoOrder.Lax Behavior.Error bytes.now }
+        ensures answer { result
+            gives without_place (duration_answer IsoOrder.Lax Behavior.Error bytes.now) }
     {
         Self::parse::<0>(
             bytes,
@@ -118,8 +121,8 @@ impl Duration {
     /// designator of its side, and before sums that are too large.
     #[inline(always)]
     pub fn parse_bytes_with_config(bytes: &[u8], config: &TimeConfig) -> Result<Self, ParseError>
-        ensures answer { result gives duration_answer (time_choices config.now).order
-            (time_choices config.now).behavior bytes.now }
+        ensures answer { result gives without_place (duration_answer
+            (time_choices config.now).order (time_choices config.now).behavior bytes.now) }
         ensures grammar { IsGrammarAnswer (time_choices config.now).order
             (time_choices config.now).behavior bytes.now (result_map duration_numbers result) }
         ensures order { IsAnswerInOrder (time_choices config.now).order
@@ -128,8 +131,8 @@ impl Duration {
             → IsAmountOf bytes.now items (duration_numbers value)) }
         ensures exchanged { (other : List ℕ) → (time_choices config.now).order ≡ IsoOrder.Lax
             → AreExchanged bytes.now other
-            → result gives duration_answer (time_choices config.now).order
-            (time_choices config.now).behavior other }
+            → result gives without_place (duration_answer (time_choices config.now).order
+            (time_choices config.now).behavior other) }
     {
         Self::parse::<0>(
             bytes,
@@ -150,7 +153,7 @@ impl Duration {
         order: IsoOrder,
         behavior: MicrosecondsPrecisionOverflowBehavior,
     ) -> Result<Self, ParseError>
-        ensures answer { result gives duration_answer order behavior bytes.now }
+        ensures answer { result gives without_place (duration_answer order behavior bytes.now) }
     {
         let (negative, size) = sign(bytes);
         let rest = &bytes[size..];
@@ -183,7 +186,7 @@ impl FromStr for Duration {
     type Err = ParseError;
 
     ghost from_str_gives = { λ text result.
-        result gives duration_answer IsoOrder.Lax Behavior.Error text };
+        result gives without_place (duration_answer IsoOrder.Lax Behavior.Error text) };
 
     /// The answer of [`Duration::parse_str`]: `"PT90M".parse()` gives an hour and a half.
     ///

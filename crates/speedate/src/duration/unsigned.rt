@@ -3,10 +3,11 @@
 ghost use Rattle.std.specs.Prelude.{◌≡◌, ◌+◌, ◌-◌, ◌^◌, ◌≤◌, IfErr, length, min};
 ghost use Rattle.std.specs.List.{list_any};
 ghost use Rattle.speedate_base.specs.Digits.{run_length, run_value};
+ghost use Rattle.speedate_base.specs.Refused.{seen_as};
 ghost use Rattle.speedate_base.specs.Requirement.{shifted};
-ghost use Rattle.speedate.specs.ClockForm.{clock_form_or};
+ghost use Rattle.speedate.specs.ClockForm.{clock_form};
 ghost use Rattle.speedate.specs.DayForm.{is_day_letter};
-ghost use Rattle.speedate.specs.Duration.{has_days, days_or_clock_or, unsigned_answer_or};
+ghost use Rattle.speedate.specs.Duration.{has_days, days_or_clock, unsigned_answer};
 
 use super::days::is_day_letter;
 use super::iso::Sums;
@@ -27,7 +28,7 @@ impl UnsignedDuration {
     /// Parses a duration after its sign, which begins at `start` of the whole text, in the form that its
     /// text has.
     #[inline(always)]
-    #[tactic(auto, unfolding(crate::specs::Duration::unsigned_answer_or))]
+    #[tactic(auto, unfolding(crate::specs::Duration::unsigned_answer), using(crate::proofs::DurationPlaceLemmas::part_rules))]
     pub(super) fn parse<E: Refusal, const COPY: u8>(
         bytes: &[u8],
         order: IsoOrder,
@@ -36,7 +37,7 @@ impl UnsignedDuration {
     ) -> Result<Self, E>
         requires { start + length bytes.now + 16 ≤ usize.MAX }
         ensures answer { result
-            ≡ unsigned_answer_or (shifted start E.refusal) order behavior bytes.now }
+            ≡ seen_as (shifted start E.refusal) (unsigned_answer order behavior bytes.now) }
         ensures placed { IfErr result (E.lies_within (start + length bytes.now)) }
     {
         if byte_at(bytes, 0) == b'P' {
@@ -47,14 +48,15 @@ impl UnsignedDuration {
 
     /// Parses a duration of days, or one that a clock shows, which begins at `start` of the whole text.
     #[inline(always)]
-    #[tactic(auto, unfolding(crate::specs::Duration::days_or_clock_or))]
+    #[tactic(auto, unfolding(crate::specs::Duration::days_or_clock))]
     fn days_or_clock<E: Refusal, const COPY: u8>(
         bytes: &[u8],
         start: usize,
         behavior: Behavior,
     ) -> Result<Self, E>
         requires { start + length bytes.now + 16 ≤ usize.MAX }
-        ensures answer { result ≡ days_or_clock_or (shifted start E.refusal) behavior bytes.now }
+        ensures answer { result
+            ≡ seen_as (shifted start E.refusal) (days_or_clock behavior bytes.now) }
         ensures placed { IfErr result (E.lies_within (start + length bytes.now)) }
     {
         if bytes.is_empty() {
@@ -88,7 +90,7 @@ impl UnsignedDuration {
         requires length { hours.length ≡ run_length bytes.now 0 }
         requires value { hours.value ≡ min (run_value bytes.now 0) (2 ^ 64 - 1) }
         requires start { start + length bytes.now + 16 ≤ usize.MAX }
-        ensures answer { result ≡ clock_form_or (shifted start E.refusal) behavior bytes.now }
+        ensures answer { result ≡ seen_as (shifted start E.refusal) (clock_form behavior bytes.now) }
         ensures placed { IfErr result (E.lies_within (start + length bytes.now)) }
     {
         Self::from_clock(bytes, hours, start, behavior)

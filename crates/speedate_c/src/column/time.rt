@@ -2,7 +2,7 @@
 
 ghost use Rattle.std.specs.Option.{option_map};
 ghost use Rattle.std.specs.Prelude.{MatchOption, if◌then◌else◌, ◌==◌, ◌≡◌};
-ghost use Rattle.speedate.specs.Column.{time_of_line, time_place};
+ghost use Rattle.speedate.specs.Column.{time_of_line};
 ghost use Rattle.speedate.specs.Config.{choices};
 ghost use Rattle.speedate_c.specs.Code.{config_out_of_range, success};
 ghost use Rattle.speedate_c.specs.Column.{IsColumn, chosen_for_time_offsets};
@@ -21,7 +21,7 @@ impl ColumnChoices {
     /// The parser of times, if the column has one.
     #[inline(always)]
     pub(super) fn time_parser(&self, config: &DateTimeConfig) -> Option<TimeParser>
-        ensures parses { option_map (λ parser. (time_of_line parser, time_place parser)) result
+        ensures parses { option_map time_of_line result
             ≡ time_by_parser self.now.parser (choices config.now) }
     {
         let time_config = config.time_config;

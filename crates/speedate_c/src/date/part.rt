@@ -3,8 +3,7 @@
 ghost use Rattle.std.specs.Prelude.{◌≡◌};
 ghost use Rattle.speedate.specs.Requirement.{result_map, with_size};
 ghost use Rattle.speedate.specs.Config.{choices};
-ghost use Rattle.speedate.specs.Date.{date_or_timestamp_or, ymd};
-ghost use Rattle.speedate.specs.Refused.{placed};
+ghost use Rattle.speedate.specs.Date.{date_or_timestamp, ymd, ◌gives◌};
 ghost use Rattle.speedate_c.specs.Code.{config_out_of_range};
 ghost use Rattle.speedate_c.specs.Config.{choices_of};
 ghost use Rattle.speedate_c.specs.Date.{date_reading, shown_date};
@@ -95,8 +94,7 @@ fn parse_form(
 /// Parses a date, or the date of a timestamp in its place, by the unit of a configuration of date-times.
 #[inline(always)]
 fn date_or_timestamp(text: &[u8], config: &DateTimeConfig) -> Result<Date, Refused>
-    ensures answer { result_map ymd result
-        ≡ date_or_timestamp_or placed (choices config.now).unit text.now }
+    ensures answer { result gives date_or_timestamp (choices config.now).unit text.now }
 {
     let config = DateConfig {
         timestamp_unit: config.timestamp_unit,

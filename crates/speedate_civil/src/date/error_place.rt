@@ -1,10 +1,9 @@
 //! Where a text that is refused as a date has its error.
 
-ghost use Rattle.std.specs.Prelude.{◌≡◌, ◌≤◌, IfErr, IfOk, IfSome, is_err, is_some, length};
-ghost use Rattle.speedate_base.specs.Requirement.{result_map, with_size};
-ghost use Rattle.speedate_base.specs.Refused.{placed, refused_place};
-ghost use Rattle.speedate_civil.specs.Date.{date_answer, date_answer_or, date_front, date_front_or};
-ghost use Rattle.speedate_civil.specs.Date.{date_or_timestamp, date_or_timestamp_or, ymd};
+ghost use Rattle.std.specs.Prelude.{◌≡◌, ◌≤◌, IfErr, IfOk, IfSome, length};
+ghost use Rattle.speedate_base.specs.Refused.{refused_place};
+ghost use Rattle.speedate_civil.specs.Date.{◌gives◌, ◌gives_front◌, date_answer, date_front};
+ghost use Rattle.speedate_civil.specs.Date.{date_or_timestamp};
 
 use super::Date;
 use speedate_base::config::DateConfig;
@@ -16,11 +15,10 @@ impl Date {
     ///
     /// It is the place in [the row](docs/GRAMMAR.md#date) that names the error; of a timestamp,
     /// which is refused as a whole, it is 0.
+    #[tactic(auto, using(speedate_base::proofs::RefusalLemmas::place_rules))]
     pub fn error_place(bytes: &[u8], config: &DateConfig) -> Option<usize>
         ensures place { result ≡ refused_place
-            (date_or_timestamp_or placed config.now.timestamp_unit bytes.now) }
-        ensures refused { is_some result
-            ≡ is_err (date_or_timestamp config.now.timestamp_unit bytes.now) }
+            (date_or_timestamp config.now.timestamp_unit bytes.now) }
         ensures within { IfSome result (λ place. place ≤ length bytes.now) }
     {
         Refused::place_of(Self::whole_or_timestamp(bytes, config))
@@ -30,9 +28,9 @@ impl Date {
     /// `None` for a text that it accepts: 10, where the date ends, for `b"2020-01-01T12:13"`.
     ///
     /// It is the place in [the row](docs/GRAMMAR.md#date) that names the error.
+    #[tactic(auto, using(speedate_base::proofs::RefusalLemmas::place_rules))]
     pub fn error_place_rfc3339(bytes: &[u8]) -> Option<usize>
-        ensures place { result ≡ refused_place (date_answer_or placed bytes.now) }
-        ensures refused { is_some result ≡ is_err (date_answer bytes.now) }
+        ensures place { result ≡ refused_place (date_answer bytes.now) }
         ensures within { IfSome result (λ place. place ≤ length bytes.now) }
     {
         Refused::place_of(Self::whole(bytes))
@@ -42,9 +40,9 @@ impl Date {
     /// text that begins with a date: 9, the text's end, for `b"2026-11-2"`.
     ///
     /// It is the place in [the row](docs/GRAMMAR.md#date) that names the error.
+    #[tactic(auto, using(speedate_base::proofs::RefusalLemmas::place_rules))]
     pub fn error_place_front(bytes: &[u8]) -> Option<usize>
-        ensures place { result ≡ refused_place (date_front_or placed bytes.now) }
-        ensures refused { is_some result ≡ is_err (date_front bytes.now) }
+        ensures place { result ≡ refused_place (date_front bytes.now) }
         ensures within { IfSome result (λ place. place ≤ length bytes.now) }
     {
         Refused::place_of(Self::front(bytes))
@@ -57,9 +55,10 @@ impl Date {
     ///
     /// Those of [`Date::parse_bytes_with_config`], each with its place: `OutOfRangeMonth` and 5 for
     /// `b"2020-13-01"`.
+    #[tactic(auto, using(speedate_base::proofs::RefusalLemmas::seen_placed))]
     pub fn parse_or_place(bytes: &[u8], config: &DateConfig) -> Result<Self, Refused>
-        ensures answer { result_map ymd result
-            ≡ date_or_timestamp_or placed config.now.timestamp_unit bytes.now }
+        ensures answer { result
+            gives date_or_timestamp config.now.timestamp_unit bytes.now }
         ensures within { IfErr result (λ refused. refused.place ≤ length bytes.now) }
     {
         Self::whole_or_timestamp(bytes, config)
@@ -73,7 +72,7 @@ impl Date {
     /// Those of [`Date::parse_bytes_rfc3339`], each with its place: `ExtraCharacters` and 10 for
     /// `b"2020-01-01T12:13"`.
     pub fn parse_or_place_rfc3339(bytes: &[u8]) -> Result<Self, Refused>
-        ensures answer { result_map ymd result ≡ date_answer_or placed bytes.now }
+        ensures answer { result gives date_answer bytes.now }
         ensures within { IfErr result (λ refused. refused.place ≤ length bytes.now) }
     {
         Self::whole(bytes)
@@ -86,7 +85,7 @@ impl Date {
     ///
     /// Those of [`Date::parse_front`], each with its place: `TooShort` and 9 for `b"2026-11-2"`.
     pub fn parse_or_place_front(bytes: &[u8]) -> Result<(Self, usize), Refused>
-        ensures answer { result_map (with_size ymd) result ≡ date_front_or placed bytes.now }
+        ensures answer { result gives_front date_front bytes.now }
         ensures within { IfErr result (λ refused. refused.place ≤ length bytes.now) }
         ensures size { IfOk result (λ front. front.1 ≤ length bytes.now) }
     {

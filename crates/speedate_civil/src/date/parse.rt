@@ -4,11 +4,14 @@ ghost use Rattle.std.specs.Prelude.{◌≡◌, ◌≤◌, ◌↔◌, true, Err, 
 ghost use Rattle.speedate_civil.specs.Base.{TimestampUnit};
 ghost use Rattle.speedate_base.specs.Ascii.{HasNoControl};
 ghost use Rattle.speedate_base.specs.Digits.{eight_at, fit_length, two_digits_at, two_digit_value};
-ghost use Rattle.speedate_base.specs.Numbers.{NoNumber, number_answer};
+ghost use Rattle.std.specs.Option.{option_map};
+ghost use Rattle.speedate_base.specs.Numbers.{NoNumber, number_answer, whole_number};
+ghost use Rattle.speedate_base.specs.Requirement.{or_number};
 ghost use Rattle.speedate_civil.specs.Calendar.{Ymd};
-ghost use Rattle.speedate_civil.specs.Date.{ymd, date_front, date_front_or, date_answer};
-ghost use Rattle.speedate_civil.specs.Date.{date_answer_or, date_or_timestamp, ◌gives◌};
-ghost use Rattle.speedate_civil.specs.Date.{date_or_timestamp_or, ◌gives_front◌};
+ghost use Rattle.speedate_base.specs.Refused.{seen_as, without_place};
+ghost use Rattle.speedate_civil.specs.Date.{ymd, date_front, date_answer, date_number_answer};
+ghost use Rattle.speedate_civil.specs.Date.{date_or_timestamp};
+ghost use Rattle.speedate_civil.specs.Date.{◌gives◌, ◌gives_front◌};
 ghost use Rattle.speedate_civil.specs.ParserParts.{may_be_number};
 
 use super::{Date, TEXT_LENGTH, is_day};
@@ -33,7 +36,7 @@ impl Date {
     /// For a timestamp the errors of [this table](docs/GRAMMAR.md#timestamps), for any other text
     /// the errors of [a date](docs/GRAMMAR.md#date), in the order of the rows.
     pub fn parse_str(text: &str) -> Result<Self, ParseError>
-        ensures answer { result gives date_or_timestamp TimestampUnit.Infer text.now }
+        ensures answer { result gives without_place (date_or_timestamp TimestampUnit.Infer text.now) }
     {
         Self::parse_bytes(text.as_bytes())
     }
@@ -46,7 +49,7 @@ impl Date {
     /// For a timestamp the errors of [this table](docs/GRAMMAR.md#timestamps), for any other text
     /// the errors of [a date](docs/GRAMMAR.md#date), in the order of the rows.
     pub fn parse_bytes(bytes: &[u8]) -> Result<Self, ParseError>
-        ensures answer { result gives date_or_timestamp TimestampUnit.Infer bytes.now }
+        ensures answer { result gives without_place (date_or_timestamp TimestampUnit.Infer bytes.now) }
     {
         Self::parse_bytes_with_config(bytes, &DateConfig::default())
     }
@@ -59,7 +62,7 @@ impl Date {
     /// For a timestamp the errors of [this table](docs/GRAMMAR.md#timestamps), for any other text
     /// the errors of [a date](docs/GRAMMAR.md#date), in the order of the rows.
     pub fn parse_str_with_config(text: &str, config: &DateConfig) -> Result<Self, ParseError>
-        ensures answer { result gives date_or_timestamp config.now.timestamp_unit text.now }
+        ensures answer { result gives without_place (date_or_timestamp config.now.timestamp_unit text.now) }
     {
         Self::parse_bytes_with_config(text.as_bytes(), config)
     }
@@ -73,7 +76,7 @@ impl Date {
     /// the errors of [a date](docs/GRAMMAR.md#date), in the order of the rows.
     #[inline(always)]
     pub fn parse_bytes_with_config(bytes: &[u8], config: &DateConfig) -> Result<Self, ParseError>
-        ensures answer { result gives date_or_timestamp config.now.timestamp_unit bytes.now }
+        ensures answer { result gives without_place (date_or_timestamp config.now.timestamp_unit bytes.now) }
     {
         Self::whole_or_timestamp(bytes, config)
     }
@@ -93,7 +96,7 @@ impl Date {
     /// - `OutOfRangeDay` if the month does not have this day;
     /// - `ExtraCharacters` if the text has more than ten bytes.
     pub fn parse_str_rfc3339(text: &str) -> Result<Self, ParseError>
-        ensures answer { result gives date_answer text.now }
+        ensures answer { result gives without_place (date_answer text.now) }
     {
         Self::parse_bytes_rfc3339(text.as_bytes())
     }
@@ -106,7 +109,7 @@ impl Date {
     /// Those of [`Date::parse_str_rfc3339`], in its order.
     #[inline]
     pub fn parse_bytes_rfc3339(bytes: &[u8]) -> Result<Self, ParseError>
-        ensures answer { result gives date_answer bytes.now }
+        ensures answer { result gives without_place (date_answer bytes.now) }
         ensures no_number { OnOk result (number_answer bytes.now ≡ NoNumber) }
     {
         Self::whole(bytes)
@@ -121,7 +124,7 @@ impl Date {
     /// Those of [`Date::parse_str_rfc3339`], in its order, except `ExtraCharacters`.
     #[inline]
     pub fn parse_front(bytes: &[u8]) -> Result<(Self, usize), ParseError>
-        ensures answer { result gives_front date_front bytes.now }
+        ensures answer { result gives_front without_place (date_front bytes.now) }
         ensures within { IfOk result (λ front. front.1 ≤ length bytes.now) }
         ensures whole { (date : Ymd)
             → (date_answer bytes.now ≡ Ok date) ↔ (result gives_front Ok (date, length bytes.now)) }
@@ -136,7 +139,7 @@ impl Date {
     /// that the compiler inlines it by its size.
     #[inline]
     pub(crate) fn front_in_date_time<E: Refusal>(bytes: &[u8]) -> Result<(Self, usize), E>
-        ensures answer { result gives_front date_front_or E.refusal bytes.now }
+        ensures answer { result gives_front seen_as E.refusal (date_front bytes.now) }
         ensures within { IfOk result (λ front. front.1 ≤ length bytes.now) }
         ensures placed { IfErr result (E.lies_within (length bytes.now)) }
     {
@@ -146,7 +149,7 @@ impl Date {
     /// Parses the date that takes all the bytes.
     #[inline(always)]
     pub(super) fn whole<E: Refusal>(bytes: &[u8]) -> Result<Self, E>
-        ensures answer { result gives date_answer_or E.refusal bytes.now }
+        ensures answer { result gives seen_as E.refusal (date_answer bytes.now) }
         ensures placed { IfErr result (E.lies_within (length bytes.now)) }
     {
         let (date, size) = Self::front::<E>(bytes)?;
@@ -159,7 +162,7 @@ impl Date {
     /// Parses the date at the front of a text, and how many bytes it takes, whatever follows it.
     #[inline(always)]
     pub(super) fn front<E: Refusal>(bytes: &[u8]) -> Result<(Self, usize), E>
-        ensures answer { result gives_front date_front_or E.refusal bytes.now }
+        ensures answer { result gives_front seen_as E.refusal (date_front bytes.now) }
         ensures within { IfOk result (λ front. front.1 ≤ length bytes.now) }
         ensures placed { IfErr result (E.lies_within (length bytes.now)) }
     {
@@ -183,7 +186,7 @@ impl Date {
     pub(crate) fn with_month<E: Refusal>(bytes: &[u8]) -> Result<(Self, usize), E>
         requires long { 10 ≤ length bytes.now }
         requires looks { 8 ≤ fit_length (codes "0000-00-") (eight_at bytes.now 0) }
-        ensures answer { result gives_front date_front_or E.refusal bytes.now }
+        ensures answer { result gives_front seen_as E.refusal (date_front bytes.now) }
         ensures within { IfOk result (λ front. front.1 ≤ length bytes.now) }
         ensures placed { IfErr result (E.lies_within (length bytes.now)) }
     {
@@ -226,12 +229,13 @@ impl Date {
 
     /// Parses the date, or the timestamp, that takes all the bytes.
     #[inline(always)]
+    #[tactic(auto, using(speedate_base::proofs::RefusalLemmas::seen_number))]
     pub(super) fn whole_or_timestamp<E: Refusal>(
         bytes: &[u8],
         config: &DateConfig,
     ) -> Result<Self, E>
         ensures answer { result
-            gives date_or_timestamp_or E.refusal config.now.timestamp_unit bytes.now }
+            gives seen_as E.refusal (date_or_timestamp config.now.timestamp_unit bytes.now) }
         ensures placed { IfErr result (E.lies_within (length bytes.now)) }
     {
         match Self::whole::<E>(bytes) {
@@ -242,10 +246,11 @@ impl Date {
 
     /// Parses the timestamp that the bytes are, which are refused so as a date.
     fn parse_timestamp<E: Refusal>(bytes: &[u8], refusal: E, config: &DateConfig) -> Result<Self, E>
-        requires refused { date_answer_or E.refusal bytes.now ≡ Err refusal }
+        requires refused { seen_as E.refusal (date_answer bytes.now) ≡ Err refusal }
         requires placed { E.lies_within (length bytes.now) refusal }
-        ensures answer { result
-            gives date_or_timestamp_or E.refusal config.now.timestamp_unit bytes.now }
+        ensures answer { result gives or_number (option_map (seen_as E.refusal)
+            (date_number_answer config.now.timestamp_unit (whole_number bytes.now)))
+            (Err refusal) }
         ensures placed { IfErr result (E.lies_within (length bytes.now)) }
     {
         if !may_be_number(refusal.fault()) {
@@ -265,7 +270,7 @@ impl FromStr for Date {
     type Err = ParseError;
 
     ghost from_str_gives = { λ text result.
-        result gives date_or_timestamp TimestampUnit.Infer text };
+        result gives without_place (date_or_timestamp TimestampUnit.Infer text) };
 
     /// The answer of [`Date::parse_str`]: `"2020-02-29".parse()` gives 29 February 2020.
     ///

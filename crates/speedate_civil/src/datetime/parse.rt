@@ -10,14 +10,15 @@ ghost use Rattle.speedate_base.specs.Requirement.{first_fault_or, first_place, f
 ghost use Rattle.speedate_base.specs.Requirement.{result_map, shifted, with_size};
 ghost use Rattle.speedate_civil.specs.Base.{Behavior, TimestampUnit};
 ghost use Rattle.speedate_civil.specs.DateTime.{DateAndTime, date_and_time, date_time_answer};
-ghost use Rattle.speedate_civil.specs.DateTime.{date_time_answer_or, date_time_by_config};
-ghost use Rattle.speedate_civil.specs.DateTime.{date_time_by_config_or, date_time_front};
-ghost use Rattle.speedate_civil.specs.DateTime.{date_time_front_or, date_time_or_timestamp};
+ghost use Rattle.speedate_civil.specs.DateTime.{date_time_by_config};
+ghost use Rattle.speedate_civil.specs.DateTime.{date_time_front};
+ghost use Rattle.speedate_civil.specs.DateTime.{date_time_or_timestamp};
 ghost use Rattle.speedate_civil.specs.DateTime.{is_separator, separator_table, ◌gives_front◌};
 ghost use Rattle.speedate_civil.specs.DateTime.{◌gives◌};
 ghost use Rattle.speedate_civil.specs.Strict.{IsDateTime, strict_date_time};
-ghost use Rattle.speedate_civil.specs.Strict.{strict_date_time_answer, strict_date_time_answer_or};
-ghost use Rattle.speedate_civil.specs.Time.{time_front_or, time_of_day};
+ghost use Rattle.speedate_civil.specs.Strict.{strict_date_time_answer};
+ghost use Rattle.speedate_civil.specs.Time.{time_front, time_of_day};
+ghost use Rattle.speedate_base.specs.Refused.{first_refused_or, from_byte, seen_as, without_place};
 
 use super::DateTime;
 use crate::date::Date;
@@ -51,8 +52,8 @@ impl DateTime {
     /// [a time](docs/GRAMMAR.md#time).
     #[inline(always)]
     pub fn parse_str(text: &str) -> Result<Self, ParseError>
-        ensures answer { result gives date_time_or_timestamp TimestampUnit.Infer Behavior.Error None
-            text.now }
+        ensures answer { result gives without_place (date_time_or_timestamp TimestampUnit.Infer Behavior.Error None
+            text.now) }
         ensures minutes { IfOk result (λ value. IsWholeMinutes value.time.tz_offset) }
     {
         Self::parse_bytes(text.as_bytes())
@@ -66,8 +67,8 @@ impl DateTime {
     /// Those of [`DateTime::parse_str`], in its order.
     #[inline(always)]
     pub fn parse_bytes(bytes: &[u8]) -> Result<Self, ParseError>
-        ensures answer { result gives date_time_or_timestamp TimestampUnit.Infer Behavior.Error None
-            bytes.now }
+        ensures answer { result gives without_place (date_time_or_timestamp TimestampUnit.Infer Behavior.Error None
+            bytes.now) }
         ensures minutes { IfOk result (λ value. IsWholeMinutes value.time.tz_offset) }
     {
         Self::parse_bytes_with_config(bytes, &DateTimeConfig::default())
@@ -88,7 +89,7 @@ impl DateTime {
     /// `MillisecondFractionTooLong` or `MicrosecondFractionTooLong`.
     #[inline(always)]
     pub fn parse_str_with_config(text: &str, config: &DateTimeConfig) -> Result<Self, ParseError>
-        ensures answer { result gives date_time_by_config config.now text.now }
+        ensures answer { result gives without_place (date_time_by_config config.now text.now) }
         ensures minutes { IsWholeMinutes (choices config.now).offset
             → IfOk result (λ value. IsWholeMinutes value.time.tz_offset) }
     {
@@ -107,7 +108,7 @@ impl DateTime {
         bytes: &[u8],
         config: &DateTimeConfig,
     ) -> Result<Self, ParseError>
-        ensures answer { result gives date_time_by_config config.now bytes.now }
+        ensures answer { result gives without_place (date_time_by_config config.now bytes.now) }
         ensures minutes { IsWholeMinutes (choices config.now).offset
             → IfOk result (λ value. IsWholeMinutes value.time.tz_offset) }
     {
@@ -129,7 +130,7 @@ impl DateTime {
     /// - those of [`Time::parse_str`] for what follows the separator.
     #[inline(always)]
     pub fn parse_str_rfc3339(text: &str) -> Result<Self, ParseError>
-        ensures answer { result gives date_time_answer Behavior.Error text.now }
+        ensures answer { result gives without_place (date_time_answer Behavior.Error text.now) }
         ensures minutes { IfOk result (λ value. IsWholeMinutes value.time.tz_offset) }
     {
         Self::parse_bytes_rfc3339(text.as_bytes())
@@ -146,7 +147,7 @@ impl DateTime {
     /// [a time](docs/GRAMMAR.md#time).
     #[inline(always)]
     pub fn parse_bytes_rfc3339(bytes: &[u8]) -> Result<Self, ParseError>
-        ensures answer { result gives date_time_answer Behavior.Error bytes.now }
+        ensures answer { result gives without_place (date_time_answer Behavior.Error bytes.now) }
         ensures minutes { IfOk result (λ value. IsWholeMinutes value.time.tz_offset) }
         ensures no_number { OnOk result (number_answer bytes.now ≡ NoNumber) }
     {
@@ -168,8 +169,8 @@ impl DateTime {
         bytes: &[u8],
         config: &TimeConfig,
     ) -> Result<Self, ParseError>
-        ensures answer { result gives date_time_answer (time_choices config.now).behavior
-            bytes.now }
+        ensures answer { result gives without_place (date_time_answer (time_choices config.now).behavior
+            bytes.now) }
         ensures minutes { IfOk result (λ value. IsWholeMinutes value.time.tz_offset) }
         ensures no_number { OnOk result (number_answer bytes.now ≡ NoNumber) }
     {
@@ -196,7 +197,7 @@ impl DateTime {
         bytes: &[u8],
         behavior: MicrosecondsPrecisionOverflowBehavior,
     ) -> Result<Self, ParseError>
-        ensures answer { result gives strict_date_time_answer behavior bytes.now }
+        ensures answer { result gives without_place (strict_date_time_answer behavior bytes.now) }
         ensures standard { IsOk result ↔ IsDateTime behavior bytes.now }
         ensures minutes { IfOk result (λ value. IsWholeMinutes value.time.tz_offset) }
     {
@@ -216,8 +217,8 @@ impl DateTime {
     /// [a time](docs/GRAMMAR.md#time) except `InvalidCharTzSign` and `ExtraCharacters`.
     #[inline(always)]
     pub fn parse_front(bytes: &[u8], config: &TimeConfig) -> Result<(Self, usize), ParseError>
-        ensures answer { result gives_front date_time_front (time_choices config.now).behavior
-            bytes.now }
+        ensures answer { result gives_front without_place (date_time_front (time_choices config.now).behavior
+            bytes.now) }
         ensures within { IfOk result (λ front. front.1 ≤ length bytes.now) }
         ensures whole { (value : DateAndTime)
             → (date_time_answer (time_choices config.now).behavior bytes.now ≡ Ok value)
@@ -234,11 +235,12 @@ impl DateTime {
 
     /// Parses the date-time that takes all the bytes.
     #[inline(always)]
+    #[tactic(auto, using(speedate_base::proofs::RefusalLemmas::seen_then))]
     pub(super) fn parse_whole<E: Refusal>(
         bytes: &[u8],
         behavior: MicrosecondsPrecisionOverflowBehavior,
     ) -> Result<Self, E>
-        ensures answer { result gives date_time_answer_or E.refusal behavior bytes.now }
+        ensures answer { result gives seen_as E.refusal (date_time_answer behavior bytes.now) }
         ensures placed { IfErr result (E.lies_within (length bytes.now)) }
         ensures minutes { IfOk result (λ value. IsWholeMinutes value.time.tz_offset) }
         ensures no_number { OnOk result (number_answer bytes.now ≡ NoNumber) }
@@ -252,11 +254,12 @@ impl DateTime {
 
     /// Parses the date-time of RFC 3339 that takes all the bytes.
     #[inline(always)]
+    #[tactic(auto, using(speedate_base::proofs::RefusalLemmas::seen_then))]
     pub(super) fn strict<E: Refusal>(
         bytes: &[u8],
         behavior: MicrosecondsPrecisionOverflowBehavior,
     ) -> Result<Self, E>
-        ensures answer { result gives strict_date_time_answer_or E.refusal behavior bytes.now }
+        ensures answer { result gives seen_as E.refusal (strict_date_time_answer behavior bytes.now) }
         ensures placed { IfErr result (E.lies_within (length bytes.now)) }
         ensures minutes { IfOk result (λ value. IsWholeMinutes value.time.tz_offset) }
     {
@@ -267,11 +270,12 @@ impl DateTime {
 
     /// Parses the date-time at the front of a text, and how many bytes it takes, whatever follows it.
     #[inline(always)]
+    #[tactic(auto, using(speedate_base::proofs::RefusalLemmas::seen_then))]
     pub(super) fn front<E: Refusal>(
         bytes: &[u8],
         behavior: MicrosecondsPrecisionOverflowBehavior,
     ) -> Result<(Self, usize), E>
-        ensures answer { result gives_front date_time_front_or E.refusal behavior bytes.now }
+        ensures answer { result gives_front seen_as E.refusal (date_time_front behavior bytes.now) }
         ensures placed { IfErr result (E.lies_within (length bytes.now)) }
         ensures within { IfOk result (λ front. front.1 ≤ length bytes.now) }
         ensures minutes { IfOk result (λ front. IsWholeMinutes front.0.time.tz_offset) }
@@ -284,11 +288,12 @@ impl DateTime {
 
     /// Parses the date-time, or the timestamp, that takes all the bytes.
     #[inline(always)]
+    #[tactic(auto, using(speedate_base::proofs::RefusalLemmas::seen_number))]
     pub(super) fn whole_or_timestamp<E: Refusal>(
         bytes: &[u8],
         config: &DateTimeConfig,
     ) -> Result<Self, E>
-        ensures answer { result gives date_time_by_config_or E.refusal config.now bytes.now }
+        ensures answer { result gives seen_as E.refusal (date_time_by_config config.now bytes.now) }
         ensures placed { IfErr result (E.lies_within (length bytes.now)) }
         ensures minutes { IsWholeMinutes (choices config.now).offset
             → IfOk result (λ value. IsWholeMinutes value.time.tz_offset) }
@@ -305,7 +310,7 @@ impl FromStr for DateTime {
     type Err = ParseError;
 
     ghost from_str_gives = { λ text result.
-        result gives date_time_or_timestamp TimestampUnit.Infer Behavior.Error None text };
+        result gives without_place (date_time_or_timestamp TimestampUnit.Infer Behavior.Error None text) };
 
     /// The answer of [`DateTime::parse_str`]: `"1654560000".parse()` gives midnight on 7 June 2022.
     ///
@@ -326,8 +331,8 @@ fn time_after_date<E: Refusal>(
 ) -> Result<(Time, usize), E>
     requires { 10 ≤ length bytes.now }
     ensures answer { result_map (with_size time_of_day) result
-        ≡ first_refusal_or E.refusal (separator_table bytes.now)
-        (time_front_or (shifted 11 E.refusal) behavior (drop 11 bytes.now)) }
+        ≡ seen_as E.refusal (first_refused_or (separator_table bytes.now)
+        (from_byte 11 (time_front behavior (drop 11 bytes.now)))) }
     ensures placed { IfErr result (E.lies_within (length bytes.now)) }
     ensures within { IfOk result (λ front. TIME_PLACE + front.1 ≤ length bytes.now) }
     ensures minutes { IfOk result (λ front. IsWholeMinutes front.0.tz_offset) }

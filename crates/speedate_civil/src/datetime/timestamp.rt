@@ -11,15 +11,17 @@ ghost use Rattle.speedate_base.specs.Timestamp.{IsInYears, decimal_instant, deci
 ghost use Rattle.speedate_base.specs.Timestamp.{decimal_row, first_second, last_second};
 ghost use Rattle.speedate_base.specs.Timestamp.{unix_instant, unix_row};
 ghost use Rattle.speedate_civil.specs.Base.{TimestampUnit};
-ghost use Rattle.speedate_civil.specs.DateTime.{IsShownAt, date_and_time, date_time_answer_or};
-ghost use Rattle.speedate_civil.specs.DateTime.{date_time_at, date_time_by_config_or};
-ghost use Rattle.speedate_civil.specs.DateTime.{date_time_decimal_answer, decimal_instant_or};
+ghost use Rattle.speedate_civil.specs.DateTime.{IsShownAt, date_and_time, date_time_answer};
+ghost use Rattle.speedate_civil.specs.DateTime.{date_time_at, date_time_by_config};
+ghost use Rattle.speedate_civil.specs.DateTime.{date_time_decimal_answer, decimal_instant_answer};
 ghost use Rattle.speedate_civil.specs.DateTime.{date_time_timestamp_answer};
 ghost use Rattle.speedate_civil.specs.DateTime.{instant_date_time, local_microsecond};
 ghost use Rattle.speedate_civil.specs.DateTime.{local_millisecond, local_second, meant_microsecond};
-ghost use Rattle.speedate_civil.specs.DateTime.{number_instant_or, utc_microsecond};
+ghost use Rattle.speedate_civil.specs.DateTime.{number_instant, utc_microsecond};
 ghost use Rattle.speedate_civil.specs.DateTime.{utc_millisecond, utc_second, whole_instant};
 ghost use Rattle.speedate_civil.specs.DateTime.{◌gives◌};
+ghost use Rattle.speedate_base.specs.Refused.{seen_as};
+ghost use Rattle.std.specs.Option.{option_map};
 
 use super::DateTime;
 use crate::date::{Date, may_be_number};
@@ -165,10 +167,10 @@ impl DateTime {
         refusal: E,
         config: &DateTimeConfig,
     ) -> Result<Self, E>
-        requires refused { date_time_answer_or E.refusal (choices config.now).behavior bytes.now
+        requires refused { seen_as E.refusal (date_time_answer (choices config.now).behavior bytes.now)
             ≡ Err refusal }
         requires placed { E.lies_within (length bytes.now) refusal }
-        ensures answer { result gives date_time_by_config_or E.refusal config.now bytes.now }
+        ensures answer { result gives seen_as E.refusal (date_time_by_config config.now bytes.now) }
         ensures placed { IfErr result (E.lies_within (length bytes.now)) }
         ensures minutes { IsWholeMinutes (choices config.now).offset
             → IfOk result (λ value. IsWholeMinutes value.time.tz_offset) }
@@ -243,12 +245,12 @@ pub fn timestamp_instant<E: Refusal>(
     refusal: E,
     config: &DateTimeConfig,
 ) -> Result<UnixTime, E>
-    requires refused { date_time_answer_or E.refusal (choices config.now).behavior bytes.now
+    requires refused { seen_as E.refusal (date_time_answer (choices config.now).behavior bytes.now)
         ≡ Err refusal }
     requires placed { E.lies_within (length bytes.now) refusal }
     ensures answer { result_map (date_time_at (choices config.now).offset)
         (result_map unix_instant result)
-        ≡ date_time_by_config_or E.refusal config.now bytes.now }
+        ≡ seen_as E.refusal (date_time_by_config config.now bytes.now) }
     ensures within { IfOk result (λ time. IsInYears (unix_instant time)) }
     ensures placed { IfErr result (E.lies_within (length bytes.now)) }
 {
@@ -270,7 +272,8 @@ fn parse_unix_time<E: Refusal>(
 ) -> Result<UnixTime, E>
     requires placed { E.lies_within (length bytes.now) refusal }
     ensures answer { result_map unix_instant result
-        ≡ or_number (number_instant_or E.refusal unit behavior bytes.now (number_answer bytes.now))
+        ≡ or_number (option_map (seen_as E.refusal)
+        (number_instant unit behavior bytes.now (number_answer bytes.now)))
         (Err refusal) }
     ensures within { IfOk result (λ time. IsInYears (unix_instant time)) }
     ensures placed { IfErr result (E.lies_within (length bytes.now)) }
@@ -305,8 +308,8 @@ fn decimal_unix_time<E: Refusal>(
 ) -> Result<UnixTime, E>
     requires { length decimal.fraction.now ≤ length bytes.now }
     ensures answer { result_map unix_instant result
-        ≡ decimal_instant_or E.refusal (decimal_row unit (decimal_value decimal.entry)) behavior
-        bytes.now (decimal_value decimal.entry) }
+        ≡ seen_as E.refusal (decimal_instant_answer (decimal_row unit (decimal_value decimal.entry))
+        behavior bytes.now (decimal_value decimal.entry)) }
     ensures within { IfOk result (λ time. IsInYears (unix_instant time)) }
     ensures placed { IfErr result (E.lies_within (length bytes.now)) }
 {

@@ -1,13 +1,11 @@
 //! Where a text that is refused as a time has its error.
 
-ghost use Rattle.std.specs.Prelude.{◌≡◌, ◌≤◌, IfErr, IfOk, IfSome, is_err, is_some, length};
+ghost use Rattle.std.specs.Prelude.{◌≡◌, ◌≤◌, IfErr, IfOk, IfSome, length};
 ghost use Rattle.speedate_base.specs.Config.{time_choices};
 ghost use Rattle.speedate_base.specs.Offset.{IsWholeMinutes};
-ghost use Rattle.speedate_base.specs.Refused.{placed, refused_place};
-ghost use Rattle.speedate_base.specs.Requirement.{result_map, with_size};
-ghost use Rattle.speedate_civil.specs.Strict.{strict_time_answer, strict_time_answer_or};
-ghost use Rattle.speedate_civil.specs.Time.{time_answer, time_answer_or, time_front, time_front_or};
-ghost use Rattle.speedate_civil.specs.Time.{time_of_day};
+ghost use Rattle.speedate_base.specs.Refused.{refused_place};
+ghost use Rattle.speedate_civil.specs.Strict.{strict_time_answer};
+ghost use Rattle.speedate_civil.specs.Time.{time_answer, time_front, ◌gives◌, ◌gives_front◌};
 
 use super::Time;
 use speedate_base::config::{MicrosecondsPrecisionOverflowBehavior, TimeConfig};
@@ -18,11 +16,10 @@ impl Time {
     /// `None` for a text that it accepts: 6, the second's, for `b"12:13:60"`.
     ///
     /// It is the place in [the row](docs/GRAMMAR.md#time) that names the error.
+    #[tactic(auto, using(speedate_base::proofs::RefusalLemmas::place_rules))]
     pub fn error_place(bytes: &[u8], config: &TimeConfig) -> Option<usize>
         ensures place { result
-            ≡ refused_place (time_answer_or placed (time_choices config.now).behavior bytes.now) }
-        ensures refused { is_some result
-            ≡ is_err (time_answer (time_choices config.now).behavior bytes.now) }
+            ≡ refused_place (time_answer (time_choices config.now).behavior bytes.now) }
         ensures within { IfSome result (λ place. place ≤ length bytes.now) }
     {
         let behavior = config.microseconds_precision_overflow_behavior;
@@ -33,14 +30,13 @@ impl Time {
     /// for a text that it accepts: 5, the text's end, where a second is missing, for `b"12:13"`.
     ///
     /// It is the place in [the row](docs/GRAMMAR.md#rfc-3339-alone) that names the error.
+    #[tactic(auto, using(speedate_base::proofs::RefusalLemmas::place_rules))]
     pub fn error_place_strict(
         bytes: &[u8],
         behavior: MicrosecondsPrecisionOverflowBehavior,
     ) -> Option<usize>
         ensures place { result
-            ≡ refused_place (strict_time_answer_or placed behavior bytes.now) }
-        ensures refused { is_some result
-            ≡ is_err (strict_time_answer behavior bytes.now) }
+            ≡ refused_place (strict_time_answer behavior bytes.now) }
         ensures within { IfSome result (λ place. place ≤ length bytes.now) }
     {
         Refused::place_of(Self::strict(bytes, behavior))
@@ -50,11 +46,10 @@ impl Time {
     /// text that begins with a time: 9, after the sign, for `b"12:00:00-ERROR"`.
     ///
     /// It is the place in [the row](docs/GRAMMAR.md#time) that names the error.
+    #[tactic(auto, using(speedate_base::proofs::RefusalLemmas::place_rules))]
     pub fn error_place_front(bytes: &[u8], config: &TimeConfig) -> Option<usize>
         ensures place { result
-            ≡ refused_place (time_front_or placed (time_choices config.now).behavior bytes.now) }
-        ensures refused { is_some result
-            ≡ is_err (time_front (time_choices config.now).behavior bytes.now) }
+            ≡ refused_place (time_front (time_choices config.now).behavior bytes.now) }
         ensures within { IfSome result (λ place. place ≤ length bytes.now) }
     {
         let behavior = config.microseconds_precision_overflow_behavior;
@@ -68,9 +63,10 @@ impl Time {
     ///
     /// Those of [`Time::parse_bytes_with_config`], each with its place: `OutOfRangeSecond` and 6 for
     /// `b"12:13:60"`.
+    #[tactic(auto, using(speedate_base::proofs::RefusalLemmas::seen_placed))]
     pub fn parse_or_place(bytes: &[u8], config: &TimeConfig) -> Result<Self, Refused>
-        ensures answer { result_map time_of_day result
-            ≡ time_answer_or placed (time_choices config.now).behavior bytes.now }
+        ensures answer { result
+            gives time_answer (time_choices config.now).behavior bytes.now }
         ensures within { IfErr result (λ refused. refused.place ≤ length bytes.now) }
         ensures minutes { IfOk result (λ value. IsWholeMinutes value.tz_offset) }
     {
@@ -84,12 +80,13 @@ impl Time {
     ///
     /// Those of [`Time::parse_bytes_strict`], each with its place: `InvalidCharTimeSep` and 5 for
     /// `b"12:13"`.
+    #[tactic(auto, using(speedate_base::proofs::RefusalLemmas::seen_placed))]
     pub fn parse_or_place_strict(
         bytes: &[u8],
         behavior: MicrosecondsPrecisionOverflowBehavior,
     ) -> Result<Self, Refused>
-        ensures answer { result_map time_of_day result
-            ≡ strict_time_answer_or placed behavior bytes.now }
+        ensures answer { result
+            gives strict_time_answer behavior bytes.now }
         ensures within { IfErr result (λ refused. refused.place ≤ length bytes.now) }
         ensures minutes { IfOk result (λ value. IsWholeMinutes value.tz_offset) }
     {
@@ -103,9 +100,10 @@ impl Time {
     ///
     /// Those of [`Time::parse_front`], each with its place: `InvalidCharTzHour` and 9 for
     /// `b"12:00:00-ERROR"`.
+    #[tactic(auto, using(speedate_base::proofs::RefusalLemmas::seen_placed))]
     pub fn parse_or_place_front(bytes: &[u8], config: &TimeConfig) -> Result<(Self, usize), Refused>
-        ensures answer { result_map (with_size time_of_day) result
-            ≡ time_front_or placed (time_choices config.now).behavior bytes.now }
+        ensures answer { result
+            gives_front time_front (time_choices config.now).behavior bytes.now }
         ensures within { IfErr result (λ refused. refused.place ≤ length bytes.now) }
         ensures size { IfOk result (λ front. front.1 ≤ length bytes.now) }
         ensures minutes { IfOk result (λ front. IsWholeMinutes front.0.tz_offset) }

@@ -12,10 +12,10 @@ ghost use Rattle.speedate_base.specs.Timestamp.{seconds_per_day};
 ghost use Rattle.speedate_base.specs.Requirement.{first_refusal_or, shifted};
 ghost use Rattle.speedate_civil.specs.Time.{end_fault, has_minus_sign, is_plus_or_minus, is_utc};
 ghost use Rattle.speedate_civil.specs.ParserParts.{IsOffsetOrUtc, hour_and_minute_form};
-ghost use Rattle.speedate_civil.specs.Time.{offset_digits, offset_front_or, signed_front};
-ghost use Rattle.speedate_civil.specs.Time.{signed_front_or};
+ghost use Rattle.speedate_civil.specs.Time.{offset_digits, offset_front, signed_front};
 ghost use Rattle.speedate_civil.specs.Time.{offset_minute, offset_digits_size, offset_size_text};
 ghost use Rattle.speedate_civil.specs.Time.{offset_text};
+ghost use Rattle.speedate_base.specs.Refused.{seen_as};
 
 use crate::text::two_digit_text;
 use arrayvec::ArrayString;
@@ -41,7 +41,7 @@ pub(crate) fn parse_offset<E: Refusal>(
 ) -> Result<(Option<i32>, usize), E>
     requires place { place ≤ length bytes.now }
     requires start { start + 16 ≤ usize.MAX }
-    ensures answer { result ≡ offset_front_or (shifted start E.refusal) (drop place bytes.now) }
+    ensures answer { result ≡ seen_as (shifted start E.refusal) (offset_front (drop place bytes.now)) }
     ensures placed { (size : ℕ) → start + length (drop place bytes.now) ≤ size
         → IfErr result (E.lies_within size) }
     ensures range { IfOk result (λ front. ForSome front.0 IsOffset) }
@@ -232,7 +232,7 @@ pub fn signed_offset<E: Refusal>(
     requires sign { sign ≤ place }
     requires start { start + 3 ≤ usize.MAX }
     ensures answer { result
-        ≡ signed_front_or (shifted start E.refusal) west sign (drop place bytes.now) }
+        ≡ seen_as (shifted start E.refusal) (signed_front west sign (drop place bytes.now)) }
     ensures placed { (size : ℕ) → start + length (drop place bytes.now) ≤ size
         → IfErr result (E.lies_within size) }
     ensures range { IfOk result (λ front. ForSome front.0 IsOffset) }

@@ -7,10 +7,11 @@ ghost use Rattle.speedate_base.specs.Offset.{IsWholeMinutes};
 ghost use Rattle.speedate_base.specs.Requirement.{first_place, first_refusal_or, moved, shifted};
 ghost use Rattle.speedate_civil.specs.Base.{Behavior};
 ghost use Rattle.speedate_civil.specs.Strict.{strict_offset, strict_time, strict_time_answer};
-ghost use Rattle.speedate_civil.specs.Strict.{strict_time_answer_or, IsFullTime};
-ghost use Rattle.speedate_civil.specs.Time.{clock_parts, time_after_clock_or, time_of_day};
-ghost use Rattle.speedate_civil.specs.Time.{TimeOfDay, time_front, time_front_or, time_answer};
-ghost use Rattle.speedate_civil.specs.Time.{time_answer_or, ◌gives◌, ◌gives_front◌};
+ghost use Rattle.speedate_civil.specs.Strict.{IsFullTime};
+ghost use Rattle.speedate_civil.specs.Time.{clock_parts, time_after_clock, time_of_day};
+ghost use Rattle.speedate_civil.specs.Time.{TimeOfDay, time_front, time_answer};
+ghost use Rattle.speedate_civil.specs.Time.{◌gives◌, ◌gives_front◌};
+ghost use Rattle.speedate_base.specs.Refused.{seen_as, without_place};
 
 use super::offset::{end_fault, has_minus_sign, is_utc, parse_offset};
 use super::{PureTime, Time};
@@ -49,7 +50,7 @@ impl Time {
     /// - `ExtraCharacters` if something follows the offset.
     #[inline(always)]
     pub fn parse_str(text: &str) -> Result<Self, ParseError>
-        ensures answer { result gives time_answer Behavior.Error text.now }
+        ensures answer { result gives without_place (time_answer Behavior.Error text.now) }
         ensures minutes { IfOk result (λ time. IsWholeMinutes time.tz_offset) }
     {
         Self::parse_bytes(text.as_bytes())
@@ -63,7 +64,7 @@ impl Time {
     /// Those of [`Time::parse_str`], in its order.
     #[inline(always)]
     pub fn parse_bytes(bytes: &[u8]) -> Result<Self, ParseError>
-        ensures answer { result gives time_answer Behavior.Error bytes.now }
+        ensures answer { result gives without_place (time_answer Behavior.Error bytes.now) }
         ensures minutes { IfOk result (λ time. IsWholeMinutes time.tz_offset) }
     {
         Self::parse_whole(bytes, MicrosecondsPrecisionOverflowBehavior::Error)
@@ -79,7 +80,7 @@ impl Time {
     /// Those of [`Time::parse_str`], in its order, but with `Truncate` not `SecondFractionTooLong`.
     #[inline(always)]
     pub fn parse_bytes_with_config(bytes: &[u8], config: &TimeConfig) -> Result<Self, ParseError>
-        ensures answer { result gives time_answer (time_choices config.now).behavior bytes.now }
+        ensures answer { result gives without_place (time_answer (time_choices config.now).behavior bytes.now) }
         ensures minutes { IfOk result (λ time. IsWholeMinutes time.tz_offset) }
     {
         Self::parse_whole(bytes, config.microseconds_precision_overflow_behavior)
@@ -108,7 +109,7 @@ impl Time {
         bytes: &[u8],
         behavior: MicrosecondsPrecisionOverflowBehavior,
     ) -> Result<Self, ParseError>
-        ensures answer { result gives strict_time_answer behavior bytes.now }
+        ensures answer { result gives without_place (strict_time_answer behavior bytes.now) }
         ensures standard { IsOk result ↔ IsFullTime behavior bytes.now }
         ensures minutes { IfOk result (λ time. IsWholeMinutes time.tz_offset) }
     {
@@ -129,8 +130,8 @@ impl Time {
     /// with `Truncate` there is no `SecondFractionTooLong`.
     #[inline(always)]
     pub fn parse_front(bytes: &[u8], config: &TimeConfig) -> Result<(Self, usize), ParseError>
-        ensures answer { result gives_front time_front (time_choices config.now).behavior
-            bytes.now }
+        ensures answer { result gives_front without_place (time_front (time_choices config.now).behavior
+            bytes.now) }
         ensures within { IfOk result (λ front. front.1 ≤ length bytes.now) }
         ensures whole { (time : TimeOfDay)
             → (time_answer (time_choices config.now).behavior bytes.now ≡ Ok time)
@@ -146,11 +147,12 @@ impl Time {
 
     /// Parses the time that takes all the bytes.
     #[inline(always)]
+    #[tactic(auto, using(speedate_base::proofs::RefusalLemmas::seen_then))]
     pub(super) fn parse_whole<E: Refusal>(
         bytes: &[u8],
         behavior: MicrosecondsPrecisionOverflowBehavior,
     ) -> Result<Self, E>
-        ensures answer { result gives time_answer_or E.refusal behavior bytes.now }
+        ensures answer { result gives seen_as E.refusal (time_answer behavior bytes.now) }
         ensures placed { IfErr result (E.lies_within (length bytes.now)) }
         ensures minutes { IfOk result (λ time. IsWholeMinutes time.tz_offset) }
     {
@@ -167,7 +169,7 @@ impl Time {
         bytes: &[u8],
         behavior: MicrosecondsPrecisionOverflowBehavior,
     ) -> Result<(Self, usize), E>
-        ensures answer { result gives_front time_front_or E.refusal behavior bytes.now }
+        ensures answer { result gives_front seen_as E.refusal (time_front behavior bytes.now) }
         ensures placed { IfErr result (E.lies_within (length bytes.now)) }
         ensures within { IfOk result (λ front. front.1 ≤ length bytes.now) }
         ensures minutes { IfOk result (λ front. IsWholeMinutes front.0.tz_offset) }
@@ -178,6 +180,7 @@ impl Time {
     /// Parses the time at the front of a text, which begins at `start` of the whole, and how many bytes it
     /// takes, whatever follows it.
     #[inline(always)]
+    #[tactic(auto, using(speedate_base::proofs::RefusalLemmas::seen_then))]
     pub(crate) fn front_at<E: Refusal>(
         text: &[u8],
         start: usize,
@@ -185,7 +188,7 @@ impl Time {
     ) -> Result<(Self, usize), E>
         requires { start + length text.now + 16 ≤ usize.MAX }
         ensures answer { result
-            gives_front time_front_or (shifted start E.refusal) behavior text.now }
+            gives_front seen_as (shifted start E.refusal) (time_front behavior text.now) }
         ensures placed { IfErr result (E.lies_within (start + length text.now)) }
         ensures within { IfOk result (λ front. front.1 ≤ length text.now) }
         ensures minutes { IfOk result (λ front. IsWholeMinutes front.0.tz_offset) }
@@ -204,8 +207,8 @@ impl Time {
     ) -> Result<(Self, usize), E>
         requires size { clock.size ≤ length text.now }
         requires start { start + length text.now + 16 ≤ usize.MAX }
-        ensures answer { result gives_front time_after_clock_or (shifted start E.refusal) text.now
-            (clock_parts clock) }
+        ensures answer { result gives_front seen_as (shifted start E.refusal) (time_after_clock text.now
+            (clock_parts clock)) }
         ensures placed { IfErr result (E.lies_within (start + length text.now)) }
         ensures within { IfOk result (λ front. front.1 ≤ length text.now) }
         ensures minutes { IfOk result (λ front. IsWholeMinutes front.0.tz_offset) }
@@ -216,11 +219,12 @@ impl Time {
 
     /// Parses the time of RFC 3339 that takes all the bytes.
     #[inline(always)]
+    #[tactic(auto, using(speedate_base::proofs::RefusalLemmas::seen_then))]
     pub(super) fn strict<E: Refusal>(
         bytes: &[u8],
         behavior: MicrosecondsPrecisionOverflowBehavior,
     ) -> Result<Self, E>
-        ensures answer { result gives strict_time_answer_or E.refusal behavior bytes.now }
+        ensures answer { result gives seen_as E.refusal (strict_time_answer behavior bytes.now) }
         ensures placed { IfErr result (E.lies_within (length bytes.now)) }
         ensures minutes { IfOk result (λ time. IsWholeMinutes time.tz_offset) }
     {
@@ -279,7 +283,7 @@ impl FromStr for Time {
 
     ghost use Rattle.speedate_civil.specs.Time.{time_answer, ◌gives◌};
 
-    ghost from_str_gives = { λ text result. result gives time_answer Behavior.Error text };
+    ghost from_str_gives = { λ text result. result gives without_place (time_answer Behavior.Error text) };
 
     /// The answer of [`Time::parse_str`]: `"12:13Z".parse()` gives 12:13:00 in UTC.
     ///

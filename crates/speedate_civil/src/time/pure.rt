@@ -3,6 +3,7 @@
 ghost use Rattle.std.specs.Prelude.{◌≡◌, ◌+◌, ◌≤◌, ◌==◌, ◌||◌, ℕ, IfErr, IfOk, IfSome, IsTrue, Ok, length, drop, codes};
 ghost use Rattle.speedate_base.specs.Digits.{run_length, run_digits, fraction_value};
 ghost use Rattle.speedate_base.specs.Digits.{two_digit_value, eight_at, fit_length};
+ghost use Rattle.speedate_base.specs.Refused.{seen_as, without_place};
 
 use super::Time;
 use speedate_base::config::MicrosecondsPrecisionOverflowBehavior as Behavior;
@@ -61,8 +62,8 @@ impl PureTime {
     ghost use Rattle.speedate_base.specs.Offset.{IsOffset, IsWholeMinutes};
     ghost use Rattle.speedate_base.specs.Requirement.{first_refusal_or, result_map, shifted};
     ghost use Rattle.speedate_civil.specs.ParserParts.{clock_after, second_of};
-    ghost use Rattle.speedate_civil.specs.Time.{clock_front, clock_front_or, minute_clock};
-    ghost use Rattle.speedate_civil.specs.Time.{minute_front, minute_front_or, second_table};
+    ghost use Rattle.speedate_civil.specs.Time.{clock_front, minute_clock};
+    ghost use Rattle.speedate_civil.specs.Time.{minute_front, second_table};
     ghost use Rattle.speedate_civil.specs.Time.{clock_parts, has_decimal_mark, time_of_day};
     ghost use Rattle.speedate_civil.specs.Time.{clock_with_offset};
 
@@ -76,7 +77,7 @@ impl PureTime {
     pub fn parse(bytes: &[u8], place: usize, behavior: Behavior) -> Result<Self, ParseError>
         requires { place ≤ length bytes.now }
         ensures answer { result_map clock_parts result
-            ≡ clock_front behavior (drop place bytes.now) }
+            ≡ without_place (clock_front behavior (drop place bytes.now)) }
         ensures within { IfOk result (λ time. place + time.size ≤ length bytes.now) }
     {
         Self::front_at(&bytes[place..], 0, behavior)
@@ -90,7 +91,7 @@ impl PureTime {
     pub fn front_at<E: Refusal>(text: &[u8], start: usize, behavior: Behavior) -> Result<Self, E>
         requires { start + length text.now + 16 ≤ usize.MAX }
         ensures answer { result_map clock_parts result
-            ≡ clock_front_or (shifted start E.refusal) behavior text.now }
+            ≡ seen_as (shifted start E.refusal) (clock_front behavior text.now) }
         ensures placed { IfErr result (E.lies_within (start + length text.now)) }
         ensures within { IfOk result (λ time. time.size ≤ length text.now) }
     {
@@ -125,7 +126,7 @@ impl PureTime {
         requires minute { 5 ≤ fits }
         requires start { start + length text.now + 16 ≤ usize.MAX }
         ensures answer { result_map clock_parts result
-            ≡ clock_front_or (shifted start E.refusal) behavior text.now }
+            ≡ seen_as (shifted start E.refusal) (clock_front behavior text.now) }
         ensures placed { IfErr result (E.lies_within (start + length text.now)) }
         ensures within { IfOk result (λ time. time.size ≤ length text.now) }
     {
@@ -224,7 +225,7 @@ impl PureTime {
     ) -> Result<Self, ParseError>
         requires { place ≤ length bytes.now }
         ensures answer { result_map clock_parts result
-            ≡ minute_front behavior (drop place bytes.now) }
+            ≡ without_place (minute_front behavior (drop place bytes.now)) }
         ensures within { IfOk result (λ time. place + time.size ≤ length bytes.now) }
     {
         Self::minute_front_at(&bytes[place..], 0, behavior)
@@ -242,7 +243,7 @@ impl PureTime {
     ) -> Result<Self, E>
         requires { start + length rest.now + 16 ≤ usize.MAX }
         ensures answer { result_map clock_parts result
-            ≡ minute_front_or (shifted start E.refusal) behavior rest.now }
+            ≡ seen_as (shifted start E.refusal) (minute_front behavior rest.now) }
         ensures placed { IfErr result (E.lies_within (start + length rest.now)) }
         ensures within { IfOk result (λ time. time.size ≤ length rest.now) }
     {

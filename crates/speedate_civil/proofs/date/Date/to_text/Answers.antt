@@ -1,8 +1,8 @@
 use Rattle.std.proofs.Common.{◌∙◌, ap, ℕ, List}
-use Rattle.speedate_civil.specs.Date.{date_answer, date_number_answer_or, date_or_timestamp}
+use Rattle.speedate_civil.specs.Date.{date_answer, date_number_answer, date_or_timestamp}
 use Rattle.speedate_civil.specs.Date.{date_text, ymd}
 use Rattle.speedate_base.specs.Numbers.{whole_number}
-use Rattle.speedate_base.specs.Requirement.{fault_alone, or_number}
+use Rattle.speedate_base.specs.Requirement.{or_number}
 use Rattle.speedate_base.proofs.TextLemmas.{text-alone, text-canonical}
 use Rattle.speedate_civil.proofs.DateLemmas.{date_text-front, date_text-reads}
 use Rattle.speedate_civil.proofs.ValueLemmas.{is_date}
@@ -19,7 +19,7 @@ returns-clause-reads_back_with_config c config =
     let date = c.args.self.now in
     let bytes = text-alone _ _ _ c.new-text.ensures c.push_onto.ensures.text in
     ap (λ (text : List ℕ). date_or_timestamp config.timestamp_unit text) bytes
-    ∙ ap (or_number (date_number_answer_or fault_alone config.timestamp_unit
+    ∙ ap (or_number (date_number_answer config.timestamp_unit
     (whole_number (date_text (ymd date))))) (date_text-reads (ymd date) (is_date date))
 
 pub returns-clause-canonical : goal.returns-clause-canonical

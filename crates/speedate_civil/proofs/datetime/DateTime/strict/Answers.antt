@@ -4,6 +4,7 @@ use Rattle.speedate_base.proofs.RefusalLemmas.{refusal-read}
 use Rattle.speedate_civil.specs.DateTime.{date_and_time}
 use Rattle.speedate_civil.specs.Strict.{strict_date_time}
 use Rattle.speedate_civil.proofs.StrictPlaceLemmas.{strict_date_time-within}
+use Rattle.speedate_base.proofs.RefusalLemmas.{seen-read}
 use Rattle.speedate_civil.proofs.datetime.DateTime.strict.Goals as goal
 
 pub returns-in_err-require_strict-clause-answer
@@ -27,5 +28,5 @@ returns-in_err-require_strict-clause-placed g c =
     let p = err_from_is_err_and c.from_residual-in_err-require_strict.result
     c.from_residual-in_err-require_strict.ensures.1 in
     rw (p.1, p.2) (c.in_err-require_strict.ensures.placed (length c.args.bytes.now)
-    (strict_date_time-within g.E.Refusal.refusal c.args.behavior c.args.bytes.now _
-    (sym c.in_ok-value.ensures.answer)))
+    (strict_date_time-within c.args.behavior c.args.bytes.now _
+    (seen-read g.E.Refusal.refusal _ _ (sym c.in_ok-value.ensures.answer))))

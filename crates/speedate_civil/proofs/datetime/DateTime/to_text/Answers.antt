@@ -3,8 +3,8 @@ use Rattle.std.specs.Option.{option_map}
 use Rattle.speedate_base.specs.Numbers.{number_answer}
 use Rattle.speedate_civil.specs.DateTime.{date_and_time, date_time_answer, date_time_at}
 use Rattle.speedate_civil.specs.DateTime.{date_time_or_timestamp, date_time_text}
-use Rattle.speedate_civil.specs.DateTime.{number_instant_or}
-use Rattle.speedate_base.specs.Requirement.{fault_alone, or_number, result_map}
+use Rattle.speedate_civil.specs.DateTime.{number_instant}
+use Rattle.speedate_base.specs.Requirement.{or_number, result_map}
 use Rattle.speedate_base.proofs.TextLemmas.{text-alone, text-canonical}
 use Rattle.speedate_civil.proofs.AfterTimeLemmas.{date_time_text-front-iff}
 use Rattle.speedate_civil.proofs.DateTimeLemmas.{date_time_text-reads}
@@ -28,7 +28,7 @@ returns-clause-reads_back_with_config c whole config =
     let bytes = text-alone _ _ _ c.new-text.ensures c.push_onto.ensures.text in
     ap (date_time_or_timestamp unit behavior offset) bytes
     ∙ ap (or_number (option_map (result_map (date_time_at offset))
-    (number_instant_or fault_alone unit behavior (date_time_text (date_and_time value))
+    (number_instant unit behavior (date_time_text (date_and_time value))
     (number_answer (date_time_text (date_and_time value))))))
     (date_time_text-reads behavior (date_and_time value) (is_date_and_time value) whole)
 

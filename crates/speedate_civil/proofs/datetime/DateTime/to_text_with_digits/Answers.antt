@@ -4,8 +4,8 @@ use Rattle.std.specs.Option.{option_map}
 use Rattle.speedate_base.specs.Numbers.{number_answer}
 use Rattle.speedate_civil.specs.DateTime.{date_and_time, date_time_answer, date_time_at}
 use Rattle.speedate_civil.specs.DateTime.{date_time_or_timestamp, date_time_text_with}
-use Rattle.speedate_civil.specs.DateTime.{number_instant_or}
-use Rattle.speedate_base.specs.Requirement.{fault_alone, or_number, result_map}
+use Rattle.speedate_civil.specs.DateTime.{number_instant}
+use Rattle.speedate_base.specs.Requirement.{or_number, result_map}
 use Rattle.speedate_base.proofs.TextLemmas.{text-alone}
 use Rattle.speedate_civil.proofs.DateTimeLemmas.{date_time_text_with-reads}
 use Rattle.speedate_civil.proofs.InstantOrderLemmas.{date_time_text_with-order}
@@ -31,7 +31,7 @@ returns-clause-reads_back_with_config c whole config =
     let bytes = text-alone _ _ _ c.new-text.ensures c.push_onto_with_digits.ensures.text in
     ap (date_time_or_timestamp unit behavior offset) bytes
     ∙ ap (or_number (option_map (result_map (date_time_at offset))
-    (number_instant_or fault_alone unit behavior printed (number_answer printed))))
+    (number_instant unit behavior printed (number_answer printed))))
     (date_time_text_with-reads behavior c.args.digits (date_and_time value)
     (is_date_and_time value) whole)
 

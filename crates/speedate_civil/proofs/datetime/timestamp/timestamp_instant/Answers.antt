@@ -1,57 +1,63 @@
-use Rattle.std.proofs.Common.{◌∙◌, Result, ap, ap₂, refl, rules, sym}
-use Rattle.speedate_base.specs.Numbers.{Number, number_answer}
+use Rattle.std.proofs.Common.{◌≡◌, ◌∙◌, ℕ, List, Err, ap, refl, rules, sym}
+use Rattle.speedate_base.specs.Numbers.{number_answer}
 use Rattle.speedate_base.specs.Requirement.{or_number, result_map}
 use Rattle.std.specs.Option.{option_map}
-use Rattle.speedate_civil.specs.DateTime.{DateAndTime, date_time_answer, date_time_at}
-use Rattle.speedate_civil.specs.DateTime.{number_instant_or}
+use Rattle.speedate_civil.specs.DateTime.{date_time_answer, date_time_at}
+use Rattle.speedate_civil.specs.DateTime.{number_instant}
 use Rattle.speedate_civil.specs.ParserParts.{may_be_number}
-use Rattle.speedate_base.proofs.RefusalLemmas.{or_number-map}
-use Rattle.speedate_civil.proofs.ErrorPlaceLemmas.{date_time_answer-fault}
+use Rattle.speedate_base.proofs.RefusalLemmas.{seen-number_map, seen-fault, seen_refused}
+use Rattle.speedate_civil.specs.Base.{DateTimeConfig, ParseError}
+use Rattle.speedate_base.specs.Config.{choices}
 use Rattle.speedate_civil.proofs.NumberTextLemmas.{number_answer-refused}
+use Rattle.speedate_base.specs.Refused.{seen_as}
+use Rattle.speedate_civil.specs.DateTime.{date_time_by_config}
 use Rattle.speedate_civil.proofs.datetime.timestamp.timestamp_instant.Goals as goal
+
+-- the answer, where no date-time is read
+numbered : {E : Type 0} (refuse : ParseError → ℕ → E) (config : DateTimeConfig) (text : List ℕ)
+    (refusal : E)
+    → seen_as refuse (date_time_answer (choices config).behavior text) ≡ Err refusal
+    → seen_as refuse (date_time_by_config config text)
+    ≡ or_number (option_map (seen_as refuse) (option_map (result_map
+    (date_time_at (choices config).offset)) (number_instant config.timestamp_unit
+    (choices config).behavior text (number_answer text)))) (Err refusal)
+numbered refuse config text refusal refused = seen_refused refuse _ _ refusal refused
 
 pub returns-then-not-may_be_number-clause-answer : goal.returns-then-not-may_be_number-clause-answer
 returns-then-not-may_be_number-clause-answer g c =
     let text = c.args.bytes.now in
     let config = c.args.config.now in
-    let unit = config.timestamp_unit in
-    let behavior = config.time_config.microseconds_precision_overflow_behavior in
-    let offset = config.time_config.unix_timestamp_offset in
     let refuse = g.E.Refusal.refusal in
     let keeps = g.met.E.Refusal.keeps_fault in
-    let refused = date_time_answer-fault g.E.Refusal.fault_of refuse behavior text c.args.refusal
-    keeps c.requires.refused in
+    let answer = date_time_answer (choices config).behavior text in
+    let refused = seen-fault g.E.Refusal.fault_of refuse answer c.args.refusal keeps
+    c.requires.refused in
     let fault = ap may_be_number c.fault.ensures.fault in
-    let none = number_answer-refused text (date_time_answer behavior text) _
-    (λ other is. rw is refl) refused
-    (sym fault ∙ sym c.may_be_number.ensures ∙ c.if-not-may_be_number.true) in
-    let timestamp = λ (number : Number). option_map (result_map (date_time_at offset))
-    (number_instant_or refuse unit behavior text number) in
-    sym (ap₂ (λ (number : Number) (answer : Result DateAndTime _). or_number (timestamp number)
-    answer) none c.requires.refused)
+    let behind = sym fault ∙ sym c.may_be_number.ensures ∙ c.if-not-may_be_number.true in
+    let none = number_answer-refused text answer _ (λ other is. rw is refl) refused behind in
+    rw (numbered refuse config text c.args.refusal c.requires.refused, none) refl
 
 pub returns-in_err-time-clause-answer : goal.returns-in_err-time-clause-answer
 returns-in_err-time-clause-answer g c =
     let config = c.args.config.now in
-    let unit = config.timestamp_unit in
-    let behavior = config.time_config.microseconds_precision_overflow_behavior in
-    let offset = config.time_config.unix_timestamp_offset in
-    let number = number_instant_or g.E.Refusal.refusal unit behavior c.args.bytes.now
-    (number_answer c.args.bytes.now) in
-    let read = ap (result_map (date_time_at offset)) c.in_err-time.ensures.answer in
-    let law = or_number-map (date_time_at offset) number c.args.refusal in
-    let refused = c.requires.refused in
+    let text = c.args.bytes.now in
+    let refuse = g.E.Refusal.refusal in
+    let numbered_is = numbered refuse config text c.args.refusal c.requires.refused in
+    let at = date_time_at (choices config).offset in
+    let number = number_instant config.timestamp_unit (choices config).behavior text
+    (number_answer text) in
+    let read = ap (result_map at) c.in_err-time.ensures.answer in
+    let law = seen-number_map refuse at number c.args.refusal in
     search rules
 
 pub returns-clause-answer : goal.returns-clause-answer
 returns-clause-answer g c =
     let config = c.args.config.now in
-    let unit = config.timestamp_unit in
-    let behavior = config.time_config.microseconds_precision_overflow_behavior in
-    let offset = config.time_config.unix_timestamp_offset in
-    let at = date_time_at offset in
-    let number = number_instant_or g.E.Refusal.refusal unit behavior c.args.bytes.now
-    (number_answer c.args.bytes.now) in
+    let text = c.args.bytes.now in
+    let refuse = g.E.Refusal.refusal in
+    let at = date_time_at (choices config).offset in
+    let number = number_instant config.timestamp_unit (choices config).behavior text
+    (number_answer text) in
     ap (result_map at) c.in_ok-time.ensures.answer
-    ∙ or_number-map at number c.args.refusal
-    ∙ ap (or_number (option_map (result_map at) number)) (sym c.requires.refused)
+    ∙ seen-number_map refuse at number c.args.refusal
+    ∙ sym (numbered refuse config text c.args.refusal c.requires.refused)

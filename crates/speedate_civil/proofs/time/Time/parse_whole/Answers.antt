@@ -2,7 +2,8 @@ use Rattle.std.proofs.Common.{◌∙◌, ap, sym, Err}
 use Rattle.speedate_civil.specs.Base.{ParseError}
 use Rattle.speedate_base.specs.Requirement.{with_no_more_or, result_and_then}
 use Rattle.speedate_civil.specs.Time.{end_fault, TimeOfDay, time_of_day}
-use Rattle.speedate_base.proofs.RefusalLemmas.{refusal-longer, refusal-whole}
+use Rattle.speedate_base.proofs.RefusalLemmas.{refusal-longer, refusal-whole, seen_alone}
+use Rattle.speedate_civil.specs.Time.{time_front}
 use Rattle.speedate_civil.proofs.time.Time.parse_whole.Goals as goal
 
 pub returns-then-size-bytes-clause-answer : goal.returns-then-size-bytes-clause-answer
@@ -17,6 +18,7 @@ returns-then-size-bytes-clause-answer g c =
     ap Err (c.refuse_at.ensures.refusal ∙ fault_is)
     ∙ sym (longer (λ same. c.if-size-bytes.true (sym same)))
     ∙ ap (result_and_then (with_no_more_or refuse fault bytes)) c.in_ok-time.ensures.answer
+    ∙ sym (seen_alone refuse fault bytes (time_front c.args.behavior bytes))
 
 pub returns-clause-answer : goal.returns-clause-answer
 returns-clause-answer g c =
@@ -27,3 +29,4 @@ returns-clause-answer g c =
     let whole = refusal-whole refuse fault bytes value c.in_ok-time.size in
     sym (whole (sym c.if-size-bytes.false))
     ∙ ap (result_and_then (with_no_more_or refuse fault bytes)) c.in_ok-time.ensures.answer
+    ∙ sym (seen_alone refuse fault bytes (time_front c.args.behavior bytes))

@@ -6,6 +6,7 @@ use Rattle.speedate_base.proofs.RefusalLemmas.{refusal-read, shifted-none}
 use Rattle.speedate_civil.specs.Time.{time_of_day}
 use Rattle.speedate_civil.proofs.StrictPlaceLemmas.{strict-within}
 use Rattle.speedate_civil.specs.Strict.{strict_time}
+use Rattle.speedate_base.proofs.RefusalLemmas.{seen-read}
 use Rattle.speedate_civil.proofs.time.Time.strict.Goals as goal
 
 strict-here : {E : Type 0} (refuse : ParseError → ℕ → E) (text : List ℕ)
@@ -44,5 +45,5 @@ returns-in_err-require_strict-clause-placed g c =
     let p = err_from_is_err_and c.from_residual-in_err-require_strict.result
     c.from_residual-in_err-require_strict.ensures.1 in
     rw (p.1, p.2) (c.in_err-require_strict.ensures.placed size (within-here size _
-    (strict-within g.E.Refusal.refusal c.args.behavior c.args.bytes.now _
-    (sym c.in_ok-time.ensures.answer))))
+    (strict-within c.args.behavior c.args.bytes.now _
+    (seen-read g.E.Refusal.refusal _ _ (sym c.in_ok-time.ensures.answer)))))

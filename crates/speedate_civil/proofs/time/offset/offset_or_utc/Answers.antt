@@ -1,9 +1,10 @@
-use Rattle.std.proofs.Common.{◌≡◌, ◌∙◌, sym, refl, ℕ, ℤ, ◌==◌, Bool, true, false, List, drop, slice_index, Option, Some, None, Ok, IfSome, drop-drop, arith, ◌+◌, ◌≤◌}
+use Rattle.std.proofs.Common.{◌≡◌, ◌∙◌, sym, refl, ap, ℕ, ℤ, ◌==◌, Bool, true, false, List, drop, slice_index, Option, Some, None, Ok, IfSome, drop-drop, arith, ◌+◌, ◌≤◌}
 use Rattle.std.proofs.lemmas.Bool.Decides.{nat_tests}
 use Rattle.std.proofs.lemmas.List.{take_rest}
 use Rattle.speedate_base.specs.Ascii.{colon, hyphen}
 use Rattle.speedate_base.specs.Digits.{eight_at}
 use Rattle.speedate_base.specs.Offset.{IsOffset}
+use Rattle.speedate_base.specs.Refused.{from_byte}
 use Rattle.speedate_civil.specs.ParserParts.{IsOffsetOrUtc}
 use Rattle.speedate_civil.specs.Time.{is_plus_or_minus, signed_front}
 use Rattle.speedate_civil.proofs.OffsetLemmas.{first-of, none-read, utc-read, utc-there}
@@ -28,7 +29,8 @@ signed-is : (assumes_utc : Bool) (rest numbers : List ℕ) (byte : ℕ) (read : 
     → IfSome read (IsOffsetOrUtc assumes_utc rest)
 signed-is assumes_utc rest numbers byte (Some front) at after sign is small some = record {
   offset = Some front.0;
-  read = rw (at, sign, after) (sym (signed-eight (byte == hyphen) numbers) ∙ is);
+  read = rw (at, sign, after)
+      (ap (from_byte 1) (sym (signed-eight (byte == hyphen) numbers) ∙ is));
   second = refl;
   there = utc-there assumes_utc;
   told = grind (arith, nat_tests, some);

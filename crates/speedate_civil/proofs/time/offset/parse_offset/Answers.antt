@@ -1,10 +1,10 @@
-use Rattle.std.proofs.Common.{rules, refl, length, length-drop, ◌≤◌, ◌∙◌, ◌+◌, ap, ap₂, sym, ℕ, List, drop, true, ◌==◌, slice_index, drop-drop, arith}
+use Rattle.std.proofs.Common.{rules, refl, length, length-drop, ◌≤◌, ◌∙◌, ◌+◌, ap, ap₂, sym, ℕ, List, true, ◌==◌, drop-drop, arith}
 use Rattle.std.proofs.lemmas.Grind.{common_steps}
 use Rattle.speedate_base.specs.Ascii.{hyphen}
-use Rattle.speedate_civil.specs.Base.{ParseError}
 use Rattle.speedate_base.specs.Requirement.{shifted}
-use Rattle.speedate_base.proofs.RefusalLemmas.{shifted-shifted}
-use Rattle.speedate_civil.specs.Time.{is_plus_or_minus, is_utc, signed_front_or}
+use Rattle.speedate_civil.specs.Time.{is_plus_or_minus, is_utc, signed_front}
+use Rattle.speedate_base.proofs.RefusalLemmas.{seen-part}
+use Rattle.speedate_base.specs.Refused.{seen_as}
 use Rattle.speedate_civil.proofs.OffsetLemmas.{first-of}
 use Rattle.speedate_civil.proofs.time.offset.parse_offset.Goals as goal
 
@@ -14,11 +14,10 @@ returns-then-is_plus_or_minus-clause-answer g c =
     let byte = first-of c.args.bytes.now c.args.place _ c.byte_at-first.ensures.byte in
     rw (ap is_plus_or_minus byte ∙ sym c.if-is_plus_or_minus.ensures.value)
     (c.signed_offset.ensures.answer
-    ∙ ap₂ (λ (b : ℕ) (numbers : List ℕ). signed_front_or (shifted (c.args.start + 1) refuse)
-    (b == hyphen) 1 numbers) (sym byte) (sym (drop-drop 1 c.args.place c.args.bytes.now))
-    ∙ ap (λ (refuse : ParseError → ℕ → _). signed_front_or refuse
-    (slice_index (drop c.args.place c.args.bytes.now) 0 == hyphen) 1
-    (drop 1 (drop c.args.place c.args.bytes.now))) (sym (shifted-shifted c.args.start 1 refuse)))
+    ∙ ap₂ (λ (b : ℕ) (numbers : List ℕ). seen_as (shifted (c.args.start + 1) refuse)
+    (signed_front (b == hyphen) 1 numbers)) (sym byte)
+    (sym (drop-drop 1 c.args.place c.args.bytes.now))
+    ∙ sym (seen-part refuse c.args.start 1 _))
 
 pub returns-then-is_utc-clause-answer : goal.returns-then-is_utc-clause-answer
 returns-then-is_utc-clause-answer g c = search (rules, first-of)
@@ -33,10 +32,9 @@ returns-then-has_minus_sign-clause-answer g c =
       sym c.if-has_minus_sign.ensures.value,
     )
     (c.signed_offset-then-has_minus_sign.ensures.answer
-    ∙ ap (signed_front_or (shifted (c.args.start + 3) refuse) true 3)
-    (sym (drop-drop 3 c.args.place c.args.bytes.now))
-    ∙ ap (λ (refuse : ParseError → ℕ → _). signed_front_or refuse true 3
-    (drop 3 (drop c.args.place c.args.bytes.now))) (sym (shifted-shifted c.args.start 3 refuse)))
+    ∙ ap (λ (numbers : List ℕ). seen_as (shifted (c.args.start + 3) refuse)
+    (signed_front true 3 numbers)) (sym (drop-drop 3 c.args.place c.args.bytes.now))
+    ∙ sym (seen-part refuse c.args.start 3 _))
 
 pub returns-clause-answer : goal.returns-clause-answer
 returns-clause-answer g c = search (rules, first-of)

@@ -8,10 +8,12 @@ use Rattle.speedate_base.specs.Digits.{two_digit_value, eight_at}
 use Rattle.speedate_base.specs.Numbers.{with_sign}
 use Rattle.speedate_base.specs.Timestamp.{seconds_per_day}
 use Rattle.speedate_base.specs.Requirement.{◌at_byte◌, ◌else_fault◌, first_refusal_or, shifted}
-use Rattle.speedate_civil.specs.Time.{offset_digits, offset_ranges, signed_front_or, offset_minute}
+use Rattle.speedate_civil.specs.Time.{offset_digits, offset_ranges, signed_front, offset_minute}
 use Rattle.speedate_civil.specs.Time.{offset_minute_place, offset_digits_size, offset_size}
 use Rattle.speedate_base.proofs.RefusalLemmas.{first_refusal_or-next, refusal-all, refusal-value}
 use Rattle.speedate_base.proofs.PatternLemmas.{eight_at-drop}
+use Rattle.speedate_base.proofs.RefusalLemmas.{seen-tables}
+use Rattle.speedate_base.specs.Refused.{seen_as}
 use Rattle.speedate_civil.proofs.time.offset.signed_offset.Goals as goal
 
 -- hour, minute and length of an offset after its sign, or the refusal of its digits
@@ -48,7 +50,7 @@ known : {E : Type 0} (refuse : ParseError → ℕ → E) (west : Bool) (sign : �
     (place : ℕ) (numbers : (ℕ × ℕ) × ℕ)
     → front ≡ eight_at text place → Ok numbers ≡ numbers_of refuse front
     → (decided refuse west sign (numbers.1 - 2) numbers
-    ≡ signed_front_or refuse west sign (drop place text)) × (2 ≤ numbers.1)
+    ≡ seen_as refuse (signed_front west sign (drop place text))) × (2 ≤ numbers.1)
 known refuse west sign text front place numbers from is =
     let rest : List ℕ = drop place text in
     let are = sym (read refuse text front place _ from is) in
@@ -59,7 +61,8 @@ known refuse west sign text front place numbers from is =
     let ranged = first_refusal_or refuse (offset_ranges rest) (Ok found) in (
       ap (λ (minute : ℕ). decided refuse west sign minute numbers) (omega (arith, size))
           ∙ ap (decided refuse west sign (offset_minute_place rest)) (sym value.1)
-          ∙ sym (refusal-all refuse (offset_digits rest) ranged value.0),
+          ∙ sym (refusal-all refuse (offset_digits rest) ranged value.0)
+          ∙ sym (seen-tables refuse (offset_digits rest) (offset_ranges rest) (Ok found)),
       omega (arith, size),
     )
 
@@ -76,7 +79,8 @@ returns-in_err-hour-clause-answer g c =
       c.args.sign + offset_digits_size rest,
     ) in
     let next = first_refusal_or refuse (offset_ranges rest) (Ok value) in
-    rw (p.1, p.2) (first_refusal_or-next refuse (offset_digits rest) _ _ next refused)
+    rw (p.1, p.2) (first_refusal_or-next refuse (offset_digits rest) _ _ next refused
+    ∙ sym (seen-tables refuse (offset_digits rest) (offset_ranges rest) (Ok value)))
 
 pub returns-then-minute-gt59-clause-answer : goal.returns-then-minute-gt59-clause-answer
 returns-then-minute-gt59-clause-answer g c =

@@ -16,6 +16,6 @@ returns-in-Ok c =
       within = front.within;
       answered = date_number-of_date reader _ date front.alone
           ∙ ap Ok (sym c.days_since.ensures.days);
-      no_end = HasNoEnd-read date_answer text date size refl front.alone front.no_control;
+      no_end = HasNoEnd-read date_answer text date size _ refl front.alone front.no_control;
     } in
     search rules

@@ -1,7 +1,11 @@
 use Rattle.std.proofs.Common.{rules}
 use Rattle.speedate_civil.specs.DateTime.{date_and_time}
 use Rattle.speedate.proofs.FrontNumberLemmas.{date_time_of_line-read, date_time_of_line-untaken}
+use Rattle.speedate.proofs.FrontNumberLemmas.{strict_faults}
 use Rattle.speedate.proofs.column.date_time.DateTimeParser.parse.Goals as goal
+
+pub returns-in_err-value : goal.returns-in_err-value
+returns-in_err-value c = search (rules, strict_faults)
 
 pub returns-in-Ok : goal.returns-in-Ok
 returns-in-Ok c =

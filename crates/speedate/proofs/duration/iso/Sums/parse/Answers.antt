@@ -1,6 +1,7 @@
 use Rattle.std.proofs.Common.{◌∙◌, ◌-◌, ap, arith, length}
+use Rattle.speedate_base.specs.Refused.{seen_as}
 use Rattle.speedate_base.specs.Requirement.{shifted}
-use Rattle.speedate.specs.Duration.{iso_from_or}
+use Rattle.speedate.specs.Duration.{iso_from}
 use Rattle.speedate.specs.IsoForm.{IsoSums}
 use Rattle.speedate.specs.IsoParts.{sums_parts}
 use Rattle.speedate.proofs.DurationPlaceLemmas.{iso_from-part}
@@ -22,7 +23,8 @@ returns g c =
           ∙ iso_from-part refuse end (sums_parts c.none-none.result) (sums_parts days.0) body
           days.1.now c.with_short_components.ensures.within c.requires
           c.with_short_components.ensures.answer
-          ∙ ap (λ (sums : IsoSums). iso_from_or (shifted (end - length body) refuse) sums body)
+          ∙ ap (λ (sums : IsoSums).
+          seen_as (shifted (end - length body) refuse) (iso_from sums body))
           c.none-none.ensures.sums;
       placed = c.parse_items.ensures.placed;
     }

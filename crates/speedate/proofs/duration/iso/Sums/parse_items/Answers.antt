@@ -2,8 +2,9 @@ use Rattle.std.proofs.Common.{◌≡◌, ◌∙◌, ap, sym, subst, arith, ℕ, 
 use Rattle.std.proofs.lemmas.Bool.Decides.{nat_tests}
 use Rattle.std.proofs.lemmas.List.{take_rest}
 use Rattle.std.proofs.lemmas.Result.{err_from_is_err_and}
+use Rattle.speedate_base.specs.Refused.{seen_as}
 use Rattle.speedate_base.specs.Requirement.{shifted}
-use Rattle.speedate.specs.Duration.{iso_from_or}
+use Rattle.speedate.specs.Duration.{iso_from}
 use Rattle.speedate.specs.DurationNumbers.{UnsignedDuration}
 use Rattle.speedate.specs.IsoParts.{sums_parts}
 use Rattle.speedate.proofs.DurationPlaceLemmas.{iso_from-next, iso_from-refused, iso_from-short}
@@ -39,7 +40,7 @@ loop-rest-preserved g c =
     (sums_parts c.loop-rest.sums) next end rest c.in_ok-next.size c.in_ok-next.ensures.some
     c.in_ok-next.ensures.within c.loop-rest.invariant.1 c.in_ok-next.ensures.item in
     let left = length-drop c.in_ok-next.size rest in (
-      ap (λ (rest : List ℕ). iso_from_or (shifted (end - length rest) refuse) next rest)
+      ap (λ (rest : List ℕ). seen_as (shifted (end - length rest) refuse) (iso_from next rest))
           (take_rest rest c.in_ok-next.size)
           ∙ sym step ∙ c.loop-rest.invariant.0,
       omega (arith, ap length (take_rest rest c.in_ok-next.size), left, c.loop-rest.invariant.1),
@@ -70,7 +71,9 @@ returns g c =
     let component : c.loop-rest.sums.has_component ≡ true = search rules in
     record {
       answer = ap (λ (amount : UnsignedDuration). Ok amount) c.sum.ensures.amount
-          ∙ iso_from-sum refuse (sums_parts c.loop-rest.sums) end rest none component
+          ∙ iso_from-sum (shifted (end - length rest) refuse)
+          (sums_parts c.loop-rest.sums) rest none
+          component
           ∙ c.loop-rest.invariant.0;
       placed = tt;
     }

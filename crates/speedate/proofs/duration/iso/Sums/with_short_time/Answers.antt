@@ -1,9 +1,8 @@
 use Rattle.std.proofs.Common.{◌≡◌, ◌∙◌, ap, arith, subst, sym, ℕ, ◌-◌, ◌≤◌, List, length, length-drop, slice_index, false, drop, rules}
 use Rattle.std.proofs.lemmas.List.{take_rest}
 use Rattle.speedate_base.specs.Ascii.{capital_t}
-use Rattle.speedate_base.specs.Refused.{placed}
-use Rattle.speedate_base.specs.Requirement.{shifted}
-use Rattle.speedate.specs.Duration.{iso_from_or}
+use Rattle.speedate_base.specs.Refused.{from_byte}
+use Rattle.speedate.specs.Duration.{iso_from}
 use Rattle.speedate.specs.IsoForm.{IsoSums}
 use Rattle.speedate.specs.IsoParts.{sums_parts}
 use Rattle.speedate.proofs.DurationPlaceLemmas.{iso_from-time_part}
@@ -21,11 +20,11 @@ returns-in-84 c =
     record {
       answer = iso_from-time_part (sums_parts c.args.self) next text rest c.in-84.len_at_least first
           none within
-          (ap (λ (after : List ℕ). iso_from_or (shifted (length after - length rest) placed)
-          next rest) (sym (take_rest text 1))
+          (ap (λ (after : List ℕ). from_byte (length after - length rest) (iso_from next rest))
+          (sym (take_rest text 1))
           ∙ c.with_short_components.ensures.answer
-          ∙ ap (iso_from_or placed (sums_parts c.begin_time.result)) (take_rest text 1)
-          ∙ ap (λ (sums : IsoSums). iso_from_or placed sums (drop 1 text))
+          ∙ ap (iso_from (sums_parts c.begin_time.result)) (take_rest text 1)
+          ∙ ap (λ (sums : IsoSums). iso_from sums (drop 1 text))
           c.begin_time.ensures.sums);
       within = omega (arith, within, length-drop 1 text);
     }

@@ -1,22 +1,28 @@
-use Rattle.std.proofs.Common.{◌≡◌, ◌≤◌, ◌<◌, ◌-◌, ◌+◌, ◌∙◌, ap, sym, subst, arith, rules, ℕ, Bool, true, false, List, length, drop, if◌then◌else◌, IsOk, Result, Err}
+use Rattle.std.proofs.Common.{◌≡◌, ◌≤◌, ◌<◌, ◌-◌, ◌+◌, ◌∙◌, ap, sym, subst, arith, rules, ℕ, Bool, true, false, List, length, drop, if◌then◌else◌, IsOk, Result, Ok, Err}
 use Rattle.std.proofs.lemmas.Bool.Decides.{nat_tests}
 use Rattle.std.proofs.lemmas.List.{drop-drop, length-drop, take_rest}
-use Rattle.speedate_base.specs.Refused.{placed}
+use Rattle.speedate_base.specs.Refused.{from_byte, placed, seen_as}
 use Rattle.speedate_base.specs.declared.refusal.Refused.{Refused}
-use Rattle.speedate_base.specs.Requirement.{fault_alone, refusal_map, shifted}
+use Rattle.speedate_base.specs.Requirement.{shifted}
 use Rattle.speedate_civil.specs.Base.{ParseError}
 use Rattle.speedate.specs.Duration.{iso_from}
 use Rattle.speedate.specs.DurationNumbers.{UnsignedDuration}
 use Rattle.speedate.specs.DurationPlace.{amount_numbers, first_item_after}
 use Rattle.speedate.specs.IsoForm.{item_at}
 use Rattle.speedate.specs.IsoParts.{bound_test, item_front_or, sums_parts}
-use Rattle.speedate.proofs.DurationPlaceLemmas.{first_item-done, first_item-step, iso_after-view}
-use Rattle.speedate.proofs.DurationPlaceLemmas.{iso_from-read, iso_from-refused, item_front-any}
+use Rattle.speedate.proofs.DurationPlaceLemmas.{first_item-done, first_item-step, iso_from-read}
+use Rattle.speedate.proofs.DurationPlaceLemmas.{iso_from-refused}
 use Rattle.speedate.proofs.duration.iso.error_place.first_item.Goals as goal
 
-is_ok-err : (answer : Result UnsignedDuration ParseError) (fault : ParseError)
-    → Err fault ≡ answer → IsOk answer → ⊥
-is_ok-err answer fault same ok = absurd (cc (sym same, ok))
+is_ok-err : (refuse : ParseError → ℕ → Refused) (answer : Result UnsignedDuration Refused)
+    (refused : Refused) → Err refused ≡ seen_as refuse answer → IsOk answer → ⊥
+is_ok-err refuse (Ok amount) refused same ok = absurd (cc)
+is_ok-err refuse (Err given) refused same ok = absurd (cc)
+
+is_ok-part : (start : ℕ) (answer : Result UnsignedDuration Refused) → IsOk (from_byte start answer)
+    → IsOk answer
+is_ok-part start (Ok amount) ok = ok
+is_ok-part start (Err refused) ok = absurd (cc)
 
 pub returns-then-not-holds-clause-place : goal.returns-then-not-holds-clause-place
 returns-then-not-holds-clause-place c =
@@ -69,10 +75,10 @@ loop-place-preserved c =
     let found = step
     ∙ ap (λ (holds : Bool). if holds then after (drop size rest) else 0) held
     ∙ ap after left_text in
-    let front = item_front-any refuse fault_alone sums (item_at rest) (next, size) read in
-    let later = iso_from-read fault_alone sums next rest size some small front in
-    let IsRead = λ (answer : Result UnsignedDuration ParseError). IsOk answer in
-    let read_later = subst IsRead later c.loop-place.invariant.2 in (
+    let later = iso_from-read refuse sums next rest size some small read in
+    let IsRead = λ (answer : Result UnsignedDuration Refused). IsOk answer in
+    let part = subst IsRead later c.loop-place.invariant.2 in
+    let read_later = is_ok-part size (iso_from next (drop size rest)) part in (
       omega (arith, found, c.loop-place.invariant.0),
       omega (arith, left, small, more),
       subst (λ (text : List ℕ). IsOk (iso_from next text)) left_text read_later,
@@ -101,12 +107,10 @@ returns-in_default-clause-place c =
     let sums = sums_parts c.loop-place.sums in
     let more : place < length body = grind (arith, nat_tests, c.loop-place-test.true) in
     let left : length rest ≡ length body - place = length-drop place body in
-    let view : Refused → ParseError = λ refused. refused.fault in
     let refuse = shifted place placed in
     let some : 0 < length rest = omega (arith, left, more) in
     let front_of = λ (text : List ℕ). item_front_or refuse sums (item_at text) in
     let item = c.in_default.ensures.item ∙ ap front_of (take_rest body place) in
     let refused = iso_from-refused refuse sums rest c.in_default.field-0 some item in
-    let seen = ap (refusal_map view) refused ∙ iso_after-view view refuse 0 sums rest in
-    let fault = c.in_default.field-0.fault in
-    absurd (is_ok-err (iso_from sums rest) fault seen c.loop-place.invariant.2)
+    absurd (is_ok-err refuse (iso_from sums rest) c.in_default.field-0 refused
+    c.loop-place.invariant.2)

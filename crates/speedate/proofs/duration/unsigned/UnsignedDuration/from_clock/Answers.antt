@@ -5,13 +5,13 @@ use Rattle.speedate_base.specs.Digits.{digits_value}
 use Rattle.speedate_base.specs.Requirement.{first_refusal_or, shifted}
 use Rattle.speedate_base.proofs.RefusalLemmas.{first_refusal_or-next, shifted-shifted}
 use Rattle.speedate_civil.specs.Base.{ParseError}
-use Rattle.speedate.specs.ClockForm.{after_hours_or, clock_form_or, colon_place, from_minute, hours}
+use Rattle.speedate_base.specs.Refused.{seen_as}
+use Rattle.speedate.specs.ClockForm.{after_hours, colon_place, from_minute, hours}
 use Rattle.speedate.specs.ClockForm.{hours_range, hours_table}
-use Rattle.speedate.proofs.ClockFormLemmas.{clock-many, clock-rest}
+use Rattle.speedate.proofs.ClockFormLemmas.{clock-many, clock-rest, clock_form-seen}
 use Rattle.speedate.proofs.duration.unsigned.UnsignedDuration.from_clock.Goals as goal
 
 pub returns-in_err-end : goal.returns-in_err-end
-unfolding clock_form_or
 returns-in_err-end g c =
     let refuse = shifted c.args.start g.E.Refusal.refusal in
     let text = c.args.bytes.now in
@@ -19,9 +19,11 @@ returns-in_err-end g c =
     let p = err_from_is_err_and c.from_residual.result c.from_residual.ensures.1 in
     rw (p.1, p.2) (record {
       answer = first_refusal_or-next refuse (hours_table text) (colon_place text) _
-          (first_refusal_or refuse (hours_range count) (after_hours_or
-          (shifted (colon_place text + 1) refuse) c.args.behavior count (from_minute text)))
-          c.in_err-end.ensures.answer;
+          (first_refusal_or refuse (hours_range count)
+          (seen_as (shifted (colon_place text + 1) refuse)
+          (after_hours c.args.behavior count (from_minute text))))
+          c.in_err-end.ensures.answer
+          ∙ sym (clock_form-seen refuse c.args.behavior text);
       placed = c.in_err-end.ensures.placed;
     })
 
@@ -41,7 +43,7 @@ returns-clause-answer g c =
     let text = c.args.bytes.now in
     let end = c.in_ok-end.end in
     let after = λ (refuse : ParseError → ℕ → _) (rest : List ℕ).
-    after_hours_or refuse c.args.behavior c.args.hours.value rest in
+    seen_as refuse (after_hours c.args.behavior c.args.hours.value rest) in
     c.after_hours.ensures.answer
     ∙ ap₂ after (sym (shifted-shifted start (end + 1) refuse)) (take_rest text (end + 1))
     ∙ clock-rest (shifted start refuse) c.args.behavior text end c.args.hours.value
