@@ -6,6 +6,7 @@ use Rattle.std.specs.Char.{is_ascii_digit}
 use Rattle.std.specs.List.{list_all, list_any, prefix_len}
 use Rattle.std.proofs.lemmas.Bool.{eqb-true}
 use Rattle.std.proofs.lemmas.Bool.Decides.{nat_tests}
+use Rattle.std.proofs.lemmas.Grind.{common_steps}
 use Rattle.std.proofs.lemmas.List.{get_or_past, take-append-drop, drop_more, take_rest}
 use Rattle.std.proofs.lemmas.List.Sums.{position_or_len_is, passes_at_first, prefix_len_passes}
 use Rattle.speedate_base.specs.Ascii.{colon}
@@ -21,7 +22,7 @@ use Rattle.speedate_base.specs.Requirement.{shifted}
 use Rattle.speedate_base.specs.Refused.{first_refused_or, from_byte, placed, seen_as}
 use Rattle.speedate_base.specs.declared.refusal.Refused.{Refused}
 use Rattle.speedate_base.proofs.RefusalLemmas.{refusal-all, refusal-ok, refusal-value, seen-from}
-use Rattle.speedate_base.proofs.RefusalLemmas.{seen-read, seen-tables}
+use Rattle.speedate_base.proofs.RefusalLemmas.{seen-read, seen-tables, seen_then}
 use Rattle.speedate_base.proofs.RequirementLemmas.{and_then-ok}
 use Rattle.speedate_civil.specs.Time.{Clock, has_decimal_mark, has_second, minute_clock}
 use Rattle.speedate_civil.specs.Time.{minute_digits, minute_table, minute_front, clock_answer}
@@ -70,6 +71,9 @@ hours-count : (text : List ℕ) → AllHold (hours_table text)
     → digits_value (hours text) ≡ run_value text 0
 hours-count text held =
     ap (λ (n : ℕ). digits_value (take n text)) (sym (hours-run text held.1.0 held.1.1.1.0))
+
+-- what the parser of what follows the hours cites
+pub ruleset rest_rules = (common_steps, seen_then)
 
 -- the answer to a clock, as a kind of refusal shows it
 pub clock_form-seen : {E : Type 0} (refuse : ParseError → ℕ → E) (behavior : Behavior)

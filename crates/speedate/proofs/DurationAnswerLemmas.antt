@@ -5,7 +5,7 @@ use Rattle.std.proofs.Math.Seq.{drop-append_seam}
 use Rattle.std.proofs.lemmas.List.{length-append}
 use Rattle.speedate_base.specs.Ascii.{capital_p}
 use Rattle.speedate_base.specs.Numbers.{IsSign, has_minus, sign_size}
-use Rattle.speedate_base.specs.Refused.{from_byte, without_place}
+use Rattle.speedate_base.specs.Refused.{from_byte, seen_as, without_place}
 use Rattle.speedate_base.specs.declared.refusal.Refused.{Refused}
 use Rattle.speedate_base.specs.Requirement.{fault_alone, first_fault_or, result_and_then, ◌>>=◌}
 use Rattle.speedate_base.proofs.RefusalLemmas.{seen-from, seen-table}
@@ -101,12 +101,13 @@ pub iso_from-item : (sums : IsoSums) (item : Item) (rest : List ℕ)
 iso_from-item sums item rest is =
     search (rules, length-append, item_text-some, iso_from-step, drop-append_seam)
 
--- a step after an answer, with faults alone
-pub then-alone : {A B : Type 0} (step : A → Result B Refused) (seen : A → Result B ParseError)
-    (answer : Result A Refused) → ((value : A) → without_place (step value) ≡ seen value)
-    → without_place (result_and_then step answer) ≡ result_and_then seen (without_place answer)
-then-alone step seen (Ok value) same = same value
-then-alone step seen (Err refused) same = refl
+-- a step after an answer, as a kind of refusal shows both
+pub then-seen : {A B E : Type 0} (refuse : ParseError → ℕ → E) (step : A → Result B Refused)
+    (seen : A → Result B E) (answer : Result A Refused)
+    → ((value : A) → seen_as refuse (step value) ≡ seen value)
+    → seen_as refuse (result_and_then step answer) ≡ result_and_then seen (seen_as refuse answer)
+then-seen refuse step seen (Ok value) same = same value
+then-seen refuse step seen (Err refused) same = refl
 
 -- the answer by the form of the text
 unsigned-form : (order : IsoOrder) (behavior : Behavior) (text : List ℕ) (iso : Bool)
@@ -128,7 +129,7 @@ duration_answer-form order behavior text =
     let positive = not (has_minus text) in
     let unsigned = unsigned_answer order behavior rest in
     seen-from fault_alone (sign_size text) (unsigned >>= signed_answer place positive)
-    ∙ then-alone (signed_answer place positive) (signed_form positive) unsigned
+    ∙ then-seen fault_alone (signed_answer place positive) (signed_form positive) unsigned
     (λ amount. seen-table fault_alone (normal_rows place (amount_numbers amount)) _)
     ∙ ap (result_and_then (signed_form positive))
     (unsigned-form order behavior rest (slice_index rest 0 == capital_p))

@@ -20,7 +20,7 @@ use Rattle.speedate.specs.declared.column.date_time.DateTimeParser.{DateTimePars
 use Rattle.speedate.specs.declared.column.date_time.DateTimeReader.{DateTimeReader}
 use Rattle.speedate.specs.Column.{HasNoEnd, IsFront, as_number, date_number, date_time_number}
 use Rattle.speedate.specs.Column.{date_time_of_line, epoch, taken_answer, text_behavior}
-use Rattle.speedate.proofs.DurationAnswerLemmas.{then-alone}
+use Rattle.speedate.proofs.DurationAnswerLemmas.{then-seen}
 use Rattle.speedate.proofs.LineLemmas.{IsOneLine-printed, no_return-printed}
 
 -- nothing is read of no bytes
@@ -64,7 +64,8 @@ pub strict_faults : (behavior : Behavior) (line : List ℕ)
     (without_place (date_time_answer behavior line))
 strict_faults behavior line =
     let table = strict_date_time line in
-    then-alone (λ found. first_refused_or table (Ok found)) _ (date_time_answer behavior line)
+    then-seen fault_alone (λ found. first_refused_or table (Ok found)) _
+    (date_time_answer behavior line)
     (λ found. seen-table fault_alone table (Ok found))
 
 -- a date-time that is read is that of the line, if the parser takes it

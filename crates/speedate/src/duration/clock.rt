@@ -54,7 +54,7 @@ impl UnsignedDuration {
     /// Parses what follows the hours of a clock, from its minute on, which begins at `start` of the whole
     /// text: all of `rest`.
     #[inline(always)]
-    #[tactic(auto, using(speedate_base::proofs::RefusalLemmas::seen_then))]
+    #[tactic(auto, using(crate::proofs::ClockFormLemmas::rest_rules))]
     fn after_hours<E: Refusal>(
         rest: &[u8],
         hours: u32,
