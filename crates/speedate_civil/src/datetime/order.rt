@@ -1,16 +1,14 @@
 //! The order of date-times by the instant at which they lie.
 
-ghost use Rattle.std.specs.Prelude.{◌≡◌, ◌&&◌, true, false, is_some};
-
 use super::DateTime;
 use speedate_base::util::UnixTime;
 use std::cmp::Ordering;
 
 impl DateTime {
-    ghost use Rattle.std.specs.Prelude.{◌≡◌, false, true, None, Some, neg_ℤ, pos};
+    ghost use Rattle.std.specs.Prelude.{◌≡◌, None, Some, neg_ℤ, pos};
     ghost use Rattle.std.specs.Cmp.Lexicographic.{slice_cmp};
-    ghost use Rattle.std.specs.Ordering.{nat_cmp, on, ordering_reverse};
-    ghost use Rattle.speedate_base.specs.Timestamp.{instant_order, unix_instant};
+    ghost use Rattle.std.specs.Ordering.{nat_cmp, ordering_reverse};
+    ghost use Rattle.speedate_base.specs.Timestamp.{unix_instant};
     ghost use Rattle.speedate_civil.specs.DateTime.{date_and_time, date_time_text};
     ghost use Rattle.speedate_civil.specs.DateTime.{date_time_instant, date_time_instant_order};
     ghost use Rattle.speedate_civil.specs.DateTime.{DateTime};
@@ -44,48 +42,21 @@ impl DateTime {
             (record { date = date; time = minute_time 0 30 None })
             (record { date = date; time = minute_time 1 0 (Some (pos 0)) }) }
     {
-        self.compared(other)
+        let is_utc = self.time.tz_offset.is_some() && other.time.tz_offset.is_some();
+        self.instant(is_utc).cmp_instant(&other.instant(is_utc))
     }
 
-    /// The answer of [`DateTime::cmp_instant`]. The instants are calculated only if clocks do not show it.
-    fn compared(&self, other: &DateTime) -> Ordering
-        ensures { result
-            ≡ date_time_instant_order (date_and_time self.now) (date_and_time other.now) }
-    {
-        if do_clocks_decide(self.time.tz_offset, other.time.tz_offset) {
-            self.cmp_clock(other)
-        } else {
-            self.instant().cmp_instant(&other.instant())
-        }
-    }
-
-    /// Compares two date-times as clocks show them, whatever their offsets.
-    fn cmp_clock(&self, other: &DateTime) -> Ordering
-        ensures { result ≡ on (date_time_instant false) instant_order
-            (date_and_time self.now) (date_and_time other.now) }
-    {
-        let dates = self.date.cmp(&other.date);
-        dates.then(self.time.cmp_clock(&other.time))
-    }
-
-    /// The instant of the date-time in UTC; an absent offset is 0.
-    fn instant(&self) -> UnixTime
-        ensures { unix_instant result ≡ date_time_instant true (date_and_time self.now) }
+    /// The instant of the date-time, in UTC or as a clock shows it; an absent offset is 0.
+    fn instant(&self, is_utc: bool) -> UnixTime
+        ensures { unix_instant result ≡ date_time_instant is_utc (date_and_time self.now) }
     {
         UnixTime {
-            second: self.timestamp_tz(),
+            second: if is_utc {
+                self.timestamp_tz()
+            } else {
+                self.timestamp()
+            },
             microsecond: self.time.microsecond,
         }
-    }
-}
-
-/// Whether clocks decide the order of two values with these offsets: they are equal, or one is missing.
-fn do_clocks_decide(first: Option<i32>, second: Option<i32>) -> bool
-    ensures clocks { result ≡ true → (is_some first && is_some second) ≡ true → first ≡ second }
-    ensures instants { result ≡ false → (is_some first && is_some second) ≡ true }
-{
-    match (first, second) {
-        (Some(first), Some(second)) => first == second,
-        _ => true,
     }
 }

@@ -5,10 +5,10 @@ use speedate_base::util::UnixTime;
 use std::cmp::Ordering;
 
 impl Time {
-    ghost use Rattle.std.specs.Prelude.{◌≡◌, false, None, Some, neg_ℤ, pos};
+    ghost use Rattle.std.specs.Prelude.{◌≡◌, None, Some, neg_ℤ, pos};
     ghost use Rattle.std.specs.Cmp.Lexicographic.{slice_cmp};
-    ghost use Rattle.std.specs.Ordering.{nat_cmp, on, ordering_reverse};
-    ghost use Rattle.speedate_base.specs.Timestamp.{instant_order, unix_instant};
+    ghost use Rattle.std.specs.Ordering.{nat_cmp, ordering_reverse};
+    ghost use Rattle.speedate_base.specs.Timestamp.{unix_instant};
     ghost use Rattle.speedate_civil.specs.Instant.{BothOrNeither, IsBeforeNextOnly, IsNotAfter};
     ghost use Rattle.speedate_civil.specs.Time.{time_of_day, time_text, Time, time_instant};
     ghost use Rattle.speedate_civil.specs.Time.{time_instant_order, minute_time};
@@ -39,14 +39,6 @@ impl Time {
     {
         let is_utc = self.tz_offset.is_some() && other.tz_offset.is_some();
         self.instant(is_utc).cmp_instant(&other.instant(is_utc))
-    }
-
-    /// Compares two times as clocks show them, whatever their offsets.
-    pub(crate) fn cmp_clock(&self, other: &Time) -> Ordering
-        ensures { result
-            ≡ on (time_instant false) instant_order (time_of_day self.now) (time_of_day other.now) }
-    {
-        self.instant(false).cmp_instant(&other.instant(false))
     }
 
     /// The instant of the time on 1970-01-01, in UTC or as a clock shows it; an absent offset is 0.

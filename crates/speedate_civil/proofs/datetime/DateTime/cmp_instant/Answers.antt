@@ -12,7 +12,7 @@ pub returns-clause-text_order : goal.returns-clause-text_order
 returns-clause-text_order c =
     let first = c.args.self.now in
     let second = c.args.other.now in
-    let order : c.compared.result ≡ date_time_instant_order (date_and_time first)
+    let order : c.cmp_instant.result ≡ date_time_instant_order (date_and_time first)
     (date_and_time second) = search rules in
     λ none nothing. order ∙ date_time_text-order (date_and_time first) (date_and_time second)
     (is_date_and_time first) (is_date_and_time second) none nothing
@@ -21,7 +21,7 @@ pub returns-clause-reversed : goal.returns-clause-reversed
 returns-clause-reversed c =
     let first = date_and_time c.args.self.now in
     let second = date_and_time c.args.other.now in
-    let order : c.compared.result ≡ date_time_instant_order first second = search rules in
+    let order : c.cmp_instant.result ≡ date_time_instant_order first second = search rules in
     by_instant-reversed (λ value. value.time.offset) date_time_instant first second
     ∙ ap ordering_reverse (sym order)
 
@@ -29,7 +29,7 @@ pub returns-clause-transitive : goal.returns-clause-transitive
 returns-clause-transitive c =
     let first = date_and_time c.args.self.now in
     let second = date_and_time c.args.other.now in
-    let order : c.compared.result ≡ date_time_instant_order first second = search rules in
+    let order : c.cmp_instant.result ≡ date_time_instant_order first second = search rules in
     λ third one two before. by_instant-transitive (λ value. value.time.offset)
     date_time_instant first second (date_and_time third) one two (subst IsNotAfter order before)
 
