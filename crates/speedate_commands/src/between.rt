@@ -11,8 +11,9 @@ ghost use Rattle.speedate_commands.specs.Between.{kept_after, lies_between, prin
 use crate::command::{About, Command};
 use crate::in_order::between_in_order;
 use crate::search::ReadAt;
+use speedate_scan::glance::Glance;
 use speedate_scan::print::{PREFIX_MAX, Prefix};
-use speedate_scan::reading::{Found, Glance};
+use speedate_scan::reading::Found;
 use speedate_scan::scan::{LineKind, Scan};
 use speedate_stream::run::{RunError, run};
 use speedate_stream::{LineMachine, Observer, PENDING_MAX, Pending, STEP_MAX, Watched};

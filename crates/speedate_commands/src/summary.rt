@@ -18,8 +18,9 @@ use crate::nanosecond::{
 use crate::order::{Latest, Order};
 use crate::search::ReadAt;
 use speedate::{DateTime, DateTimeConfig, ParseError, TimeConfig, TimestampUnit};
+use speedate_scan::glance::Glance;
 use speedate_scan::print::{push_line_place, push_number};
-use speedate_scan::reading::{Found, Glance};
+use speedate_scan::reading::Found;
 use speedate_scan::scan::{LineKind, Scan};
 use speedate_stream::run::{RunError, run};
 use speedate_stream::{LineMachine, Observer, PENDING_MAX, Pending, Watched, push_bytes};

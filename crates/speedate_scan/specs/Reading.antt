@@ -31,7 +31,7 @@ pub use Rattle.speedate_scan.specs.declared.reading.Why.{Why}
 pub use Rattle.speedate_scan.specs.declared.reading.Bad.{Bad}
 pub use Rattle.speedate_scan.specs.declared.reading.Found.{Found}
 pub use Rattle.speedate_scan.specs.declared.reading.Reading.{Reading}
-pub use Rattle.speedate_scan.specs.declared.reading.Glance.{Glance}
+pub use Rattle.speedate_scan.specs.declared.glance.Glance.{Glance}
 
 -- Values at the front of a text.
 

@@ -1,27 +1,25 @@
 //! What is read of a line.
 
-ghost use Rattle.std.specs.Prelude.{◌≡◌, ◌+◌, ◌-◌, ◌≤◌, ◌||◌, IfErr, IfOk, IfSome, None, Ok, drop, false, if◌then◌else◌, is_some, length, not, true};
+ghost use Rattle.std.specs.Prelude.{◌≡◌, ◌+◌, ◌-◌, ◌≤◌, ◌||◌, IfErr, IfOk, IfSome, None, Ok, drop, if◌then◌else◌, is_some, length, not, true};
 ghost use Rattle.std.specs.Option.{ForSome, option_map, option_map_or};
 ghost use Rattle.speedate_base.specs.Offset.{IsOffset, is_offset};
 ghost use Rattle.speedate.specs.Requirement.{result_map, with_size};
 ghost use Rattle.speedate.specs.DateTime.{date_and_time};
 ghost use Rattle.speedate_scan.specs.Field.{IsFieldWithin};
-ghost use Rattle.speedate_scan.specs.Reading.{IfUndated, IfValue, IsParsed, IsReadWithin, IsWithin};
-ghost use Rattle.speedate_scan.specs.Reading.{IsWithoutValue, alone, assumed, can_end, claims, fields_of};
+ghost use Rattle.speedate_scan.specs.Reading.{IsParsed, IsReadWithin};
+ghost use Rattle.speedate_scan.specs.Reading.{IsWithoutValue, alone, assumed, can_end, fields_of};
 ghost use Rattle.speedate_scan.specs.Reading.{found_at, found_from, front_of, instant_of};
 ghost use Rattle.speedate_scan.specs.Reading.{is_cut, is_longer, is_without_clock, lacks_clock};
-ghost use Rattle.speedate_scan.specs.Reading.{not_within, part, read, read_claim, read_field};
+ghost use Rattle.speedate_scan.specs.Reading.{not_within, read, read_claim, read_field};
 ghost use Rattle.speedate_scan.specs.Reading.{read_whole, refused_at, seen, undated_field, value_at};
 ghost use Rattle.speedate_scan.specs.Reading.{value_between, value_of};
 ghost use Rattle.speedate_scan.specs.Reading.{without_field};
 
-use crate::claim::{
-    Wanted, after_claim, claim_after, claims, field_claims, front_claim, length_before_value,
-    may_claim,
-};
+use crate::claim::{after_claim, field_claims, front_claim};
 use crate::field::{Field, NthField, first_bytes};
 use crate::form::Form;
 use crate::fraction::value_past_microsecond;
+use crate::glance::Glance;
 use crate::zone::is_boundary;
 use speedate::{DateTime, MicrosecondsPrecisionOverflowBehavior, ParseError, Refused, Time};
 use speedate_base::config::require_offset;
@@ -109,20 +107,9 @@ pub enum Reading {
     Undated(usize),
 }
 
-/// What is known of a line at a glance.
-#[derive(Clone, Copy)]
-pub enum Glance {
-    /// It has this value, which stands from one byte up to another.
-    Value(DateTime, usize, usize),
-    /// It has no value: the byte at which one would begin.
-    Undated(usize),
-    /// It has to be read.
-    Unknown,
-}
-
 /// Whether a value of this form can end before a text: a timestamp before a colon, too.
 #[inline(always)]
-fn can_end(form: Form, rest: &[u8]) -> bool
+pub(crate) fn can_end(form: Form, rest: &[u8]) -> bool
     ensures ends { result ≡ can_end form rest.now }
 {
     is_boundary(rest) || (matches!(form, Form::Timestamp(_)) && byte_at(rest, 0) == b':')
@@ -308,7 +295,8 @@ fn read_as(
 ) -> (Reading, Option<DateTime>)
     requires ordered { IfOk parsed (λ found. from ≤ found.1) }
     requires within { IfOk parsed (λ found. found.1 ≤ length head.now) }
-    ensures read { result.0 ≡ found_from form head.now from (result_map (with_size date_and_time) parsed) }
+    ensures read { result.0
+        ≡ found_from form head.now from (result_map (with_size date_and_time) parsed) }
     ensures value { IsParsed (λ found. result_map (with_size date_and_time) parsed) result.0
         (option_map date_and_time result.1) }
 {
@@ -330,89 +318,6 @@ impl Reader<'_> {
         match &self.glance(head) {
             Glance::Value(value, from, to) => Reading::Value(self.found(head, value, *from, *to)),
             _ => self.parse(head).0,
-        }
-    }
-
-    /// What is known of a line, by its head, without parsing its value part by part.
-    #[inline(always)]
-    #[tactic(auto, unfolding(crate::specs::Reading::value_at), using(crate::proofs::SeenLemmas::seen_within))]
-    pub fn glance(&self, head: &[u8]) -> Glance
-        ensures read { IfValue result (λ value from to. read self.now head.now
-            ≡ Reading.Value (found_at self.now.form head.now (date_and_time value) from to)) }
-        ensures value { IfValue result (λ value from to. value_of self.now head.now
-            (found_at self.now.form head.now (date_and_time value) from to)
-            ≡ Ok (date_and_time value, to)) }
-        ensures within { IfValue result (λ value from to. IsWithin
-            (found_at self.now.form head.now (date_and_time value) from to) head.now) }
-        ensures undated { IfUndated result (λ place. read self.now head.now
-            ≡ Reading.Undated place) }
-    {
-        let start = match self.start(head) {
-            Ok(start) => start,
-            Err(glance) => return glance,
-        };
-        let text = &seen(head)[start..];
-        // Most lines without a value begin otherwise.
-        if !may_claim(self.form, text) {
-            return self.unclaimed(start);
-        }
-        let (value, size) = match self.form.usual(text) {
-            Some((value, size)) => (value, size),
-            None => {
-                if !claims(self.form, text) {
-                    return self.unclaimed(start);
-                }
-                match self.form.accepted(text, self.behavior) {
-                    Some((value, size)) => (value, size),
-                    None => return Glance::Unknown,
-                }
-            }
-        };
-        let to = start + size;
-        if is_cut(head, to) || !can_end(self.form, &head[to..]) {
-            return Glance::Unknown;
-        }
-        Glance::Value(assume(self.offset, value), start, to)
-    }
-
-    /// The byte at which a value would begin in a line, by its head, or what is known of a line in which none is claimed.
-    #[inline(always)]
-    #[tactic(auto, unfolding(crate::specs::Reading::read, crate::specs::Reading::value_of))]
-    fn start(&self, head: &[u8]) -> Result<usize, Glance>
-        ensures read { IfOk result (λ start.
-            claims self.now.form (drop start (seen head.now)) ≡ true
-            → read self.now head.now ≡ read_claim self.now head.now (Ok start)) }
-        ensures value { (found : Found) → IfOk result (λ start. value_of self.now head.now found
-            ≡ value_at self.now head.now found.from) }
-        ensures within { IfOk result (λ start. start ≤ length (seen head.now)) }
-        ensures bare { IfOk result (λ start. self.now.place ≡ Place.Front
-            → claims self.now.form (drop start (seen head.now)) ≡ false
-            → read self.now head.now ≡ Reading.Undated start) }
-        ensures none { IfErr result (λ glance. IfValue glance (λ value from to. ⊥)) }
-        ensures undated { IfErr result (λ glance. IfUndated glance (λ place. read self.now head.now
-            ≡ Reading.Undated place)) }
-    {
-        match self.place {
-            Place::Front => Ok(length_before_value(seen(head))),
-            Place::After(word) => match claim_after(Wanted::Value(self.form), word, seen(head)) {
-                Some(start) => Ok(start),
-                None if is_longer(head) => Err(Glance::Unknown),
-                None => Err(Glance::Undated(head.len())),
-            },
-            Place::Field(_) => Err(Glance::Unknown),
-        }
-    }
-
-    /// What is known of a line in which no value is claimed at the byte at which one would begin.
-    #[inline(always)]
-    fn unclaimed(&self, start: usize) -> Glance
-        ensures none { IfValue result (λ value from to. ⊥) }
-        ensures front { IfUndated result (λ place. self.now.place ≡ Place.Front) }
-        ensures start { IfUndated result (λ place. place ≡ start) }
-    {
-        match self.place {
-            Place::Front => Glance::Undated(start),
-            Place::After(_) | Place::Field(_) => Glance::Unknown,
         }
     }
 

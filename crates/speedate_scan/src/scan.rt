@@ -1,19 +1,20 @@
 //! What each line is to a command, and what is counted of the lines.
 
-ghost use Rattle.std.specs.Prelude.{◌≡◌, ◌+◌, ◌++◌, ◌≤◌, ◌<◌, ◌==◌, ◌&&◌, IfSome, IsTrue, Ok, length, is_some, not};
+ghost use Rattle.std.specs.Prelude.{◌≡◌, ◌+◌, ◌≤◌, ◌<◌, ◌==◌, ◌&&◌, IfSome, length, is_some, not};
 ghost use Rattle.std.specs.List.{position};
 ghost use Rattle.std.specs.Option.{option_map};
 ghost use Rattle.speedate.specs.DateTime.{date_and_time};
 ghost use Rattle.speedate_stream.specs.Watch.{one_more};
-ghost use Rattle.speedate_scan.specs.Reading.{Found, IfUndated, IfValue, IsReadWithin, IsWithin, found_at};
+ghost use Rattle.speedate_scan.specs.Reading.{Found, IsReadWithin, IsWithin};
 ghost use Rattle.speedate_scan.specs.Reading.{value_of};
 ghost use Rattle.speedate_scan.specs.Scan.{IsFoundWithin, IsLineParsed, has_offsets, is_counted, keeps};
-ghost use Rattle.speedate_scan.specs.Scan.{Offsets, bad_of, counted, fits, is_stopped, is_value};
+ghost use Rattle.speedate_scan.specs.Scan.{Offsets, counted, fits, is_stopped, is_value};
 ghost use Rattle.speedate_scan.specs.Scan.{before_entry, begun, headers, is_dated, is_found, is_without_value};
 ghost use Rattle.speedate_scan.specs.Scan.{judged, line_of, lines_before, valued};
 ghost use Rattle.speedate_scan.specs.Scan.{is_clock_byte, noted, offset_place, passed, settled, unfit};
 
-use crate::reading::{Bad, Found, Glance, Reader, Reading, Why};
+use crate::glance::Glance;
+use crate::reading::{Bad, Found, Reader, Reading, Why};
 use speedate::{DateTime, ParseError};
 use speedate_base::numbers::is_decimal_mark;
 
@@ -200,7 +201,7 @@ impl LineKind {
 
 impl Offsets {
     /// Whether a value fits that has an offset, or has none.
-    fn fits(self, is_zoned: bool) -> bool
+    pub(crate) fn fits(self, is_zoned: bool) -> bool
         ensures fits { (found : Found) → is_some found.offset ≡ is_zoned
             → result ≡ fits self found }
     {
@@ -338,33 +339,6 @@ impl Scan<'_> {
         }
     }
 
-    /// What is known of a line, by its head, without parsing its value part by part: a value that fits, or that it has
-    /// none and is not bad for that.
-    #[inline(always)]
-    #[tactic(auto, unfolding(crate::specs::Scan::line_of))]
-    pub fn glance(&self, head: &[u8]) -> Glance
-        ensures line { IfValue result (λ value from to. line_of self.now head.now ≡ LineKind.Value
-            (found_at self.now.reader.form head.now (date_and_time value) from to)) }
-        ensures value { IfValue result (λ value from to. value_of self.now.reader head.now
-            (found_at self.now.reader.form head.now (date_and_time value) from to)
-            ≡ Ok (date_and_time value, to)) }
-        ensures within { IfValue result (λ value from to. IsWithin
-            (found_at self.now.reader.form head.now (date_and_time value) from to) head.now) }
-        ensures undated { IfUndated result (λ place. line_of self.now head.now
-            ≡ LineKind.Undated) }
-    {
-        if self.is_stopped() || self.is_at_header() {
-            return Glance::Unknown;
-        }
-        let glance = self.reader.glance(head);
-        let is_known = match &glance {
-            Glance::Value(value, _, _) => self.offsets.fits(value.time.tz_offset.is_some()),
-            Glance::Undated(_) => self.undated_lines != UndatedLines::Bad,
-            Glance::Unknown => false,
-        };
-        if is_known { glance } else { Glance::Unknown }
-    }
-
     /// What a line is, by its head, and its value, if it has one, without a first look at what the library reads at
     /// once.
     #[inline(never)]
@@ -386,32 +360,10 @@ impl Scan<'_> {
     }
 
     /// Whether the next line is the header of its file.
-    fn is_at_header(&self) -> bool
+    pub(crate) fn is_at_header(&self) -> bool
         ensures header { result ≡ (self.now.has_header && (self.now.number == 0)) }
     {
         self.has_header && self.number == 0
-    }
-
-    /// What is bad about a line, by its head, if something is.
-    #[inline(always)]
-    pub fn what_is_bad(&self, head: &[u8]) -> Option<Bad>
-        ensures bad { result ≡ bad_of (line_of self.now head.now) }
-    {
-        match self.glance(head) {
-            Glance::Value(_, _, _) | Glance::Undated(_) => None,
-            Glance::Unknown => self.any_bad(head),
-        }
-    }
-
-    /// The same, without a first look at what is known at a glance.
-    #[inline(never)]
-    fn any_bad(&self, head: &[u8]) -> Option<Bad>
-        ensures bad { result ≡ bad_of (line_of self.now head.now) }
-    {
-        match self.any_line(head).0 {
-            LineKind::Bad(bad) => Some(bad),
-            _ => None,
-        }
     }
 
     /// What a line is by what is read of it.

@@ -16,7 +16,8 @@ ghost use Rattle.speedate_scan.specs.Scan.{line_of, passed};
 ghost use Rattle.speedate_stream.specs.Run.{AppendsBeginning, OnlyWrites, Writes};
 
 use speedate::line_end;
-use speedate_scan::reading::{Found, Glance, seen};
+use speedate_scan::glance::Glance;
+use speedate_scan::reading::{Found, seen};
 use speedate_scan::scan::{LineKind, Scan};
 use speedate_stream::run::{head, pass, send};
 use speedate_stream::{Failed, Pending, Watched};

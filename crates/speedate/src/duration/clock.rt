@@ -36,7 +36,8 @@ impl UnsignedDuration {
         requires length { hours.length ≡ run_length bytes.now 0 }
         requires value { hours.value ≡ min (run_value bytes.now 0) (2 ^ 64 - 1) }
         requires start { start + length bytes.now + 16 ≤ usize.MAX }
-        ensures answer { result ≡ seen_as (shifted start E.refusal) (clock_form behavior bytes.now) }
+        ensures answer { result
+            ≡ seen_as (shifted start E.refusal) (clock_form behavior bytes.now) }
         ensures placed { IfErr result (E.lies_within (start + length bytes.now)) }
     {
         let end = hours_end::<E>(bytes, hours.length, start)?;

@@ -36,7 +36,8 @@ impl Date {
     /// For a timestamp the errors of [this table](docs/GRAMMAR.md#timestamps), for any other text
     /// the errors of [a date](docs/GRAMMAR.md#date), in the order of the rows.
     pub fn parse_str(text: &str) -> Result<Self, ParseError>
-        ensures answer { result gives without_place (date_or_timestamp TimestampUnit.Infer text.now) }
+        ensures answer { result
+            gives without_place (date_or_timestamp TimestampUnit.Infer text.now) }
     {
         Self::parse_bytes(text.as_bytes())
     }
@@ -49,7 +50,8 @@ impl Date {
     /// For a timestamp the errors of [this table](docs/GRAMMAR.md#timestamps), for any other text
     /// the errors of [a date](docs/GRAMMAR.md#date), in the order of the rows.
     pub fn parse_bytes(bytes: &[u8]) -> Result<Self, ParseError>
-        ensures answer { result gives without_place (date_or_timestamp TimestampUnit.Infer bytes.now) }
+        ensures answer { result
+            gives without_place (date_or_timestamp TimestampUnit.Infer bytes.now) }
     {
         Self::parse_bytes_with_config(bytes, &DateConfig::default())
     }
@@ -62,7 +64,8 @@ impl Date {
     /// For a timestamp the errors of [this table](docs/GRAMMAR.md#timestamps), for any other text
     /// the errors of [a date](docs/GRAMMAR.md#date), in the order of the rows.
     pub fn parse_str_with_config(text: &str, config: &DateConfig) -> Result<Self, ParseError>
-        ensures answer { result gives without_place (date_or_timestamp config.now.timestamp_unit text.now) }
+        ensures answer { result
+            gives without_place (date_or_timestamp config.now.timestamp_unit text.now) }
     {
         Self::parse_bytes_with_config(text.as_bytes(), config)
     }
@@ -76,7 +79,8 @@ impl Date {
     /// the errors of [a date](docs/GRAMMAR.md#date), in the order of the rows.
     #[inline(always)]
     pub fn parse_bytes_with_config(bytes: &[u8], config: &DateConfig) -> Result<Self, ParseError>
-        ensures answer { result gives without_place (date_or_timestamp config.now.timestamp_unit bytes.now) }
+        ensures answer { result
+            gives without_place (date_or_timestamp config.now.timestamp_unit bytes.now) }
     {
         Self::whole_or_timestamp(bytes, config)
     }

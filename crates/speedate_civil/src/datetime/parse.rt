@@ -52,7 +52,8 @@ impl DateTime {
     /// [a time](docs/GRAMMAR.md#time).
     #[inline(always)]
     pub fn parse_str(text: &str) -> Result<Self, ParseError>
-        ensures answer { result gives without_place (date_time_or_timestamp TimestampUnit.Infer Behavior.Error None
+        ensures answer { result
+            gives without_place (date_time_or_timestamp TimestampUnit.Infer Behavior.Error None
             text.now) }
         ensures minutes { IfOk result (λ value. IsWholeMinutes value.time.tz_offset) }
     {
@@ -67,7 +68,8 @@ impl DateTime {
     /// Those of [`DateTime::parse_str`], in its order.
     #[inline(always)]
     pub fn parse_bytes(bytes: &[u8]) -> Result<Self, ParseError>
-        ensures answer { result gives without_place (date_time_or_timestamp TimestampUnit.Infer Behavior.Error None
+        ensures answer { result
+            gives without_place (date_time_or_timestamp TimestampUnit.Infer Behavior.Error None
             bytes.now) }
         ensures minutes { IfOk result (λ value. IsWholeMinutes value.time.tz_offset) }
     {
@@ -169,7 +171,8 @@ impl DateTime {
         bytes: &[u8],
         config: &TimeConfig,
     ) -> Result<Self, ParseError>
-        ensures answer { result gives without_place (date_time_answer (time_choices config.now).behavior
+        ensures answer { result
+            gives without_place (date_time_answer (time_choices config.now).behavior
             bytes.now) }
         ensures minutes { IfOk result (λ value. IsWholeMinutes value.time.tz_offset) }
         ensures no_number { OnOk result (number_answer bytes.now ≡ NoNumber) }
@@ -217,7 +220,8 @@ impl DateTime {
     /// [a time](docs/GRAMMAR.md#time) except `InvalidCharTzSign` and `ExtraCharacters`.
     #[inline(always)]
     pub fn parse_front(bytes: &[u8], config: &TimeConfig) -> Result<(Self, usize), ParseError>
-        ensures answer { result gives_front without_place (date_time_front (time_choices config.now).behavior
+        ensures answer { result
+            gives_front without_place (date_time_front (time_choices config.now).behavior
             bytes.now) }
         ensures within { IfOk result (λ front. front.1 ≤ length bytes.now) }
         ensures whole { (value : DateAndTime)
@@ -259,7 +263,8 @@ impl DateTime {
         bytes: &[u8],
         behavior: MicrosecondsPrecisionOverflowBehavior,
     ) -> Result<Self, E>
-        ensures answer { result gives seen_as E.refusal (strict_date_time_answer behavior bytes.now) }
+        ensures answer { result
+            gives seen_as E.refusal (strict_date_time_answer behavior bytes.now) }
         ensures placed { IfErr result (E.lies_within (length bytes.now)) }
         ensures minutes { IfOk result (λ value. IsWholeMinutes value.time.tz_offset) }
     {
@@ -310,7 +315,8 @@ impl FromStr for DateTime {
     type Err = ParseError;
 
     ghost from_str_gives = { λ text result.
-        result gives without_place (date_time_or_timestamp TimestampUnit.Infer Behavior.Error None text) };
+        result gives without_place
+        (date_time_or_timestamp TimestampUnit.Infer Behavior.Error None text) };
 
     /// The answer of [`DateTime::parse_str`]: `"1654560000".parse()` gives midnight on 7 June 2022.
     ///

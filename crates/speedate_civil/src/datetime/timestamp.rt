@@ -167,7 +167,8 @@ impl DateTime {
         refusal: E,
         config: &DateTimeConfig,
     ) -> Result<Self, E>
-        requires refused { seen_as E.refusal (date_time_answer (choices config.now).behavior bytes.now)
+        requires refused { seen_as E.refusal
+            (date_time_answer (choices config.now).behavior bytes.now)
             ≡ Err refusal }
         requires placed { E.lies_within (length bytes.now) refusal }
         ensures answer { result gives seen_as E.refusal (date_time_by_config config.now bytes.now) }

@@ -41,7 +41,8 @@ pub(crate) fn parse_offset<E: Refusal>(
 ) -> Result<(Option<i32>, usize), E>
     requires place { place ≤ length bytes.now }
     requires start { start + 16 ≤ usize.MAX }
-    ensures answer { result ≡ seen_as (shifted start E.refusal) (offset_front (drop place bytes.now)) }
+    ensures answer { result
+        ≡ seen_as (shifted start E.refusal) (offset_front (drop place bytes.now)) }
     ensures placed { (size : ℕ) → start + length (drop place bytes.now) ≤ size
         → IfErr result (E.lies_within size) }
     ensures range { IfOk result (λ front. ForSome front.0 IsOffset) }

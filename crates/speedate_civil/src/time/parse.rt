@@ -80,7 +80,8 @@ impl Time {
     /// Those of [`Time::parse_str`], in its order, but with `Truncate` not `SecondFractionTooLong`.
     #[inline(always)]
     pub fn parse_bytes_with_config(bytes: &[u8], config: &TimeConfig) -> Result<Self, ParseError>
-        ensures answer { result gives without_place (time_answer (time_choices config.now).behavior bytes.now) }
+        ensures answer { result
+            gives without_place (time_answer (time_choices config.now).behavior bytes.now) }
         ensures minutes { IfOk result (λ time. IsWholeMinutes time.tz_offset) }
     {
         Self::parse_whole(bytes, config.microseconds_precision_overflow_behavior)
@@ -130,7 +131,8 @@ impl Time {
     /// with `Truncate` there is no `SecondFractionTooLong`.
     #[inline(always)]
     pub fn parse_front(bytes: &[u8], config: &TimeConfig) -> Result<(Self, usize), ParseError>
-        ensures answer { result gives_front without_place (time_front (time_choices config.now).behavior
+        ensures answer { result
+            gives_front without_place (time_front (time_choices config.now).behavior
             bytes.now) }
         ensures within { IfOk result (λ front. front.1 ≤ length bytes.now) }
         ensures whole { (time : TimeOfDay)
@@ -207,7 +209,8 @@ impl Time {
     ) -> Result<(Self, usize), E>
         requires size { clock.size ≤ length text.now }
         requires start { start + length text.now + 16 ≤ usize.MAX }
-        ensures answer { result gives_front seen_as (shifted start E.refusal) (time_after_clock text.now
+        ensures answer { result
+            gives_front seen_as (shifted start E.refusal) (time_after_clock text.now
             (clock_parts clock)) }
         ensures placed { IfErr result (E.lies_within (start + length text.now)) }
         ensures within { IfOk result (λ front. front.1 ≤ length text.now) }
@@ -283,7 +286,8 @@ impl FromStr for Time {
 
     ghost use Rattle.speedate_civil.specs.Time.{time_answer, ◌gives◌};
 
-    ghost from_str_gives = { λ text result. result gives without_place (time_answer Behavior.Error text) };
+    ghost from_str_gives = { λ text result.
+        result gives without_place (time_answer Behavior.Error text) };
 
     /// The answer of [`Time::parse_str`]: `"12:13Z".parse()` gives 12:13:00 in UTC.
     ///
