@@ -1,564 +1,390 @@
 -- What `between` prints of the part of a file that it reads is what it prints of the whole file.
-use Rattle.std.proofs.Common.{◌≡◌, ◌∙◌, ℕ, ℤ, ◌+◌, ◌-◌, ◌^◌, ◌<◌, ◌≤◌, Bool, true, false, List, [], ◌∷◌, ◌++◌, refl, ap, sym, subst, arith, append_assoc, append-nil, length, take, drop, get_or, min, slice_index, inl, inr}
-use Rattle.std.proofs.lemmas.Bool.{and_parts, cases_lt, eqb-false, ne_eqb}
-use Rattle.std.proofs.lemmas.Bool.{not-true, true≢false}
-use Rattle.std.proofs.lemmas.List.{append_cancel_right, drop-drop, get_or-drop, length-drop, take_more, take-append-drop, drop_all}
+use Rattle.std.proofs.Common.{◌≡◌, ◌∙◌, ℕ, ℤ, ◌+◌, ◌-◌, ◌^◌, ◌<◌, ◌≤◌, Bool, true, false, List, [], ◌∷◌, ◌++◌, refl, ap, sym, subst, arith, append_assoc, append-nil, length, take, drop, min, slice_index, inl, inr}
+use Rattle.std.proofs.lemmas.Bool.{and_parts, cases_lt, not-true, true≢false}
+use Rattle.std.proofs.lemmas.Bool.Decides.{nat_tests}
+use Rattle.std.proofs.lemmas.Int.{ints}
+use Rattle.std.proofs.lemmas.List.{append_cancel_right, drop-drop, drop_all, drop_more, take-append-drop}
 use Rattle.std.proofs.KnownBytes.{Appends-trans}
-use Rattle.std.specs.Prelude.{◌&&◌, ◌==◌, ◌⊎◌, not, Option, Some, None, IfSome, Result, Ok, Err, OnOk, if◌then◌else◌}
-use Rattle.std.specs.Io.KnownBytes.{Appends, Consumes, IsAtEnd}
+use Rattle.std.specs.Prelude.{◌&&◌, ◌==◌, ◌⊎◌, not, Option, Some, None, IfSome, Result, Ok, Err, OnOk, int_le, int_lt}
+use Rattle.std.specs.Io.KnownBytes.{Appends}
 use Rattle.speedate.specs.Ascii.{line_feed}
-use Rattle.speedate.specs.Lines.{Pieces, complete_lines, last_line, lines}
+use Rattle.speedate.specs.Lines.{IsLineEnd, Pieces, complete_lines, last_line, lines}
 use Rattle.speedate.specs.Lines.{unfinished_line}
 use Rattle.speedate.proofs.LineLemmas.{pieces-append, pieces-from, pieces-line, unfinished-free}
-use Rattle.speedate_stream.specs.Machine.{head, lines_output, state_after}
+use Rattle.speedate_stream.specs.Machine.{head, state_after}
 use Rattle.speedate_stream.specs.Run.{Ends}
 use Rattle.speedate_stream.specs.Watch.{one_more}
-use Rattle.speedate_scan.specs.Reading.{part, read}
-use Rattle.speedate_scan.specs.Scan.{fits, has_offsets, is_stopped, judged, line_of, passed}
-use Rattle.speedate_scan.specs.Scan.{undated_line, unfit_line}
-use Rattle.speedate_scan.specs.Entries.{Marked, entries, mark, marked, printed_line}
-use Rattle.speedate_commands.specs.Base.{Form, Found, LineKind, Offsets, Reader, Reading, Scan}
-use Rattle.speedate_commands.specs.Base.{UndatedLines}
-use Rattle.speedate_commands.specs.Between.{Between, awaits_header, between_after, between_lines}
-use Rattle.speedate_commands.specs.Between.{between_machine, entries_text, file_text}
+use Rattle.speedate_scan.specs.Reading.{part}
+use Rattle.speedate_scan.specs.Scan.{has_offsets, is_stopped, line_of, passed}
+use Rattle.speedate_scan.specs.Entries.{entries, marked}
+use Rattle.speedate_commands.specs.Base.{LineKind, Prefix, Reader, Scan}
+use Rattle.speedate_commands.specs.Between.{Between, Bounds, awaits_header, between_after}
+use Rattle.speedate_commands.specs.Between.{between_lines, between_machine, entries_text, file_text}
+use Rattle.speedate_commands.specs.Between.{is_begun, is_open}
 use Rattle.speedate_commands.specs.InOrder.{AreInOrder, EndsAt, EndsFirstLine, EndsFound, EndsPart}
 use Rattle.speedate_commands.specs.InOrder.{HasValueAt, IsInOrder, IsNumber, PrintsFile, PrintsRest}
-use Rattle.speedate_commands.specs.InOrder.{StartsAt, is_searched, is_settled, known_part}
-use Rattle.speedate_commands.specs.InOrder.{line_value, scan_after}
+use Rattle.speedate_commands.specs.InOrder.{StartsAt, is_searched, known_part, scan_after}
 use Rattle.speedate_commands.proofs.EntryLemmas.{between_prints, header_passed, line_is_header}
-use Rattle.speedate_commands.proofs.InOrderLemmas.{AskFor, BeginsEntry, BeginsWith, asked-after}
-use Rattle.speedate_commands.proofs.InOrderLemmas.{begins-marked, begins-no_more, came-after}
-use Rattle.speedate_commands.proofs.InOrderLemmas.{dropped-lines, entries-append, later-ordered}
-use Rattle.speedate_commands.proofs.InOrderLemmas.{marked-append, marked-found, reader-after}
-use Rattle.speedate_commands.proofs.InOrderLemmas.{scan_after-append, skipped-lines, went_on}
-use Rattle.speedate_commands.proofs.SearchLemmas.{most, part-empty, part-past}
+use Rattle.speedate_commands.proofs.EntryLemmas.{nothing}
+use Rattle.speedate_commands.proofs.InOrderLemmas.{BeginsEntry, BeginsWith, Runs, asks}
+use Rattle.speedate_commands.proofs.InOrderLemmas.{begins_entry, dropped_lines, marked-append}
+use Rattle.speedate_commands.proofs.InOrderLemmas.{marked_found, runs_after, scan_after-append}
+use Rattle.speedate_commands.proofs.InOrderLemmas.{skipped_lines, went_on}
+use Rattle.speedate_commands.proofs.KindLemmas.{MayBe, line_of_may}
+use Rattle.speedate_commands.proofs.SearchLemmas.{most, part-empty, part-grown, part-past}
 
 -- A part of a file.
 
-all_consumed : (bytes : List ℕ) (unread : Option (List ℕ)) (text : List ℕ)
-    → Consumes (Some bytes) unread text → IsAtEnd unread → text ≡ bytes
-all_consumed bytes None text consumed ended = absurd consumed
-all_consumed bytes (Some rest) text consumed ended =
-    sym (append-nil text) ∙ ap (λ (l : List ℕ). text ++ l) (sym ended) ∙ sym consumed
-
+-- a run over a part of a text has read all of it, or has ended
 pub ends-part : (before after : Between) (known unread old new : Option (List ℕ)) (from to : ℕ)
     → Ends between_machine before after (known_part known from to) unread old new
     → IfSome known (λ text. EndsPart before after old new (part text from to))
 ends-part before after None unread old new from to ends = tt
-ends-part before after (Some text) unread old new from to ends = elim ends [
-  | inl prints ↦
-      let all = all_consumed (part text from to) unread prints.text prints.consumed prints.ended in
-      inr (
-        prints.state ∙ ap (λ (l : List ℕ). state_after between_machine before (lines l)) all,
-        subst (Appends old new)
-            (ap (λ (l : List ℕ). lines_output between_machine before (lines l)) all
-            ∙ between_prints before (lines (part text from to))) prints.sent,
-      )
-  | inr stopped ↦ inl stopped.0
-]
+ends-part before after (Some text) unread old new from to (inr stopped) = inl stopped.0
+ends-part before after (Some text) None old new from to (inl prints) = absurd prints.consumed
+ends-part before after (Some text) (Some rest) old new from to (inl prints) =
+    let all = sym (rw (prints.ended, append-nil) at prints.consumed) in
+    inr (
+      rw all at prints.state,
+      rw (all, between_prints before (lines (part text from to))) at prints.sent,
+    )
 
 -- Where a text is cut after a line feed, its lines are those of both parts.
 
+-- what ends with a line feed has no unfinished line
 unfinished-ended : (front : List ℕ) → unfinished_line (front ++ line_feed ∷ []) ≡ []
 unfinished-ended front =
-    ap (λ (all : Pieces). all.unfinished) (pieces-append front (line_feed ∷ []))
-    ∙ ap (λ (all : Pieces). all.unfinished)
-    (pieces-line (unfinished_line front) [] (unfinished-free front))
+    ap (λ (all : Pieces). all.unfinished) (pieces-append front (line_feed ∷ [])
+    ∙ ap (λ (all : Pieces). record {
+      complete = complete_lines front ++ all.complete;
+      unfinished = all.unfinished;
+    }) (pieces-line (unfinished_line front) [] (unfinished-free front)))
 
-take-ended : (text : List ℕ) (at : ℕ) → 1 ≤ at → at ≤ length text
-    → slice_index text (at - 1) ≡ line_feed → unfinished_line (take at text) ≡ []
-take-ended text at some within begins =
-    let last : at - 1 + 1 ≡ at = omega (arith, some) in
-    ap (λ (n : ℕ). unfinished_line (take n text)) (sym last)
-    ∙ ap unfinished_line (take_more text (at - 1) 0 (omega (arith, some, within)))
-    ∙ ap (λ (byte : ℕ). unfinished_line (take (at - 1) text ++ byte ∷ [])) begins
-    ∙ unfinished-ended (take (at - 1) text)
+-- a part that a line feed ends
+part_ended : (text : List ℕ) (from place : ℕ) → from ≤ place → place < length text
+    → slice_index text place ≡ line_feed → unfinished_line (part text from (place + 1)) ≡ []
+part_ended text from place ordered within ends =
+    rw (part-grown text from place 1 ordered, drop_more text place 0 within, ends)
+    (unfinished-ended (part text from place))
 
-lines-complete : (text : List ℕ) → unfinished_line text ≡ [] → lines text ≡ complete_lines text
-lines-complete text ended =
-    ap (λ (last : List ℕ). complete_lines text ++ last_line last) ended
-    ∙ append-nil (complete_lines text)
+-- a part up to a line with a value
+part_before : (reader : Reader) (has_offset : Bool) (text : List ℕ) (from at : ℕ) (instant : ℤ)
+    → HasValueAt reader has_offset text at instant → unfinished_line (part text from at) ≡ []
+part_before reader has_offset text from at instant found = elim (cases_lt from at) [
+  | inl less ↦
+      let last : at - 1 + 1 ≡ at = omega (arith, less) in
+      rw last at (part_ended text from (at - 1) (omega (arith, less))
+      (omega (arith, found.some, found.ends.after, found.ends.within)) found.begins)
+  | inr past ↦ ap unfinished_line (part-empty text from at (inr past))
+]
 
-lines-cut : (text : List ℕ) (at : ℕ) → unfinished_line (take at text) ≡ []
-    → lines text ≡ lines (take at text) ++ lines (drop at text)
-lines-cut text at ended =
-    let front = take at text in
-    let rest = drop at text in
-    ap lines (sym (take-append-drop at text))
-    ∙ ap (λ (all : Pieces). all.complete ++ last_line all.unfinished) (pieces-append front rest)
-    ∙ ap (λ (last : List ℕ). (complete_lines front ++ complete_lines (last ++ rest))
-    ++ last_line (unfinished_line (last ++ rest))) ended
-    ∙ append_assoc (complete_lines front) (complete_lines rest) (last_line (unfinished_line rest))
-    ∙ ap (λ (l : List (List ℕ)). l ++ lines rest) (sym (lines-complete front ended))
+lines_complete : (text : List ℕ) → unfinished_line text ≡ [] → lines text ≡ complete_lines text
+lines_complete text ended = rw (ended, append-nil) refl
 
-part-ended : (text : List ℕ) (from at : ℕ) → from < at → at ≤ length text
-    → slice_index text (at - 1) ≡ line_feed → unfinished_line (part text from at) ≡ []
-part-ended text from at less within begins =
-    let place : from + (at - from - 1) ≡ at - 1 = omega (arith, less) in
-    take-ended (drop from text) (at - from) (omega (arith, less))
-    (omega (arith, less, within, length-drop from text))
-    (get_or-drop from text (at - from - 1) 0
-    ∙ ap (λ (n : ℕ). slice_index text n) place ∙ begins)
+-- lines before what follows a line feed
+lines-append : (front rest : List ℕ) → unfinished_line front ≡ []
+    → lines (front ++ rest) ≡ lines front ++ lines rest
+lines-append front rest ended =
+    ap (λ (all : Pieces). all.complete ++ last_line all.unfinished) (pieces-append front rest)
+    ∙ rw (ended, append-nil, append_assoc) refl
 
-abbrev Splits : List ℕ → ℕ → ℕ → Type 0
-Splits text from at =
-    lines (drop from text) ≡ lines (part text from at) ++ lines (drop at text)
-
-splits-later : (text : List ℕ) (from at : ℕ) → from < at → at ≤ length text
-    → slice_index text (at - 1) ≡ line_feed → Splits text from at
-splits-later text from at less within begins =
-    let place : from + (at - from) ≡ at = omega (arith, less) in
-    lines-cut (drop from text) (at - from) (part-ended text from at less within begins)
+-- the lines from a place on, in two parts
+splits : (text : List ℕ) (from at : ℕ) → from ≤ at → unfinished_line (part text from at) ≡ []
+    → lines (drop from text) ≡ lines (part text from at) ++ lines (drop at text)
+splits text from at ordered ended =
+    let place : from + (at - from) ≡ at = omega (arith, ordered) in
+    ap lines (sym (take-append-drop (at - from) (drop from text)))
+    ∙ lines-append (part text from at) (drop (at - from) (drop from text)) ended
     ∙ ap (λ (l : List ℕ). lines (part text from at) ++ lines l)
     (drop-drop (at - from) from text ∙ ap (λ (n : ℕ). drop n text) place)
 
-splits-same : (text : List ℕ) (from at : ℕ) → at ≡ from → Splits text from at
-splits-same text from at same =
-    ap (λ (n : ℕ). lines (drop n text)) (sym same)
-    ∙ ap (λ (l : List ℕ). lines l ++ lines (drop at text))
-    (sym (part-empty text from at (inr (omega (arith, same)))))
-
-splits-at : (reader : Reader) (has_offset : Bool) (text : List ℕ) (from at : ℕ) (instant : ℤ)
-    → from ≤ at → HasValueAt reader has_offset text at instant → Splits text from at
-splits-at reader has_offset text from at instant ordered found = elim (cases_lt from at) [
-  | inl less ↦ splits-later text from at less
-      (omega (arith, found.ends.after, found.ends.within)) found.begins
-  | inr same ↦ splits-same text from at (omega (arith, ordered, same))
-]
+-- the first of the lines from a place on, and the others
+lines_from : (text : List ℕ) (at end : ℕ) → IsLineEnd text at end
+    → lines (drop at text) ≡ part text at end ∷ lines (drop (end + 1) text)
+lines_from text at end found =
+    ap (λ (all : Pieces). all.complete ++ last_line all.unfinished)
+    (pieces-from text at at end (omega arith)
+    (λ k after below same. absurd (omega (arith, after, below))) found)
 
 -- the lines of a text from a line with a value on
-begins-at : (reader : Reader) (has_offset : Bool) (text : List ℕ) (at : ℕ) (instant : ℤ)
-    → HasValueAt reader has_offset text at instant
-    → BeginsWith reader has_offset instant (lines (drop at text))
-begins-at reader has_offset text at instant found = record {
-  line = part text at found.end;
-  others = lines (drop (found.end + 1) text);
-  is = ap (λ (all : Pieces). all.complete ++ last_line all.unfinished)
-      (pieces-from text at at found.end (omega arith)
-      (λ k after below same. absurd (omega (arith, after, below))) found.ends);
-  value = found.value;
-}
-
-begins-front : (reader : Reader) (has_offset : Bool) (instant : ℤ) (some others : List (List ℕ))
-    → BeginsWith reader has_offset instant (some ++ others)
-    → (some ≡ []) ⊎ BeginsWith reader has_offset instant some
-begins-front reader has_offset instant [] others begins = inl refl
-begins-front reader has_offset instant (line ∷ some) others begins = inr (record {
-  line = line;
-  others = some;
-  is = refl;
-  value = ap (λ (l : List (List ℕ)). line_value reader has_offset (get_or l 0 [])) begins.is
-      ∙ begins.value;
-})
+begins_at : (start : Scan) (P : ℤ → Type 0) (text : List ℕ) (at : ℕ) (instant : ℤ)
+    → HasValueAt start.reader (has_offsets start.offsets) text at instant → P instant
+    → BeginsWith start P (lines (drop at text))
+begins_at start P text at instant found known =
+    rw (lines_from text at found.end found.ends) (instant, (found.value, known))
 
 -- Numbers of lines.
 
-unfit-number : (scan : Scan) (offsets : Offsets) (line : List ℕ) (found : Found)
-    → (passed scan (unfit_line offsets line found)).number ≡ one_more scan.number
+-- each line of a run that goes on is counted
+line_number : (scan : Scan) (what : LineKind) → MayBe scan what → is_stopped scan.stop ≡ false
+    → (passed scan what).number ≡ one_more scan.number
 unfolding passed
-unfit-number scan Offsets.Any line found = refl
-unfit-number scan Offsets.AsFirst line found = refl
-unfit-number scan (Offsets.Only other) line found = refl
-unfit-number scan (Offsets.AsBounds other) line found = refl
+line_number scan LineKind.Late may goes_on = absurd (true≢false (sym may ∙ goes_on))
+line_number scan what may goes_on = refl
 
-value-number : (scan : Scan) (line : List ℕ) (found : Found) (fit : Bool)
-    → (passed scan
-    (if fit then LineKind.Value found else unfit_line scan.offsets line found)).number
-    ≡ one_more scan.number
-unfolding passed
-value-number scan line found true = refl
-value-number scan line found false = unfit-number scan scan.offsets line found
-
-undated-number : (scan : Scan) (undated_lines : UndatedLines) (form : Form) (place : ℕ)
-    → (passed scan (undated_line undated_lines form place)).number ≡ one_more scan.number
-unfolding passed
-undated-number scan UndatedLines.Bad form place = refl
-undated-number scan UndatedLines.Join form place = refl
-undated-number scan UndatedLines.Drop form place = refl
-
-judged-number : (scan : Scan) (line : List ℕ) (reading : Reading)
-    → (passed scan (judged scan line reading)).number ≡ one_more scan.number
-unfolding passed
-judged-number scan line (Reading.Value found) =
-    value-number scan line found (fits scan.offsets found)
-judged-number scan line (Reading.Bad bad) = refl
-judged-number scan line (Reading.Undated place) =
-    undated-number scan scan.undated_lines scan.reader.form place
-
-chosen-number : (stopped header : Bool) (scan : Scan) (line : List ℕ) (reading : Reading)
-    → stopped ≡ false
-    → (passed scan
-    (if stopped then LineKind.Late
-    else if header then LineKind.Header else judged scan line reading)).number
-    ≡ one_more scan.number
-unfolding passed
-chosen-number true header scan line reading goes_on = cc
-chosen-number false true scan line reading goes_on = refl
-chosen-number false false scan line reading goes_on = judged-number scan line reading
-
-line-number : (scan : Scan) (line : List ℕ) → is_stopped scan.stop ≡ false
-    → (passed scan (line_of scan line)).number ≡ one_more scan.number
-unfolding line_of
-line-number scan line goes_on =
-    chosen-number (is_stopped scan.stop) (scan.has_header && (scan.number == 0)) scan line
-    (read scan.reader line) goes_on
-
-number-after : (scan : Scan) (lines : List (List ℕ))
+number_after : (scan : Scan) (lines : List (List ℕ))
     → is_stopped (scan_after scan lines).stop ≡ false → scan.number < 2 ^ 64
     → (scan_after scan lines).number ≡ min (scan.number + length lines) most
-number-after scan [] goes_on fits = omega (arith, fits)
-number-after scan (line ∷ lines) goes_on fits =
-    let next : Scan = passed scan (line_of scan (head line)) in
-    let one = line-number scan (head line) (went_on scan (line ∷ lines) goes_on) in
-    let later = number-after next lines goes_on (omega (arith, one)) in
+number_after scan [] goes_on fits = omega (arith, fits)
+number_after scan (line ∷ lines) goes_on fits =
+    let what : LineKind = line_of scan (head line) in
+    let one = line_number scan what (line_of_may scan (head line))
+    (went_on scan (line ∷ lines) goes_on) in
+    let later = number_after (passed scan what) lines goes_on (omega (arith, one)) in
     omega (arith, one, later)
+
+-- after the header no smaller number of lines is known
+more_came : (stopped header : Bool) (one other : ℕ)
+    → (not stopped && (header && (one == 0))) ≡ false → one ≤ other
+    → (not stopped && (header && (other == 0))) ≡ false
+more_came stopped header one other came more = grind (arith, nat_tests)
+
+-- What is printed of lines in order after the header.
+
+module _ (bounds : Bounds) (prefix : Prefix) (start : Scan) where
+  -- what is printed of lines, and that they are in order and the run goes on
+  abbrev printed : Scan → List (List ℕ) → List ℕ
+  printed scan lines = entries_text bounds (entries (marked prefix scan lines))
+
+  abbrev Ordered : Scan → List (List ℕ) → Type 0
+  Ordered scan lines = AreInOrder (entries (marked prefix scan lines))
+      × (is_stopped (scan_after scan lines).stop ≡ false)
+
+  -- lines before those that are read, and lines after them
+  abbrev IsSkipped : List (List ℕ) → List (List ℕ) → Type 0
+  IsSkipped skipped others = (skipped ≡ [])
+      ⊎ BeginsWith start (λ (instant : ℤ). is_begun bounds.from instant ≡ false) others
+
+  abbrev IsDropped : List (List ℕ) → Type 0
+  IsDropped dropped = (dropped ≡ [])
+      ⊎ BeginsWith start (λ (instant : ℤ). is_open bounds.to instant ≡ false) dropped
+
+  -- lines that begin with such a value begin an entry after a run over others
+  begins_later : (P : ℤ → Type 0) (scan : Scan) (some others : List (List ℕ)) → Runs start scan
+      → is_stopped (scan_after (scan_after scan some) others).stop ≡ false
+      → BeginsWith start P others → BeginsEntry P (marked prefix (scan_after scan some) others)
+  begins_later P scan some others runs goes_on begins =
+      begins_entry prefix start P (scan_after scan some) others (runs_after start scan some runs)
+      (went_on (scan_after scan some) others goes_on) begins
+
+  -- what is before the first bound is not printed
+  skipped_printed : (skipped others : List (List ℕ)) → Runs start start
+      → IsSkipped skipped others → Ordered start (skipped ++ others)
+      → (printed start (skipped ++ others) ≡ printed (scan_after start skipped) others)
+      × Ordered (scan_after start skipped) others
+  skipped_printed skipped others runs (inl none) ordered = rw none (refl, rw none at ordered)
+  skipped_printed skipped others runs (inr begins) ordered =
+      let split = marked-append prefix start skipped others in
+      let goes_on = rw (scan_after-append start skipped others) at ordered.1 in
+      let later = skipped_lines bounds (marked prefix start skipped)
+      (marked prefix (scan_after start skipped) others)
+      (begins_later _ start skipped others runs goes_on begins) (rw split at ordered.0) in
+      (rw split later.0, (later.1, goes_on))
+
+  -- what is not before the second bound is not printed either
+  dropped_printed : (scan : Scan) (lines dropped : List (List ℕ)) → Runs start scan
+      → IsDropped dropped → Ordered scan (lines ++ dropped)
+      → printed scan (lines ++ dropped) ≡ printed scan lines
+  dropped_printed scan lines dropped runs (inl none) ordered = rw (none, append-nil lines) refl
+  dropped_printed scan lines dropped runs (inr begins) ordered =
+      let split = marked-append prefix scan lines dropped in
+      let goes_on = rw (scan_after-append scan lines dropped) at ordered.1 in
+      rw split (dropped_lines bounds (marked prefix scan lines)
+      (marked prefix (scan_after scan lines) dropped)
+      (begins_later _ scan lines dropped runs goes_on begins) (rw split at ordered.0))
+
+  -- the run over the part prints of its lines what the run over the whole file prints of all
+  middle_printed : (number : ℕ) (skipped middle dropped : List (List ℕ))
+      → Runs start start → Runs start (record start { number = number })
+      → IsSkipped skipped (middle ++ dropped) → IsDropped dropped
+      → (skipped ≡ [] → number ≡ start.number)
+      → (prefix.has_number ≡ true → (scan_after start skipped).number ≡ number)
+      → Ordered start (skipped ++ (middle ++ dropped))
+      → printed (record start { number = number }) middle
+      ≡ printed start (skipped ++ (middle ++ dropped))
+  middle_printed number skipped middle dropped runs begins skips drops none_same same ordered =
+      let here : Scan = scan_after start skipped in
+      let runs_here = runs_after start start skipped runs in
+      let later = skipped_printed skipped (middle ++ dropped) runs skips ordered in
+      let ends = dropped_printed here middle dropped runs_here drops later.1 in
+      let went = went_on here (middle ++ dropped) later.1.1 in
+      let alike : marked prefix here middle
+      ≡ marked prefix (record start { number = number }) middle = elim skips [
+        | inl none ↦ rw (none, none_same none) refl
+        | inr begun ↦ marked_found prefix start _ number here middle dropped runs_here begins went
+            (went_on start skipped went) same begun
+      ] in
+      rw (later.0, ends, alike) refl
 
 -- What is printed of a file's lines after its header.
 
-picked : (test : Bool) (one other : List ℕ) → test ≡ false → (if test then one else other) ≡ other
-picked true one other is = cc
-picked false one other is = refl
-
-nothing : (kept : Bool) → let none : List ℕ = [] in (if kept then [] else []) ++ [] ≡ none
-nothing true = refl
-nothing false = refl
-
-text-came : (between : Between) (lines : List (List ℕ)) → awaits_header between.scan ≡ false
+-- after the header
+text_came : (between : Between) (lines : List (List ℕ)) → awaits_header between.scan ≡ false
     → file_text between lines ≡ between_lines between.bounds between.is_kept
     (marked between.prefix between.scan lines)
-text-came between [] came = sym (nothing between.is_kept)
-text-came between (line ∷ lines) came = picked (awaits_header between.scan) _ _ came
+text_came between [] came = sym (nothing between.is_kept)
+text_came between (line ∷ lines) came = rw came refl
 
-text-plain : (between : Between) (lines : List (List ℕ)) → awaits_header between.scan ≡ false
+-- if the entry before is not printed
+text_plain : (between : Between) (lines : List (List ℕ)) → awaits_header between.scan ≡ false
     → between.is_kept ≡ false → file_text between lines
     ≡ entries_text between.bounds (entries (marked between.prefix between.scan lines))
-text-plain between lines came kept =
-    text-came between lines came
-    ∙ ap (λ (is_kept : Bool). between_lines between.bounds is_kept
-    (marked between.prefix between.scan lines)) kept
+text_plain between lines came kept = text_came between lines came ∙ rw kept refl
 
-settled-asks : (offsets : Offsets) → is_settled offsets ≡ true
-    → AskFor (has_offsets offsets) offsets
-settled-asks Offsets.Any settled = cc
-settled-asks Offsets.AsFirst settled = cc
-settled-asks (Offsets.Only has_offset) settled = refl
-settled-asks (Offsets.AsBounds has_offset) settled = refl
+-- an instant before the first bound, and one that is not before the second
+is_before : (bound : Option ℤ) (from instant : ℤ) → bound ≡ Some from
+    → int_lt instant from ≡ true → is_begun bound instant ≡ false
+is_before bound from instant is before =
+    let late : int_le from instant ≡ false = grind (arith, ints) in
+    rw (is, late) refl
 
-later-number : (stopped header : Bool) (one other : ℕ)
-    → (not stopped && (header && (one == 0))) ≡ false → one ≤ other
-    → (not stopped && (header && (other == 0))) ≡ false
-later-number true header one other came more = refl
-later-number false false one other came more = refl
-later-number false true one other came more =
-    ne_eqb other 0 (λ none. eqb-false one 0 came (omega (arith, none, more)))
+is_after : (bound : Option ℤ) (to instant : ℤ) → bound ≡ Some to
+    → int_le to instant ≡ true → is_open bound instant ≡ false
+is_after bound to instant is after =
+    let closed : int_lt instant to ≡ false = grind (arith, ints) in
+    rw (is, closed) refl
 
--- what is before the first bound is not printed
-module _ (between : Between) (text : List ℕ) (begin start : ℕ)
-    (came : awaits_header between.scan ≡ false)
-    (settled : is_settled between.scan.offsets ≡ true)
+module _ (between : Between) (text : List ℕ) (begin start end number : ℕ)
+    (searched : is_searched between ≡ true) (came : awaits_header between.scan ≡ false)
+    (short : length text < 2 ^ 64) (fits : between.scan.number < 2 ^ 64)
     (ordered : begin ≤ start) (starts : StartsAt between (Some text) begin start)
-    (in_order : IsInOrder between (lines (drop begin text))) where
+    (ends : EndsAt between (Some text) start end)
+    (number_is : IsNumber between text begin start number) where
   abbrev skipped : List (List ℕ)
   skipped = lines (part text begin start)
 
-  abbrev others : List (List ℕ)
-  others = lines (drop start text)
+  abbrev middle : List (List ℕ)
+  middle = lines (part text start end)
 
-  abbrev found_scan : Scan
-  found_scan = scan_after between.scan skipped
+  abbrev dropped : List (List ℕ)
+  dropped = lines (drop end text)
 
-  start-splits : Splits text begin start
-  start-splits = elim starts [
-    | inl same ↦ splits-same text begin start same
-    | inr found ↦ splits-at between.scan.reader (has_offsets between.scan.offsets) text begin start
-        found.1.1.0 ordered found.1.1.1.0
-  ]
-
-  start-goes_on : is_stopped (scan_after found_scan others).stop ≡ false
-  start-goes_on =
-      ap (λ (scan : Scan). is_stopped scan.stop)
-      (sym (scan_after-append between.scan skipped others)
-      ∙ sym (ap (scan_after between.scan) start-splits)) ∙ in_order.goes_on
-
-  start-marked : marked between.prefix between.scan (lines (drop begin text))
-      ≡ marked between.prefix between.scan skipped ++ marked between.prefix found_scan others
-  start-marked =
-      ap (marked between.prefix between.scan) start-splits
-      ∙ marked-append between.prefix between.scan skipped others
-
-  start-in_order : AreInOrder (entries (marked between.prefix between.scan skipped
-      ++ marked between.prefix found_scan others))
-  start-in_order =
-      subst (λ (l : List Marked). AreInOrder (entries l)) start-marked in_order.ordered
-
-  start-asked : AskFor (has_offsets between.scan.offsets) found_scan.offsets
-  start-asked =
-      asked-after (has_offsets between.scan.offsets) between.scan skipped
-      (settled-asks between.scan.offsets settled)
-
-  begins-later : (scan : Scan) (instant : ℤ) (all : List (List ℕ))
-      → scan.reader ≡ between.scan.reader
-      → AskFor (has_offsets between.scan.offsets) scan.offsets → awaits_header scan ≡ false
-      → is_stopped scan.stop ≡ false
-      → BeginsWith between.scan.reader (has_offsets between.scan.offsets) instant all
-      → BeginsEntry instant (marked between.prefix scan all)
-  begins-later scan instant all same asked scan_came goes_on begins =
-      begins-marked between.prefix scan (has_offsets between.scan.offsets) instant all
-      (subst (λ (reader : Reader).
-      BeginsWith reader (has_offsets between.scan.offsets) instant all) (sym same) begins)
-      asked scan_came goes_on
-
-  none-skipped : start ≡ begin → skipped ≡ []
-  none-skipped same = ap lines (part-empty text begin start (inr (omega (arith, same))))
-
-  start-printed : (entries_text between.bounds (entries (marked between.prefix between.scan skipped
-      ++ marked between.prefix found_scan others))
-      ≡ entries_text between.bounds (entries (marked between.prefix found_scan others)))
-      × AreInOrder (entries (marked between.prefix found_scan others))
-  start-printed = elim starts [
+  -- the part starts where a line begins, which may have a value before the first bound
+  start_parts : (unfinished_line (part text begin start) ≡ [])
+      × IsSkipped between.bounds between.prefix between.scan skipped (lines (drop start text))
+  start_parts = elim starts [
     | inl same ↦
-        let is = ap (λ (l : List (List ℕ)). marked between.prefix between.scan l
-        ++ marked between.prefix found_scan others) (none-skipped same) in (
-          ap (λ (l : List Marked). entries_text between.bounds (entries l)) is,
-          subst (λ (l : List Marked). AreInOrder (entries l)) is start-in_order,
-        )
-    | inr found ↦
-        let instant = found.1.1.0 in
-        let begins = begins-later found_scan instant others (reader-after between.scan skipped)
-        start-asked (came-after between.scan skipped came) (went_on found_scan others start-goes_on)
-        (begins-at between.scan.reader (has_offsets between.scan.offsets) text start instant
-        found.1.1.1.0) in (
-          skipped-lines between.bounds found.0 instant
-              (marked between.prefix between.scan skipped)
-              (marked between.prefix found_scan others) found.1.0 found.1.1.1.1 begins
-              start-in_order,
-          later-ordered (entries (marked between.prefix between.scan skipped))
-              (entries (marked between.prefix found_scan others))
-              (subst AreInOrder (entries-append (marked between.prefix between.scan skipped)
-              (marked between.prefix found_scan others)
-              (begins-no_more instant (marked between.prefix found_scan others) begins))
-              start-in_order),
-        )
+        let none = part-empty text begin start (inr (omega (arith, same))) in
+        (ap unfinished_line none, inl (ap lines none))
+    | inr (from, (is, (instant, (found, before)))) ↦ (
+      part_before _ _ text begin start instant found,
+      inr (begins_at between.scan (λ (value : ℤ). is_begun between.bounds.from value ≡ false) text
+          start instant found (is_before _ from instant is before)),
+    )
   ]
 
-  -- what is after the second bound is not printed either
-  module _ (end : ℕ) (short : length text < 2 ^ 64)
-      (ends : EndsAt between (Some text) start end) where
-    abbrev middle : List (List ℕ)
-    middle = lines (part text start end)
+  -- it ends with the file, or before a line whose value is not before the second bound
+  end_parts : (lines (drop start text) ≡ middle ++ dropped)
+      × IsDropped between.bounds between.prefix between.scan dropped
+  end_parts = elim ends [
+    | inl whole ↦
+        let past : length text ≤ end = omega (arith, whole, short) in
+        let none = drop_all end text past in (
+          rw (part-past text start end past, none, append-nil (lines (drop start text))) refl,
+          inl (ap lines none),
+        )
+    | inr (later, (to, (is, (instant, (found, after))))) ↦ (
+      splits text start end later (part_before _ _ text start end instant found),
+      inr (begins_at between.scan (λ (value : ℤ). is_open between.bounds.to value ≡ false) text end
+          instant found (is_after _ to instant is after)),
+    )
+  ]
 
-    abbrev dropped : List (List ℕ)
-    dropped = lines (drop end text)
+  all_parts : lines (drop begin text) ≡ skipped ++ (middle ++ dropped)
+  all_parts =
+      splits text begin start ordered start_parts.0
+      ∙ ap (λ (l : List (List ℕ)). skipped ++ l) end_parts.0
 
-    end-splits : others ≡ middle ++ dropped
-    end-splits = elim ends [
-      | inl whole ↦
-          sym (append-nil others)
-          ∙ ap (λ (l : List ℕ). lines l ++ [])
-          (sym (part-past text start end (omega (arith, whole, short))))
-          ∙ ap (λ (l : List ℕ). middle ++ lines l)
-          (sym (drop_all end text (omega (arith, whole, short))))
-      | inr found ↦ splits-at between.scan.reader (has_offsets between.scan.offsets) text start end
-          found.1.1.1.0 found.0 found.1.1.1.1.0
-    ]
+  -- the number is that of the lines before the part, if these are counted
+  counted : length skipped ≡ length (complete_lines (part text begin start))
+  counted = ap length (lines_complete (part text begin start) start_parts.0)
 
-    abbrev last_scan : Scan
-    last_scan = scan_after found_scan middle
+  more : between.scan.number ≤ number
+  more = elim number_is [
+    | inl is ↦ omega (arith, is, fits)
+    | inr (is, none) ↦ omega (arith, is)
+  ]
 
-    end-marked : marked between.prefix found_scan others
-        ≡ marked between.prefix found_scan middle ++ marked between.prefix last_scan dropped
-    end-marked =
-        ap (marked between.prefix found_scan) end-splits
-        ∙ marked-append between.prefix found_scan middle dropped
+  none_number : skipped ≡ [] → number ≡ between.scan.number
+  none_number none = elim number_is [
+    | inl is ↦ omega (arith, is, counted, ap length none, fits)
+    | inr (is, none) ↦ is
+  ]
 
-    end-goes_on : is_stopped (scan_after last_scan dropped).stop ≡ false
-    end-goes_on =
-        ap (λ (scan : Scan). is_stopped scan.stop)
-        (sym (scan_after-append found_scan middle dropped)
-        ∙ sym (ap (scan_after found_scan) end-splits)) ∙ start-goes_on
+  shown_number : is_stopped (scan_after between.scan skipped).stop ≡ false
+      → between.prefix.has_number ≡ true → (scan_after between.scan skipped).number ≡ number
+  shown_number goes_on shown = elim number_is [
+    | inl is ↦ omega (arith, is, counted, number_after between.scan skipped goes_on fits)
+    | inr (is, none) ↦ absurd (true≢false (sym shown ∙ none))
+  ]
 
-    none-dropped : end ≡ 2 ^ 64 - 1 → dropped ≡ []
-    none-dropped whole = ap lines (drop_all end text (omega (arith, whole, short)))
+  part_printed : IsInOrder between (lines (drop begin text))
+      → file_text (record between { scan = record between.scan { number = number } }) middle
+      ≡ file_text between (lines (drop begin text))
+  part_printed in_order =
+      let parts = and_parts _ _ searched in
+      let kept = not-true between.is_kept parts.0 in
+      let asked = asks between.scan.offsets (and_parts _ _ parts.1).0 in
+      let came_there = more_came (is_stopped between.scan.stop) between.scan.has_header
+      between.scan.number number came more in
+      let there = rw all_parts at in_order in
+      let goes_on = went_on (scan_after between.scan skipped) (middle ++ dropped)
+      (rw (scan_after-append between.scan skipped (middle ++ dropped)) at there.goes_on) in
+      text_plain (record between { scan = record between.scan { number = number } }) middle
+      came_there kept
+      ∙ middle_printed between.bounds between.prefix between.scan number skipped middle dropped
+      (record { same = refl; asked = asked; came = came })
+      (record { same = refl; asked = asked; came = came_there })
+      (rw end_parts.0 at start_parts.1) end_parts.1 none_number (shown_number goes_on)
+      (there.ordered, there.goes_on)
+      ∙ sym (rw all_parts (text_plain between _ came kept))
 
-    end-printed : entries_text between.bounds (entries (marked between.prefix found_scan others))
-        ≡ entries_text between.bounds (entries (marked between.prefix found_scan middle))
-    end-printed = elim ends [
-      | inl whole ↦
-          ap (λ (l : List Marked). entries_text between.bounds (entries l))
-          (end-marked
-          ∙ ap (λ (l : List (List ℕ)). marked between.prefix found_scan middle
-          ++ marked between.prefix last_scan l) (none-dropped whole)
-          ∙ append-nil (marked between.prefix found_scan middle))
-      | inr found ↦
-          let instant = found.1.1.1.0 in
-          let begins = begins-later last_scan instant dropped
-          (reader-after found_scan middle ∙ reader-after between.scan skipped)
-          (asked-after (has_offsets between.scan.offsets) found_scan middle start-asked)
-          (came-after found_scan middle (came-after between.scan skipped came))
-          (went_on last_scan dropped end-goes_on)
-          (begins-at between.scan.reader (has_offsets between.scan.offsets) text end instant
-          found.1.1.1.1.0) in
-          ap (λ (l : List Marked). entries_text between.bounds (entries l)) end-marked
-          ∙ dropped-lines between.bounds found.1.0 instant
-          (marked between.prefix found_scan middle) (marked between.prefix last_scan dropped)
-          found.1.1.0 found.1.1.1.1.1 begins
-          (subst (λ (l : List Marked). AreInOrder (entries l)) end-marked start-printed.1)
-    ]
-
-    -- the run over the part marks its lines as the run over the whole file does
-    module _ (number : ℕ) (fits : between.scan.number < 2 ^ 64)
-        (number_is : (number ≡ min (between.scan.number
-        + length (complete_lines (part text begin start))) most)
-        ⊎ ((number ≡ between.scan.number) × (between.prefix.has_number ≡ false))) where
-      abbrev part_scan : Scan
-      part_scan = record between.scan { number = number }
-
-      more : between.scan.number ≤ number
-      more = elim number_is [
-        | inl counted ↦ omega (arith, counted, fits)
-        | inr kept ↦ omega (arith, kept.0)
-      ]
-
-      part-came : awaits_header part_scan ≡ false
-      part-came =
-          later-number (is_stopped between.scan.stop) between.scan.has_header between.scan.number
-          number came more
-
-      start-number : start ≡ begin → number ≡ between.scan.number
-      start-number same = elim number_is [
-        | inl counted ↦
-            let none = ap (λ (l : List ℕ). length (complete_lines l))
-            (part-empty text begin start (inr (omega (arith, same)))) in
-            omega (arith, counted, none, fits)
-        | inr kept ↦ kept.0
-      ]
-
-      found-number : (instant : ℤ)
-          → HasValueAt between.scan.reader (has_offsets between.scan.offsets) text start instant
-          → between.prefix.has_number ≡ true → found_scan.number ≡ number
-      found-number instant found asked = elim number_is [
-        | inl counted ↦
-            elim (cases_lt begin start) [
-              | inl less ↦
-                  let all = ap length (lines-complete (part text begin start)
-                  (part-ended text begin start less
-                  (omega (arith, found.ends.after, found.ends.within)) found.begins)) in
-                  let is = number-after between.scan skipped
-                  (went_on found_scan others start-goes_on) fits in
-                  omega (arith, all, is, counted)
-              | inr same ↦
-                  let is = start-number (omega (arith, same, ordered)) in
-                  ap (λ (l : List (List ℕ)). (scan_after between.scan l).number)
-                  (none-skipped (omega (arith, same, ordered))) ∙ sym is
-            ]
-        | inr kept ↦ absurd (true≢false (sym asked ∙ kept.1))
-      ]
-
-      middle-marked : marked between.prefix found_scan middle
-          ≡ marked between.prefix part_scan middle
-      middle-marked = elim starts [
-        | inl same ↦
-            ap (λ (l : List (List ℕ)). marked between.prefix (scan_after between.scan l) middle)
-            (none-skipped same)
-            ∙ ap (λ (n : ℕ). marked between.prefix (record between.scan { number = n }) middle)
-            (sym (start-number same))
-        | inr found ↦
-            let instant = found.1.1.0 in
-            let begins = subst (BeginsWith between.scan.reader (has_offsets between.scan.offsets)
-            instant) end-splits (begins-at between.scan.reader
-            (has_offsets between.scan.offsets) text start instant found.1.1.1.0) in
-            elim (begins-front between.scan.reader (has_offsets between.scan.offsets) instant middle
-            dropped begins) [
-              | inl none ↦
-                  ap (marked between.prefix found_scan) none
-                  ∙ sym (ap (marked between.prefix part_scan) none)
-              | inr first ↦
-                  marked-found between.prefix between.scan (has_offsets between.scan.offsets)
-                  instant number skipped middle first
-                  (settled-asks between.scan.offsets settled) came
-                  part-came (went_on found_scan others start-goes_on)
-                  (found-number instant found.1.1.1.0)
-            ]
-      ]
-
-      part-printed : between.is_kept ≡ false
-          → file_text (record between { scan = part_scan }) middle
-          ≡ file_text between (lines (drop begin text))
-      part-printed kept =
-          text-plain (record between { scan = part_scan }) middle part-came kept
-          ∙ ap (λ (l : List Marked). entries_text between.bounds (entries l)) (sym middle-marked)
-          ∙ sym end-printed
-          ∙ sym start-printed.0
-          ∙ ap (λ (l : List Marked). entries_text between.bounds (entries l)) (sym start-marked)
-          ∙ sym (text-plain between (lines (drop begin text)) came kept)
-
-searched_parts : (between : Between) → is_searched between ≡ true
-    → (between.is_kept ≡ false) × (is_settled between.scan.offsets ≡ true)
-searched_parts between searched =
-    let parts = and_parts _ _ searched in
-    let later = and_parts _ _ parts.1 in
-    (not-true between.is_kept parts.0, later.0)
-
-pub prints-rest : (before found after : Between) (known old new : Option (List ℕ))
-    (begin start end : ℕ) → begin ≤ start → before.scan.number < 2 ^ 64
+-- a run over the part that was found prints what a run over all lines prints
+pub prints-rest : (before after : Between) (known old new : Option (List ℕ))
+    (begin start end number : ℕ) → begin ≤ start → before.scan.number < 2 ^ 64
     → StartsAt before known begin start
-    → EndsAt found known start end
-    → found ≡ record before { scan = record before.scan { number = found.scan.number } }
-    → IfSome known (λ text. IsNumber before text begin start found.scan.number)
-    → IfSome known (λ text. EndsFound found after old new (part text start end))
+    → EndsAt before known start end
+    → IfSome known (λ text. IsNumber before text begin start number)
+    → IfSome known (λ text. EndsFound (record before {
+      scan = record before.scan { number = number };
+    }) after old new (part text start end))
     → awaits_header before.scan ≡ false
     → IfSome known (λ text. PrintsRest before after old new text (lines (drop begin text)))
-prints-rest before found after None old new begin start end ordered fits starts ends is number_is
-    sent came = tt
-prints-rest before found after (Some text) old new begin start end ordered fits starts ends is
+prints-rest before after None old new begin start end number ordered fits starts ends number_is
+    sent came =
+    tt
+prints-rest before after (Some text) old new begin start end number ordered fits starts ends
     number_is sent came = λ searched short goes_on in_order. elim sent [
       | inl stopped ↦ absurd (true≢false (sym stopped ∙ goes_on))
-      | inr sent ↦
-          let parts = searched_parts before searched in
-          let ends_same = subst (λ (now : Between). EndsAt now (Some text) start end) is ends in
-          subst (Appends old new)
-          (ap (λ (now : Between). file_text now (lines (part text start end))) is
-          ∙ part-printed before text begin start came parts.1 ordered starts in_order end short
-          ends_same found.scan.number fits number_is parts.0) sent
+      | inr sent ↦ subst (Appends old new) (part_printed before text begin start end number searched
+          came short fits ordered starts ends number_is in_order) sent
     ]
-
--- What is left of a call that ended well.
-
-pub ok-after : {A E P Q : Type 0} (result : Result A E) → (P → Q) → OnOk result P → OnOk result Q
-ok-after (Ok value) next holds = next holds
-ok-after (Err fault) next holds = tt
 
 -- A file that is not searched.
 
-pub whole-rest : (before after : Between) (known old new : Option (List ℕ))
-    → IfSome known (λ text. EndsPart before after old new (part text 0 most))
-    → IfSome known (λ text. PrintsRest before after old new text (lines text))
-whole-rest before after None old new ends = tt
-whole-rest before after (Some text) old new ends = λ searched short goes_on in_order. elim ends [
-  | inl stopped ↦ absurd (true≢false (sym stopped ∙ goes_on))
-  | inr printed ↦
-      subst (λ (l : List ℕ). Appends old new (file_text before (lines l)))
-      (part-past text 0 most (omega (arith, short))) printed.1
-]
-
+-- a run over all bytes
 pub whole-file : (before after : Between) (known old new : Option (List ℕ))
     → IfSome known (λ text. EndsPart before after old new (part text 0 most))
     → IfSome known (λ text. PrintsFile before after old new text)
 whole-file before after None old new ends = tt
 whole-file before after (Some text) old new ends = λ short goes_on in_order. elim ends [
   | inl stopped ↦ absurd (true≢false (sym stopped ∙ goes_on))
-  | inr printed ↦
-      subst (λ (l : List ℕ). Appends old new (file_text before (lines l)))
-      (part-past text 0 most (omega (arith, short))) printed.1
+  | inr printed ↦ rw (part-past text 0 most (omega (arith, short))) at printed.1
 ]
+
+pub whole-rest : (before after : Between) (known old new : Option (List ℕ))
+    → IfSome known (λ text. EndsPart before after old new (part text 0 most))
+    → IfSome known (λ text. PrintsRest before after old new text (lines text))
+whole-rest before after None old new ends = tt
+whole-rest before after (Some text) old new ends =
+    λ searched. whole-file before after (Some text) old new ends
 
 pub rest-file : (before after : Between) (known old new : Option (List ℕ))
     → is_searched before ≡ true
     → IfSome known (λ text. PrintsRest before after old new text (lines text))
     → IfSome known (λ text. PrintsFile before after old new text)
 rest-file before after None old new searched rest = tt
-rest-file before after (Some text) old new searched rest =
-    λ short goes_on in_order. rest searched short goes_on in_order
+rest-file before after (Some text) old new searched rest = rest searched
 
 -- A file with a header.
 
@@ -568,86 +394,37 @@ headed-lines : (text : List ℕ) (begin : ℕ) → EndsFirstLine text begin
 headed-lines text begin first =
     let place : begin - 1 + 1 ≡ begin = omega (arith, first.0) in
     let none : begin - 1 - 0 ≡ begin - 1 = omega arith in
-    ap (λ (all : Pieces). all.complete ++ last_line all.unfinished)
-    (pieces-from text 0 0 (begin - 1) (omega arith)
-    (λ k after below same. absurd (omega (arith, after, below))) first.1)
-    ∙ ap (λ (n : ℕ). take n text ∷ lines (drop (begin - 1 + 1) text)) none
-    ∙ ap (λ (n : ℕ). take (begin - 1) text ∷ lines (drop n text)) place
+    lines_from text 0 (begin - 1) first.1 ∙ rw (none, place) refl
 
+-- the part with the first line has no other
 header-alone : (text : List ℕ) (begin : ℕ) → EndsFirstLine text begin
     → lines (part text 0 begin) ≡ take (begin - 1) text ∷ []
 header-alone text begin first =
+    let place : begin - 1 + 1 ≡ begin = omega (arith, first.0) in
+    let ended = rw place at
+    (part_ended text 0 (begin - 1) (omega arith) first.1.within first.1.ends) in
     append_cancel_right (lines (part text 0 begin)) (take (begin - 1) text ∷ [])
     (lines (drop begin text))
-    (sym (splits-later text 0 begin (omega (arith, first.0))
-    (omega (arith, first.0, first.1.within)) first.1.ends)
-    ∙ headed-lines text begin first)
-
-taken : (test : Bool) (one other : List ℕ) → test ≡ true → (if test then one else other) ≡ one
-taken true one other is = refl
-taken false one other is = cc
-
-header-text : (before : Between) (line : List ℕ) (lines : List (List ℕ))
-    → awaits_header before.scan ≡ true
-    → file_text before (line ∷ lines) ≡ printed_line before.prefix before.scan line
-    ++ between_lines before.bounds before.is_kept
-    (marked before.prefix (passed before.scan LineKind.Header) lines)
-header-text before line lines awaited = taken (awaits_header before.scan) _ _ awaited
+    (sym (splits text 0 begin (omega arith) ended) ∙ headed-lines text begin first)
 
 header-searched : (before : Between)
     → is_searched (between_after before LineKind.Header) ≡ is_searched before
 unfolding passed
 header-searched before = refl
 
+-- the lines after the header are in order
 header-in_order : (before : Between) (line : List ℕ) (lines : List (List ℕ))
     → awaits_header before.scan ≡ true → IsInOrder before (line ∷ lines)
     → IsInOrder (between_after before LineKind.Header) lines
 header-in_order before line lines awaited in_order =
     let is = line_is_header before.scan (head line) awaited in
     record {
-      ordered = subst (λ (what : LineKind). AreInOrder (entries
-          (mark before.prefix before.scan line what
-          ∷ marked before.prefix (passed before.scan what) lines))) is in_order.ordered;
+      ordered = rw is at in_order.ordered;
       goes_on = subst (λ (what : LineKind).
           is_stopped (scan_after (passed before.scan what) lines).stop ≡ false) is in_order.goes_on;
     }
 
-headed-text : (before found after : Between) (text : List ℕ) (old halfway new : Option (List ℕ))
-    (begin : ℕ) → awaits_header before.scan ≡ true → EndsFirstLine text begin
-    → EndsPart before found old halfway (part text 0 begin)
-    → is_stopped found.scan.stop ≡ false
-    → (awaits_header found.scan ≡ false
-    → PrintsRest found after halfway new text (lines (drop begin text)))
-    → PrintsRest before after old new text (lines text)
-headed-text before found after text old halfway new begin awaited first ends went rest searched
-    short goes_on in_order = elim ends [
-      | inl stopped ↦ absurd (true≢false (sym stopped ∙ went))
-      | inr printed ↦
-          let line : List ℕ = take (begin - 1) text in
-          let others : List (List ℕ) = lines (drop begin text) in
-          let next : Between = between_after before LineKind.Header in
-          let alone = header-alone text begin first in
-          let all = headed-lines text begin first in
-          let is : found ≡ next = printed.0
-          ∙ ap (λ (l : List (List ℕ)). state_after between_machine before l) alone
-          ∙ ap (between_after before) (line_is_header before.scan (head line) awaited) in
-          let came = header_passed before.scan in
-          let sent_first = subst (Appends old halfway)
-          (ap (file_text before) alone
-          ∙ header-text before line [] awaited
-          ∙ ap (λ (l : List ℕ). printed_line before.prefix before.scan line ++ l)
-          (nothing before.is_kept)
-          ∙ append-nil (printed_line before.prefix before.scan line)) printed.1 in
-          let later = subst (λ (now : Between). awaits_header now.scan ≡ false
-          → PrintsRest now after halfway new text others) is rest in
-          let sent_rest = subst (Appends halfway new) (text-came next others came)
-          (later came (header-searched before ∙ searched) short goes_on
-          (header-in_order before line others awaited (subst (IsInOrder before) all in_order))) in
-          subst (Appends old new)
-          (sym (ap (file_text before) all ∙ header-text before line others awaited))
-          (Appends-trans old halfway new _ _ sent_first sent_rest)
-    ]
-
+-- a run over the header, and then over the rest
 pub headed-rest : {A E : Type 0} (before found after : Between)
     (known old halfway new : Option (List ℕ)) (result : Result A E) (begin : ℕ)
     → awaits_header before.scan ≡ true → IfSome known (λ text. EndsFirstLine text begin)
@@ -662,5 +439,23 @@ headed-rest before found after known old halfway new (Err fault) begin awaited f
 headed-rest before found after None old halfway new (Ok value) begin awaited first ends went rest =
     tt
 headed-rest before found after (Some text) old halfway new (Ok value) begin awaited first ends went
-    rest =
-    headed-text before found after text old halfway new begin awaited first ends went rest
+    rest = λ searched short goes_on in_order. elim ends [
+      | inl stopped ↦ absurd (true≢false (sym stopped ∙ went))
+      | inr printed ↦
+          let line : List ℕ = take (begin - 1) text in
+          let others : List (List ℕ) = lines (drop begin text) in
+          let next : Between = between_after before LineKind.Header in
+          let alone = header-alone text begin first in
+          let all = headed-lines text begin first in
+          let is : found ≡ next = printed.0
+          ∙ ap (λ (l : List (List ℕ)). state_after between_machine before l) alone
+          ∙ ap (between_after before) (line_is_header before.scan (head line) awaited) in
+          let came = header_passed before.scan in
+          let sent_first = rw (alone, awaited, nothing before.is_kept, append-nil) at printed.1 in
+          let later = subst (λ (now : Between). awaits_header now.scan ≡ false
+          → PrintsRest now after halfway new text others) is rest in
+          let sent_rest = later came (header-searched before ∙ searched) short goes_on
+          (header-in_order before line others awaited (rw all at in_order)) in
+          rw (all, awaited) (Appends-trans old halfway new _ _ sent_first
+          (rw (text_came next others came) at sent_rest))
+    ]

@@ -1,3 +1,4 @@
+mod KindLemmas
 mod EntryLemmas
 mod RunLemmas
 mod LineLemmas

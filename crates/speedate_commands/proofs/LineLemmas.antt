@@ -37,13 +37,8 @@ one_line convert line (LineKind.Value found) =
     joined (line_prefix convert) (take found.from (head line))
     (text_of convert (head line) found (written_of convert (head line) (LineKind.Value found)))
     (rest_of (Some found.to) line)
-one_line convert line LineKind.Header = as_it_is true (line_prefix convert) line
-one_line convert line (LineKind.Bad bad) =
-    as_it_is (keeps convert.scan (LineKind.Bad bad)) (line_prefix convert) line
-one_line convert line LineKind.Undated =
-    as_it_is (keeps convert.scan LineKind.Undated) (line_prefix convert) line
-one_line convert line LineKind.Late = refl
-one_line convert line LineKind.Unfit = refl
+one_line convert line what =
+    as_it_is (keeps convert.scan what) (line_prefix convert) line
 
 -- `convert` prints each line with its value written anew
 pub convert_prints : (convert : Convert) (lines : List (List ℕ))

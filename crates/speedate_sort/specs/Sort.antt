@@ -70,20 +70,6 @@ keyed instant (line ∷ lines) =
     let next = instant_after instant line.what in
     if_kept line.kept next line.printed ++ keyed next lines
 
--- a line that has a value is not left out
-abbrev pub IsKept : LineKind → Bool → Type 0
-IsKept (LineKind.Value found) kept = kept ≡ true
-IsKept LineKind.Late kept = Unit {0}
-IsKept LineKind.Header kept = Unit {0}
-IsKept (LineKind.Bad bad) kept = Unit {0}
-IsKept LineKind.Unfit kept = Unit {0}
-IsKept LineKind.Undated kept = Unit {0}
-
--- the lines of files are such that none of those with a value is left out
-abbrev pub AreKept : List Marked → Type 0
-AreKept [] = Unit {0}
-AreKept (line ∷ lines) = IsKept line.what line.kept × AreKept lines
-
 -- nothing is printed before a line
 abbrev pub no_prefix : Prefix
 no_prefix = record { has_name = false; has_number = false }

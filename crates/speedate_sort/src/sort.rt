@@ -7,7 +7,7 @@ ghost use Rattle.speedate.specs.Ascii.{line_feed};
 ghost use Rattle.speedate.specs.Lines.{complete_lines, lines, unfinished_line};
 ghost use Rattle.speedate_scan.specs.Entries.{Marked};
 ghost use Rattle.speedate_scan.specs.Print.{shown_name, with_colon};
-ghost use Rattle.speedate_sort.specs.Sort.{Adds, AreKept, FailsBy, IsPlaced, Keyed, bare_lines, file_lines, in_order, prefixed};
+ghost use Rattle.speedate_sort.specs.Sort.{Adds, FailsBy, IsPlaced, Keyed, bare_lines, file_lines, in_order, prefixed};
 ghost use Rattle.speedate_sort.specs.Sort.{instant_after, is_earlier, kept_instant, key_after};
 ghost use Rattle.speedate_sort.specs.Sort.{key_of, keyed, keys_after, line_at, lines_at, part};
 ghost use Rattle.speedate_sort.specs.Sort.{FailsRead, IsBegun, Reads, UnlessMemory};
@@ -465,7 +465,7 @@ impl KeyedLines {
         ensures sorted { OnOk result (Appends (W.contents output.old.inner)
             (W.contents output.new.inner) (sorted_text self.old)) }
         // The lines of files are then entries in the order of their values, each whole.
-        ensures entries { OnOk result ((instant : ℤ) (lines : List Marked) → AreKept lines
+        ensures entries { OnOk result ((instant : ℤ) (lines : List Marked)
             → self.old ≡ keyed instant lines
             → Appends (W.contents output.old.inner) (W.contents output.new.inner)
             (sorted_entries instant lines)) }

@@ -1,17 +1,12 @@
-use Rattle.std.proofs.Common.{◌≡◌, ◌++◌, subst, List, ℕ, None}
-use Rattle.speedate_stream.specs.Run.{AppendsBeginning}
+use Rattle.std.proofs.Common.{◌≡◌, None}
 use Rattle.speedate_stream.proofs.SentLemmas.{AppendsBeginning-left, AppendsBeginning-more}
-use Rattle.speedate_sort.specs.Merge.{due, files_left}
 use Rattle.speedate_sort.proofs.SourceLemmas.{merges-all, merges-sent}
 use Rattle.speedate_sort.proofs.merge.merge.Goals as goal
 
 pub returns-in_err-send-clause-beginning : goal.returns-in_err-send-clause-beginning
-returns-in_err-send-clause-beginning g c =
-    let bytes : List ℕ = due (files_left g.R.Read.remaining c.args.sources.now) in
-    λ known.
+returns-in_err-send-clause-beginning g c = λ known.
     let merges = c.in_ok-halted.ensures.merged known in
-    subst (λ (l : List ℕ). AppendsBeginning (g.W.Write.contents c.args.output.now.inner)
-    (g.W.Write.contents c.send.new.output.inner) (l ++ bytes)) c.new-pending.ensures.empty
+    rw c.new-pending.ensures.empty at
     (AppendsBeginning-left merges.sent
     (AppendsBeginning-more merges.left c.in_err-send.ensures.sent.writes.beginning))
 

@@ -1,14 +1,13 @@
-use Rattle.std.proofs.Common.{◌∙◌, ◌++◌, ap, sym, List, ℕ, [], append_assoc, get_or, is_some, refl, set}
+use Rattle.std.proofs.Common.{◌≡◌, ◌∙◌, ◌++◌, ap, sym, List, ℕ, [], IsSome, false, get_or, is_some, refl, set}
 use Rattle.std.proofs.Math.Bool.{or-false}
 use Rattle.std.proofs.lemmas.Bool.{true≢false}
+use Rattle.std.proofs.lemmas.List.Elements.{All-set}
 use Rattle.speedate_stream.proofs.SentLemmas.{AppendsBeginning-left, AppendsBeginning-more}
 use Rattle.speedate_stream.proofs.SentLemmas.{AppendsBut-more, AppendsBut-same, AppendsBut-trans}
 use Rattle.speedate_stream.proofs.SentLemmas.{on_err}
-use Rattle.speedate_sort.specs.Merge.{AreKnown, Best, due, files_left, printed_first}
+use Rattle.speedate_sort.specs.Merge.{AreKnown, Best, are_unlike, due, files_left}
 use Rattle.speedate_sort.proofs.SourceLemmas.{late-in, settled-alike, settled-trans, source-known}
-use Rattle.speedate_sort.proofs.SourceLemmas.{sources-alike, sources-known}
-use Rattle.speedate_sort.proofs.SourceLemmas.{sources-line}
-use Rattle.speedate_sort.proofs.SourceLemmas.{sources-none, sources-step, unread-in}
+use Rattle.speedate_sort.proofs.SourceLemmas.{sources-line, sources-none, sources-step, unread-in}
 use Rattle.speedate_sort.proofs.merge.merge_lines.Goals as goal
 
 pub returns-in_default-clause-merged : goal.returns-in_default-clause-merged
@@ -27,13 +26,10 @@ returns-in_err-halt-clause-beginning g c =
     let best : Best = c.in-Some.best in
     let at = ap (get_or c.loop.sources best.index) c.index-sources-best.is in
     let source = get_or c.loop.sources best.index c.index-sources-best.result in
-    let waiting : List ℕ = c.loop.pending.items in
     let line = sources-line g.R.Read.remaining c.loop.sources best source
-    (sym c.in-Some.ensures.best) c.in-Some.ensures.within at in
-    let same = ap (λ (l : List ℕ). waiting ++ l) line.1
-    ∙ sym (append_assoc waiting (printed_first source) line.0) in
+    (sym c.in-Some.ensures.best) c.in-Some.ensures.within at c.loop.pending.items in
     on_err c.from_residual.result (λ known. AppendsBeginning-left
-    (AppendsBut-same (c.loop.invariant.sent known) same)
+    (AppendsBut-same (c.loop.invariant.sent known) line.1)
     (AppendsBeginning-more line.0 c.in_err-halt.ensures.printed.writes.beginning))
 
 pub returns-in-Some-2-clause-merged : goal.returns-in-Some-2-clause-merged
@@ -41,14 +37,11 @@ returns-in-Some-2-clause-merged g c =
     let best : Best = c.in-Some.best in
     let at = ap (get_or c.loop.sources best.index) c.index-sources-best.is in
     let source = get_or c.loop.sources best.index c.index-sources-best.result in
-    let waiting : List ℕ = c.loop.pending.items in
     let line = sources-line g.R.Read.remaining c.loop.sources best source
-    (sym c.in-Some.ensures.best) c.in-Some.ensures.within at in
-    let same = ap (λ (l : List ℕ). waiting ++ l) line.1
-    ∙ sym (append_assoc waiting (printed_first source) line.0) in
+    (sym c.in-Some.ensures.best) c.in-Some.ensures.within at c.loop.pending.items in
     λ known. record {
       left = line.0;
-      sent = AppendsBut-trans (AppendsBut-same (c.loop.invariant.sent known) same)
+      sent = AppendsBut-trans (AppendsBut-same (c.loop.invariant.sent known) line.1)
           (AppendsBut-more line.0 c.in_ok-halt.ensures.printed.writes.sent);
       all = λ none. absurd (true≢false none);
     }
@@ -57,15 +50,13 @@ pub returns-in-Some-2-clause-late : goal.returns-in-Some-2-clause-late
 returns-in-Some-2-clause-late g c =
     let best : Best = c.in-Some.best in
     let source = get_or c.loop.sources best.index c.index-sources-best.result in
-    let late = rw c.in-Some-2.is at c.in_ok-halt.ensures.late in
     late-in c.in-Some-2.halt c.loop.sources best.index source.keys source.number c.step.new.source
-    c.in-Some.ensures.within late
+    c.in-Some.ensures.within (rw c.in-Some-2.is at c.in_ok-halt.ensures.late)
 
 pub returns-in-Some-2-clause-unread : goal.returns-in-Some-2-clause-unread
 returns-in-Some-2-clause-unread g c =
-    let unread = rw c.in-Some-2.is at c.in_ok-halt.ensures.unread in
     unread-in c.in-Some-2.halt c.loop.sources c.in-Some.best.index c.step.new.source
-    c.in-Some.ensures.within unread
+    c.in-Some.ensures.within (rw c.in-Some-2.is at c.in_ok-halt.ensures.unread)
 
 pub loop-preserved : goal.loop-preserved
 loop-preserved g c =
@@ -73,32 +64,29 @@ loop-preserved g c =
     let at = ap (get_or c.loop.sources best.index) c.index-sources-best.is in
     let source = get_or c.loop.sources best.index c.index-sources-best.result in
     let new = c.step.new.source in
-    let waiting : List ℕ = c.loop.pending.items in
-    let is_known = λ (known : AreKnown g.R.Read.remaining c.args.sources.now).
-    source-known g.R.Read.remaining c.loop.sources best.index source
-    c.in-Some.ensures.within at (c.loop.invariant.known known) in
+    let goes_on = ap is_some c.in_default-2.is in
     let moves = λ (known : AreKnown g.R.Read.remaining c.args.sources.now).
-    c.in_ok-halt.ensures.moves (ap is_some c.in_default-2.is) (is_known known) in
+    c.in_ok-halt.ensures.moves goes_on (source-known g.R.Read.remaining c.loop.sources best.index
+    source c.in-Some.ensures.within at (c.loop.invariant.known known)) in
     let step = λ (known : AreKnown g.R.Read.remaining c.args.sources.now).
     sources-step g.R.Read.remaining c.loop.sources best source new
-    (sym c.in-Some.ensures.best) c.in-Some.ensures.within at (moves known) in
+    (sym c.in-Some.ensures.best) c.in-Some.ensures.within at c.loop.pending.items (moves known) in
     record {
-      known = λ known. sources-known g.R.Read.remaining c.loop.sources best.index new
-          (moves known).known (c.loop.invariant.known known);
+      known = λ known. All-set (λ s. IsSome (g.R.Read.remaining s.input)) c.loop.sources
+          best.index new (moves known).known (c.loop.invariant.known known);
       sent = λ known.
           let left : List ℕ =
           due (files_left g.R.Read.remaining (set c.loop.sources best.index new)) in
-          AppendsBut-trans (AppendsBut-same (c.loop.invariant.sent known)
-          (ap (λ (l : List ℕ). waiting ++ l) (step known).0
-          ∙ sym (append_assoc waiting (printed_first source) left)))
+          AppendsBut-trans (AppendsBut-same (c.loop.invariant.sent known) (step known).0)
           (AppendsBut-more left c.in_ok-halt.ensures.printed.writes.sent);
       order = λ known ordered. c.loop.invariant.order known ((step known).1 ordered);
       failed = c.in_ok-halt.ensures.printed.writes.failed ∙ or-false c.loop.output.failed
           ∙ c.loop.invariant.failed;
       settled = settled-trans c.args.offsets.now c.loop.offsets c.step.new.offsets
           c.loop.invariant.settled c.in_ok-halt.ensures.settled;
-      alike = λ alike. sources-alike c.args.offsets.now c.loop.sources best.index new
+      alike = λ alike. All-set (λ s. are_unlike c.args.offsets.now s.keys.scan.offsets ≡ false)
+          c.loop.sources best.index new
           (settled-alike c.args.offsets.now c.loop.offsets new.keys.scan.offsets
-          c.loop.invariant.settled (c.in_ok-halt.ensures.alike (ap is_some c.in_default-2.is)))
+          c.loop.invariant.settled (c.in_ok-halt.ensures.alike goes_on))
           (c.loop.invariant.alike alike);
     }

@@ -1,11 +1,12 @@
 use Rattle.std.proofs.Common.{rules, ◌≡◌, false}
-use Rattle.speedate_sort.proofs.SortLemmas.{adds-bare, on_ok}
+use Rattle.std.proofs.lemmas.Result.{on_ok_weaker}
+use Rattle.speedate_sort.proofs.SortLemmas.{adds-bare}
 use Rattle.speedate_sort.proofs.sort.KeyedLines.add.Goals as goal
 
 pub returns-clause-added : goal.returns-clause-added
 returns-clause-added g c =
     let none : c.args.keys.now.has_name ≡ false = search rules in
-    on_ok c.add_bare.result c.add_bare.ensures.added (adds-bare none)
+    on_ok_weaker c.add_bare.result (adds-bare none) c.add_bare.ensures.added
 
 pub returns-clause-read_failed : goal.returns-clause-read_failed
 returns-clause-read_failed g c =

@@ -1,6 +1,5 @@
-use Rattle.std.proofs.Common.{rules, ◌≡◌, ◌∙◌, ◌++◌, ap, sym, ℕ, List, drop, length}
-use Rattle.speedate.specs.Lines.{complete_lines, lines}
-use Rattle.speedate_sort.specs.Sort.{Keyed, Place, bare_lines}
+use Rattle.std.proofs.Common.{rules, ◌≡◌, sym, ℕ, List, drop, length}
+use Rattle.speedate_sort.specs.Sort.{Place}
 use Rattle.speedate_sort.proofs.SortLemmas.{lines_at-read, ok_part, unread_part}
 use Rattle.speedate_sort.proofs.sort.KeyedLines.add_bare.Goals as goal
 
@@ -16,9 +15,10 @@ returns-else-is_err-clause-added g c =
       text = drop from new;
       consumed = rw long (c.in-Ok.ensures.read);
       keys = ok_part c.place_all.result no_err c.place_all.ensures.keys;
-      lines = ok_part c.place_all.result no_err c.place_all.ensures.placed
-          ∙ ap (λ (l : List Keyed). l ++ bare_lines c.args.keys.now (lines (drop from new)))
-          (lines_at-read old new places c.in-Ok.ensures.kept c.self.invariant ∙ c.self.view_is);
+      lines = rw (
+        lines_at-read old new places c.in-Ok.ensures.kept c.self.invariant,
+        c.self.view_is,
+      ) at (ok_part c.place_all.result no_err c.place_all.ensures.placed);
     }
 
 pub returns-else-is_err-2-clause-read_failed : goal.returns-else-is_err-2-clause-read_failed
@@ -29,17 +29,15 @@ returns-else-is_err-2-clause-read_failed g c =
     let from = c.len-from.result in
     let long : from ≡ length old = search rules in
     let no_err = sym c.if-is_err-2.ensures.value in
-    let placed = rw (c.deref.ensures.value) at (ok_part c.place_complete.result no_err
-    c.place_complete.ensures.placed) in
     λ failed. record {
       text = drop from new;
       consumed = rw long
           (unread_part c.in-Err-Read.field-0 (search rules) c.in-Err-Read.ensures.read);
       keys = rw (c.deref.ensures.value) at (ok_part c.place_complete.result no_err
           c.place_complete.ensures.keys);
-      lines = placed
-          ∙ ap (λ (l : List Keyed). l
-          ++ bare_lines c.args.keys.now (complete_lines (drop from new)))
-          (lines_at-read old new places c.in-Err-Read.ensures.kept c.self.invariant
-          ∙ c.self.view_is);
+      lines = rw (
+        c.deref.ensures.value,
+        lines_at-read old new places c.in-Err-Read.ensures.kept c.self.invariant,
+        c.self.view_is,
+      ) at (ok_part c.place_complete.result no_err c.place_complete.ensures.placed);
     }
