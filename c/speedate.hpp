@@ -39,6 +39,7 @@
 #include <stdexcept>
 #include <string>
 #include <string_view>
+#include <tuple>
 #include <type_traits>
 #include <utility>
 #if __cplusplus >= 202002L
@@ -215,13 +216,26 @@ inline void must(int code) noexcept {
         std::abort();
 }
 
+/* Makes a value of numbers in range: only this may. */
+struct Make {
+    template <class T, class C> static T value(const C &numbers) { return T(numbers); }
+};
+
+/* The value of numbers, unless the call that checks them refuses them. */
+template <class T, class C> Result<T> checked(int (*check)(C), const C &numbers) {
+    const int code = check(numbers);
+    if (code != SPEEDATE_OK)
+        return Error(code);
+    return Make::value<T>(numbers);
+}
+
 /* The value that a call writes, in its type of C++. */
 template <class T, class C, class Call> Result<T> written(Call call) {
     C out;
     const int code = call(&out);
     if (code != SPEEDATE_OK)
         return Error(code);
-    return T(out);
+    return Make::value<T>(out);
 }
 
 /* The value that a parser writes, and its size, or the part that it refuses. */
@@ -233,7 +247,7 @@ Result<T> parsed(Call call, std::string_view text, Form form, const Config &conf
     const int code = call(text.data(), text.size(), static_cast<int>(form), &of, &out, &part);
     if (code != SPEEDATE_OK)
         return Error(code, part);
-    return Result<T>(T(out), part.end);
+    return Result<T>(Make::value<T>(out), part.end);
 }
 
 /* The value of a call that cannot refuse, of one argument or two. */
@@ -324,12 +338,7 @@ class Date : public detail::Ordered<Date> {
             return Error(SPEEDATE_DATE_TOO_SMALL);
         return of(SpeedateDate{year.in<std::uint16_t>(), month.in<std::uint8_t>(), day.in<std::uint8_t>()});
     }
-    static Result<Date> of(SpeedateDate date) {
-        const int code = speedate_date_check(date);
-        if (code != SPEEDATE_OK)
-            return Error(code);
-        return Date(date);
-    }
+    static Result<Date> of(SpeedateDate date) { return detail::checked<Date>(speedate_date_check, date); }
 
     std::uint16_t year() const noexcept { return c_.year; }
     std::uint8_t month() const noexcept { return c_.month; }
@@ -370,9 +379,7 @@ class Date : public detail::Ordered<Date> {
 #endif
 
   private:
-    template <class T, class C, class Call> friend Result<T> detail::written(Call);
-    template <class T, class C, class Call>
-    friend Result<T> detail::parsed(Call, std::string_view, Form, const Config &);
+    friend struct detail::Make;
     friend class DateTime;
     explicit Date(SpeedateDate date) noexcept : c_(date) {}
 
@@ -393,12 +400,9 @@ class Time : public detail::Equal<Time> {
                                offset.value_or(0).in<std::int32_t>()});
     }
     static Result<Time> of(SpeedateTime time) {
-        const int code = speedate_time_check(time);
-        if (code != SPEEDATE_OK)
-            return Error(code);
         if (!time.has_offset)
             time.offset = 0;
-        return Time(time);
+        return detail::checked<Time>(speedate_time_check, time);
     }
 
     std::uint8_t hour() const noexcept { return c_.hour; }
@@ -420,9 +424,7 @@ class Time : public detail::Equal<Time> {
     friend std::ostream &operator<<(std::ostream &to, const Time &time) { return to << time.to_text(); }
 
   private:
-    template <class T, class C, class Call> friend Result<T> detail::written(Call);
-    template <class T, class C, class Call>
-    friend Result<T> detail::parsed(Call, std::string_view, Form, const Config &);
+    friend struct detail::Make;
     friend class DateTime;
     explicit Time(SpeedateTime time) noexcept : c_(time) {}
 
@@ -444,10 +446,7 @@ class Duration : public detail::Ordered<Duration> {
                                    microsecond.in<std::uint32_t>()});
     }
     static Result<Duration> of(SpeedateDuration duration) {
-        const int code = speedate_duration_check(duration);
-        if (code != SPEEDATE_OK)
-            return Error(code);
-        return Duration(duration);
+        return detail::checked<Duration>(speedate_duration_check, duration);
     }
     /* The duration of numbers that are brought into their ranges, as speedate_duration_normalize says. */
     template <class Flag, detail::IfBool<Flag> = 0>
@@ -503,19 +502,14 @@ class Duration : public detail::Ordered<Duration> {
         const SpeedateDuration &one = first.c_, &other = second.c_;
         if (one.negative != other.negative)
             return one.negative ? -1 : 1;
-        const int order = one.day != other.day         ? (one.day < other.day ? -1 : 1)
-                          : one.second != other.second ? (one.second < other.second ? -1 : 1)
-                          : one.microsecond == other.microsecond ? 0
-                          : one.microsecond < other.microsecond  ? -1
-                                                                 : 1;
+        const auto sizes = [](const SpeedateDuration &it) { return std::tie(it.day, it.second, it.microsecond); };
+        const int order = sizes(one) < sizes(other) ? -1 : sizes(other) < sizes(one) ? 1 : 0;
         return one.negative ? -order : order;
     }
     friend std::ostream &operator<<(std::ostream &to, const Duration &duration) { return to << duration.to_text(); }
 
   private:
-    template <class T, class C, class Call> friend Result<T> detail::written(Call);
-    template <class T, class C, class Call>
-    friend Result<T> detail::parsed(Call, std::string_view, Form, const Config &);
+    friend struct detail::Make;
     explicit Duration(SpeedateDuration duration) noexcept : c_(duration) {}
     template <class Call> static Result<Duration> from_c(Call call) {
         return detail::written<Duration, SpeedateDuration>(call);
@@ -534,12 +528,9 @@ class DateTime : public detail::Equal<DateTime> {
   public:
     DateTime(const Date &date, const Time &time) noexcept : c_{date.c(), time.c()} {}
     static Result<DateTime> of(SpeedateDateTime value) {
-        const int code = speedate_datetime_check(value);
-        if (code != SPEEDATE_OK)
-            return Error(code);
         if (!value.time.has_offset)
             value.time.offset = 0;
-        return DateTime(value);
+        return detail::checked<DateTime>(speedate_datetime_check, value);
     }
 
     Date date() const noexcept { return Date(c_.date); }
@@ -595,9 +586,7 @@ class DateTime : public detail::Equal<DateTime> {
     friend std::ostream &operator<<(std::ostream &to, const DateTime &value) { return to << value.to_text(); }
 
   private:
-    template <class T, class C, class Call> friend Result<T> detail::written(Call);
-    template <class T, class C, class Call>
-    friend Result<T> detail::parsed(Call, std::string_view, Form, const Config &);
+    friend struct detail::Make;
     explicit DateTime(SpeedateDateTime value) noexcept : c_(value) {}
     template <class Call> static Result<DateTime> from_c(Call call) {
         return detail::written<DateTime, SpeedateDateTime>(call);

@@ -82,19 +82,18 @@ static long long number(void) {
     return it;
 }
 
-static SpeedateConfig config(void) {
-    SpeedateConfig it = SPEEDATE_CONFIG_DEFAULT;
-    long long n[5];
-    if (field < FIELDS && fields[field] && strcmp(fields[field], "default") == 0) {
+/* The five numbers of a configuration. Those that are passed stay if it is `default`. */
+static void config_numbers(long long *out) {
+    if (field < FIELDS && fields[field] && strcmp(fields[field], "default") == 0)
         field++;
-        return it;
-    }
-    numbers(n, 5);
-    it.timestamp_offset = (int32_t)n[0];
-    it.has_timestamp_offset = (uint8_t)n[1];
-    it.timestamp_unit = (uint8_t)n[2];
-    it.overflow_behavior = (uint8_t)n[3];
-    it.iso_order = (uint8_t)n[4];
+    else
+        numbers(out, 5);
+}
+
+static SpeedateConfig config(void) {
+    long long n[5] = SPEEDATE_CONFIG_DEFAULT;
+    config_numbers(n);
+    SpeedateConfig it = {(int32_t)n[0], (uint8_t)n[1], (uint8_t)n[2], (uint8_t)n[3], (uint8_t)n[4]};
     return it;
 }
 
@@ -107,18 +106,9 @@ static const SpeedateConfig *config_or_null(void) {
 }
 
 static SpeedateColumnConfig column_config(void) {
-    SpeedateColumnConfig it = {1, 0, 0, 0, 0};
-    long long n[5];
-    if (field < FIELDS && fields[field] && strcmp(fields[field], "default") == 0) {
-        field++;
-        return it;
-    }
-    numbers(n, 5);
-    it.at_end = (uint8_t)n[0];
-    it.drops_returns = (uint8_t)n[1];
-    it.parser = (uint8_t)n[2];
-    it.assumes_utc = (uint8_t)n[3];
-    it.goes_on = (uint8_t)n[4];
+    long long n[5] = {1, 0, 0, 0, 0};
+    config_numbers(n);
+    SpeedateColumnConfig it = {(uint8_t)n[0], (uint8_t)n[1], (uint8_t)n[2], (uint8_t)n[3], (uint8_t)n[4]};
     return it;
 }
 
@@ -192,19 +182,19 @@ static int said(int code, int kept) {
     return code == SPEEDATE_OK;
 }
 
+/* Says numbers, with a space between two of them. */
+static void say_all(const long long *numbers, size_t count) {
+    for (size_t i = 0; i < count; i++)
+        say(i ? " %lld" : "%lld", numbers[i]);
+}
+#define SAY_ALL(...) say_all((const long long[]){__VA_ARGS__}, sizeof((const long long[]){__VA_ARGS__}) / sizeof(long long))
+
 static void say_date(SpeedateDate it) {
-    say("%lld ", it.year);
-    say("%lld ", it.month);
-    say("%lld", it.day);
+    SAY_ALL(it.year, it.month, it.day);
 }
 
 static void say_time(SpeedateTime it) {
-    say("%lld ", it.hour);
-    say("%lld ", it.minute);
-    say("%lld ", it.second);
-    say("%lld ", it.has_offset);
-    say("%lld ", it.microsecond);
-    say("%lld", it.offset);
+    SAY_ALL(it.hour, it.minute, it.second, it.has_offset, it.microsecond, it.offset);
 }
 
 static void say_datetime(SpeedateDateTime it) {
@@ -214,10 +204,7 @@ static void say_datetime(SpeedateDateTime it) {
 }
 
 static void say_duration(SpeedateDuration it) {
-    say("%lld ", it.negative);
-    say("%lld ", it.day);
-    say("%lld ", it.second);
-    say("%lld", it.microsecond);
+    SAY_ALL(it.negative, it.day, it.second, it.microsecond);
 }
 
 static void say_number(long long it) {
@@ -225,12 +212,8 @@ static void say_number(long long it) {
 }
 
 static void say_datetime_front(SpeedateDateTimeFront it) {
-    say("%lld", (long long)it.microseconds);
+    say_number(it.microseconds);
     say(":%lld", (long long)it.size);
-}
-
-static void say_size(size_t it) {
-    say("%lld", (long long)it);
 }
 
 /* Says a text with its line feeds as a row has them. */
@@ -258,14 +241,17 @@ static int is_same(SpeedateProgress it, SpeedateProgress other) {
            it.part.start == other.part.start && it.part.end == other.part.end && it.part.kind == other.part.kind;
 }
 
+static void say_part(SpeedatePart it) {
+    SAY_ALL((long long)it.start, (long long)it.end, it.kind);
+}
+
 static void say_progress(SpeedateProgress it) {
-    say("%lld ", (long long)it.lines);
-    say("%lld ", (long long)it.bytes);
+    SAY_ALL((long long)it.lines, (long long)it.bytes);
+    strcat(answer, " ");
     strcat(answer, speedate_code_string(it.error));
     if (it.part.kind != SPEEDATE_KIND_NONE) {
-        say(" %lld ", (long long)it.part.start);
-        say("%lld ", (long long)it.part.end);
-        say("%lld", it.part.kind);
+        strcat(answer, " ");
+        say_part(it.part);
     } else if (it.part.start != 0 || it.part.end != 0) {
         strcat(answer, " with a part");
     }
@@ -291,33 +277,31 @@ static void say_progress(SpeedateProgress it) {
         return 1;                                                                                                      \
     }
 
-/* A parser in a form. Its part is said if the text is refused and the row has it, and the size of a value at a
- * front. The part of a value ends with it, and without a part the call does the same. */
-#define PARSE(TYPE, SAY, CALL, NAME, FORM, CONFIG)                                                                     \
-    if (is_call(#NAME)) {                                                                                              \
+/* A parser in a form, which ends the name of the call. The row has the part of a text that is refused, and the size of a
+ * value at a front. The part of a value ends with it, and without a part the call does the same. */
+#define PARSE(TYPE, SAY, NAME, ENDING, FORM, CONFIG)                                                                   \
+    if (is_call(#NAME "_parse" #ENDING)) {                                                                             \
         const SpeedateConfig *it = CONFIG;                                                                             \
         OUTPUT(TYPE, out)                                                                                              \
         OUTPUT(TYPE, alone)                                                                                            \
         OUTPUT(SpeedatePart, part)                                                                                     \
         size_t end = 0;                                                                                                \
-        int code = speedate_##CALL##_parse(text, size, FORM, it, out, part);                                           \
+        int code = speedate_##NAME##_parse(text, size, FORM, it, out, part);                                           \
         if (said(code, IS_KEPT(code, out) && IS_KEPT(SPEEDATE_OK, part)))                                              \
             SAY(*out);                                                                                                 \
         if (code == SPEEDATE_OK && FORM == SPEEDATE_FRONT)                                                             \
             say("|%lld", (long long)part->end);                                                                        \
-        if (SPEEDATE_IS_FAULT(code) && strstr(#NAME, "_or_part")) {                                                    \
-            say("|%lld ", (long long)part->start);                                                                     \
-            say("%lld ", (long long)part->end);                                                                        \
-            say("%lld", part->kind);                                                                                   \
-        }                                                                                                              \
         if (!SPEEDATE_IS_FAULT(code)) {                                                                                \
             size_t wanted = code != SPEEDATE_OK ? 0 : FORM == SPEEDATE_FRONT ? part->end : size;                       \
             if (part->start != 0 || part->end != wanted || wanted > size || part->kind != SPEEDATE_KIND_NONE)          \
                 strcat(answer, " with another part");                                                                  \
-        } else if (speedate_code_part_end(code, text, size, part->start, &end) != SPEEDATE_OK || end != part->end) {   \
-            strcat(answer, " with another end");                                                                       \
+        } else {                                                                                                       \
+            strcat(answer, "|");                                                                                       \
+            say_part(*part);                                                                                           \
+            if (speedate_code_part_end(code, text, size, part->start, &end) != SPEEDATE_OK || end != part->end)        \
+                strcat(answer, " with another end");                                                                   \
         }                                                                                                              \
-        if (speedate_##CALL##_parse(text, size, FORM, it, alone, NULL) != code ||                                      \
+        if (speedate_##NAME##_parse(text, size, FORM, it, alone, NULL) != code ||                                      \
             memcmp(&alone_place, &out_place, sizeof out_place) != 0)                                                   \
             strcat(answer, " and something else without a part");                                                      \
         return 1;                                                                                                      \
@@ -489,32 +473,21 @@ static int run_text(const char *text, size_t size) {
     if (is_call("code_part_end")) {
         int of = (int)number();
         size_t place = (size_t)number();
-        WRITES(size_t, say_size, speedate_code_part_end(of, text, size, place, out))
+        WRITES(size_t, say_number, speedate_code_part_end(of, text, size, place, out))
     }
     if (is_call("int_parse"))
         WRITES(int64_t, say_number, speedate_int_parse(text, size, out))
-    PARSE(SpeedateDate, say_date, date, date_parse, SPEEDATE_OR_TIMESTAMP, config_or_null())
-    PARSE(SpeedateDate, say_date, date, date_parse_or_part, SPEEDATE_OR_TIMESTAMP, config_or_null())
-    PARSE(SpeedateDate, say_date, date, date_parse_text, SPEEDATE_TEXT, NULL)
-    PARSE(SpeedateDate, say_date, date, date_parse_or_part_text, SPEEDATE_TEXT, NULL)
-    PARSE(SpeedateDate, say_date, date, date_parse_front, SPEEDATE_FRONT, NULL)
-    PARSE(SpeedateDate, say_date, date, date_parse_or_part_front, SPEEDATE_FRONT, NULL)
-    PARSE(SpeedateTime, say_time, time, time_parse, SPEEDATE_TEXT, config_or_null())
-    PARSE(SpeedateTime, say_time, time, time_parse_or_part, SPEEDATE_TEXT, config_or_null())
-    PARSE(SpeedateTime, say_time, time, time_parse_strict, SPEEDATE_STRICT, config_or_null())
-    PARSE(SpeedateTime, say_time, time, time_parse_or_part_strict, SPEEDATE_STRICT, config_or_null())
-    PARSE(SpeedateTime, say_time, time, time_parse_front, SPEEDATE_FRONT, config_or_null())
-    PARSE(SpeedateTime, say_time, time, time_parse_or_part_front, SPEEDATE_FRONT, config_or_null())
-    PARSE(SpeedateDateTime, say_datetime, datetime, datetime_parse, SPEEDATE_OR_TIMESTAMP, config_or_null())
-    PARSE(SpeedateDateTime, say_datetime, datetime, datetime_parse_or_part, SPEEDATE_OR_TIMESTAMP, config_or_null())
-    PARSE(SpeedateDateTime, say_datetime, datetime, datetime_parse_text, SPEEDATE_TEXT, config_or_null())
-    PARSE(SpeedateDateTime, say_datetime, datetime, datetime_parse_or_part_text, SPEEDATE_TEXT, config_or_null())
-    PARSE(SpeedateDateTime, say_datetime, datetime, datetime_parse_strict, SPEEDATE_STRICT, config_or_null())
-    PARSE(SpeedateDateTime, say_datetime, datetime, datetime_parse_or_part_strict, SPEEDATE_STRICT, config_or_null())
-    PARSE(SpeedateDateTime, say_datetime, datetime, datetime_parse_front, SPEEDATE_FRONT, config_or_null())
-    PARSE(SpeedateDateTime, say_datetime, datetime, datetime_parse_or_part_front, SPEEDATE_FRONT, config_or_null())
-    PARSE(SpeedateDuration, say_duration, duration, duration_parse, SPEEDATE_TEXT, config_or_null())
-    PARSE(SpeedateDuration, say_duration, duration, duration_parse_or_part, SPEEDATE_TEXT, config_or_null())
+    PARSE(SpeedateDate, say_date, date, , SPEEDATE_OR_TIMESTAMP, config_or_null())
+    PARSE(SpeedateDate, say_date, date, _text, SPEEDATE_TEXT, NULL)
+    PARSE(SpeedateDate, say_date, date, _front, SPEEDATE_FRONT, NULL)
+    PARSE(SpeedateTime, say_time, time, , SPEEDATE_TEXT, config_or_null())
+    PARSE(SpeedateTime, say_time, time, _strict, SPEEDATE_STRICT, config_or_null())
+    PARSE(SpeedateTime, say_time, time, _front, SPEEDATE_FRONT, config_or_null())
+    PARSE(SpeedateDateTime, say_datetime, datetime, , SPEEDATE_OR_TIMESTAMP, config_or_null())
+    PARSE(SpeedateDateTime, say_datetime, datetime, _text, SPEEDATE_TEXT, config_or_null())
+    PARSE(SpeedateDateTime, say_datetime, datetime, _strict, SPEEDATE_STRICT, config_or_null())
+    PARSE(SpeedateDateTime, say_datetime, datetime, _front, SPEEDATE_FRONT, config_or_null())
+    PARSE(SpeedateDuration, say_duration, duration, , SPEEDATE_TEXT, config_or_null())
     COLUMN(int32_t, date)
     COLUMN(int64_t, time)
     COLUMN(int64_t, datetime)
@@ -634,12 +607,11 @@ static int run_value(void) {
 /* ---- The table ---- */
 
 static int failures;
+#define FAIL(...) (fprintf(stderr, __VA_ARGS__), failures++)
 
 static void compare(const char *row, const char *wanted) {
-    if (strcmp(answer, wanted) != 0) {
-        fprintf(stderr, "%s\n    answered %s\n", row, answer);
-        failures++;
-    }
+    if (strcmp(answer, wanted) != 0)
+        FAIL("%s\n    answered %s\n", row, answer);
 }
 
 /* Cuts a row at its marks, and counts its fields. */
@@ -669,23 +641,16 @@ static void try_code(int code) {
     const char *string = speedate_code_string(code);
     strcpy(name, "unknown code");
     if (speedate_code_name(code, name, sizeof name, &length) != wanted || !string || strcmp(string, name) != 0 ||
-        speedate_code_documentation(code, text, sizeof text, &length) != wanted) {
-        fprintf(stderr, "the code %d is named by mistake, or not at all\n", code);
-        failures++;
-    }
+        speedate_code_documentation(code, text, sizeof text, &length) != wanted)
+        FAIL("the code %d is named by mistake, or not at all\n", code);
     if (code == SPEEDATE_OK)
         wanted = SPEEDATE_VALUE_OUT_OF_RANGE;
     SpeedatePart part = SPEEDATE_PART_NONE;
     for (; part.kind <= SPEEDATE_KIND_DURATION; part.kind++)
-        if (speedate_code_expected(code, &part, text, sizeof text, &length) != wanted) {
-            fprintf(stderr, "calls of the kind %d expect something by mistake, or nothing, with the code %d\n", (int)part.kind,
-                    code);
-            failures++;
-        }
-    if (is_one && SPEEDATE_IS_FAULT(code) != (code != SPEEDATE_OK && code < SPEEDATE_VALUE_OUT_OF_RANGE)) {
-        fprintf(stderr, "the code %d is a fault by mistake, or none\n", code);
-        failures++;
-    }
+        if (speedate_code_expected(code, &part, text, sizeof text, &length) != wanted)
+            FAIL("calls of the kind %d expect something by mistake, or nothing, with the code %d\n", (int)part.kind, code);
+    if (is_one && SPEEDATE_IS_FAULT(code) != (code != SPEEDATE_OK && code < SPEEDATE_VALUE_OUT_OF_RANGE))
+        FAIL("the code %d is a fault by mistake, or none\n", code);
 }
 
 /* A form that a type lacks, and a number that is none, are out of range, and so are flags: nothing is written but no
@@ -700,10 +665,8 @@ static void try_code(int code) {
             continue;                                                                                                  \
         if (!IS_REFUSED(speedate_##NAME##_parse("", 0, form, NULL, &value, &part)) ||                                  \
             !IS_REFUSED(speedate_##NAME##_parse("", 0, form, NULL, &value, NULL)) ||                                   \
-            !is_untouched(&value, sizeof value) || part.start || part.end || part.kind) {                              \
-            fprintf(stderr, "speedate_" #NAME "_parse takes the form %d\n", form);                                     \
-            failures++;                                                                                                \
-        }                                                                                                              \
+            !is_untouched(&value, sizeof value) || part.start || part.end || part.kind)                                \
+            FAIL("speedate_" #NAME "_parse takes the form %d\n", form);                                                \
     }
 #define TRY_FLAGS(TYPE, NAME, FORMS, KNOWN)                                                                            \
     for (int form = -1; form <= 258; form++)                                                                           \
@@ -718,11 +681,8 @@ static void try_code(int code) {
                 IS_REFUSED(speedate_##NAME##_column("", 0, &offset, form, NULL, flags, &out, NULL, 0, &progress)) ==   \
                     (is_form && is_known) ||                                                                           \
                 IS_REFUSED(speedate_##NAME##_print_column(&out, 0, flags, text, 1, &progress)) ==                      \
-                    (flags == 0 || flags == (KNOWN & SPEEDATE_CLOCK))) {                                               \
-                fprintf(stderr, "a column of " #NAME "s answers otherwise to the form %d and the flags %u\n", form,    \
-                        flags);                                                                                        \
-                failures++;                                                                                            \
-            }                                                                                                          \
+                    (flags == 0 || flags == (KNOWN & SPEEDATE_CLOCK)))                                                 \
+                FAIL("a column of " #NAME "s answers otherwise to the form %d and the flags %u\n", form, flags);       \
         }
 
 static void try_forms(void) {

@@ -120,9 +120,6 @@ static void dates() {
     CHECK(part_of(Date::parse("x", Form::Text, with(Unit::Infer, Overflow::Error, Order::Lax, 86400))) == "none");
     CHECK(part_of(Date::parse("2020-01-01T12:13")) == "10 16 1");
     CHECK(part_of(Date::parse("2026-11-2", Form::Front)) == "9 9 1");
-    // Numbers that do not fit their fields in C are refused, and not narrowed.
-    CHECK(said(Date::of(2020, 257, 29)) == "out_of_range_month" && said(Date::of(2020, 1, 257)) == "out_of_range_day");
-    CHECK(said(Date::of(65536 + 2020, 1, 1)) == "date_too_large" && said(Date::of(-1, 1, 1)) == "date_too_small");
     CHECK(said(Date::of(2020, -1, 1)) == "out_of_range_month" && said(Date::of(2020, 1, -1)) == "out_of_range_day");
     CHECK(date("1970-01-02").days() == 1 && date("1969-12-31").days() == -1 && date("2020-01-01").days() == 18262);
     CHECK(said(Date::from_days(18262)) == "2020-01-01" && said(Date::from_days(-719529)) == "no_such_date");
@@ -154,12 +151,7 @@ static void times() {
     CHECK(part_of(Time::parse("12:13:60")) == "6 8 3");
     CHECK(part_of(Time::parse("12:13+01:00", Form::Strict)) == "5 6 4");
     CHECK(part_of(Time::parse("12:00:00-ERROR", Form::Front)) == "9 11 3");
-    CHECK(said(Time::of(256, 0)) == "out_of_range_hour" && said(Time::of(0, 256)) == "out_of_range_minute");
-    CHECK(said(Time::of(0, 0, 256)) == "out_of_range_second" && said(Time::of(0, 0, -1)) == "out_of_range_second");
-    CHECK(said(Time::of(0, 0, 0, std::int64_t{1} << 32)) == "time_too_large");
-    CHECK(said(Time::of(0, 0, 0, 0, std::int64_t{1} << 32)) == "out_of_range_tz");
-    CHECK(said(Time::of(0, 0, 0, 0, -(std::int64_t{1} << 32))) == "out_of_range_tz");
-    CHECK(said(Time::of(0, 0, 0, 0, -60)) == "00:00:00-00:01");
+    CHECK(said(Time::of(0, 0, -1)) == "out_of_range_second" && said(Time::of(0, 0, 0, 0, -60)) == "00:00:00-00:01");
 }
 
 static void date_times() {
@@ -202,8 +194,6 @@ static void durations() {
           said(Duration::normalized(false, 1000000000)) == "duration_days_too_large");
     CHECK(said(Duration::normalized(false, 0, (std::int64_t{1} << 32) + 5)) == "duration_value_too_large" &&
           said(Duration::normalized(false, 0, -1)) == "duration_value_too_large");
-    CHECK(said(Duration::of(false, 0, (std::int64_t{1} << 32) + 5)) == "duration_value_too_large" &&
-          said(Duration::of(false, std::int64_t{1} << 32)) == "duration_days_too_large");
     CHECK(Duration::of(std::chrono::microseconds(-1500000)).to_text() == "-PT1.5S");
     CHECK(Duration::of(duration.c()).value() == duration);
     CHECK(said(Duration::of(SpeedateDuration{0, 0, 86400, 0})) == "duration_value_too_large");
@@ -234,53 +224,58 @@ static void durations() {
         }
 }
 
+// What a column has read: its numbers, `-` for the smallest, with the errors that were written for them; how many bytes they take;
+// and the error that ends it.
+template <class Numbers>
+static std::string listed(const Result<Progress> &read, const Numbers &numbers, const std::uint8_t *errors = nullptr) {
+    if (!read)
+        return read.error().name();
+    std::string text;
+    for (std::size_t i = 0; i < read->lines; i++) {
+        const auto number = std::data(numbers)[i];
+        text += number == std::numeric_limits<std::decay_t<decltype(number)>>::min() ? "-" : std::to_string(number);
+        text += errors && errors[i] ? ":" + std::string(speedate_code_string(errors[i])) + " " : " ";
+    }
+    return text + "at " + std::to_string(read->bytes) + (read->error ? " " + std::string(read->error->name()) : "");
+}
+
 static void columns() {
     std::vector<std::int64_t> numbers(3, 7);
     std::array<std::uint8_t, 2> errors = {7, 7};
     std::int32_t days[2] = {7, 7};
-    ColumnConfig column;
+    ColumnConfig column, clocks;
+    clocks.clock = true;
     const std::string_view moments = "1970-01-01T00:00:01Z\n1970-01-01T01:00+01:00\nago\n";
-    Progress read = datetime_column(moments, numbers).value();
+    const Progress read = datetime_column(moments, numbers).value();
     CHECK(read.lines == 2 && read.bytes == moments.size() - 4 && read.error == Error(SPEEDATE_TOO_SHORT));
     CHECK(read.error->start() == 3 && read.error->end() == 3);
     CHECK(read.error->expected() == "a date-time: YYYY-MM-DDTHH:MM or YYYY-MM-DDTHH:MM:SS");
     CHECK(numbers == std::vector<std::int64_t>({1000000, 0, 7}));
     column.go_on = true;
-    read = datetime_column(moments, numbers, column).value();
-    CHECK(read.lines == 3 && !read.error && numbers[2] == INT64_MIN);
+    CHECK(listed(datetime_column(moments, numbers, column), numbers) == "1000000 0 - at 48");
     column = ColumnConfig();
     column.at_end = false;
     column.drop_returns = true;
     column.form = Form::OrTimestamp;
-    read = date_column("86400\r\n1970-01-0", days, column).value();
-    CHECK(read.lines == 1 && read.bytes == 7 && !read.error && days[0] == 1 && days[1] == 7);
-    read = duration_column("PT1.5S\n-00:01:00\n", numbers).value();
-    CHECK(read.lines == 2 && numbers[0] == 1500000 && numbers[1] == -60000000);
-    ColumnConfig clocks;
-    clocks.clock = true;
-    read = datetime_column("1970-01-01T00:00:01\n1970-01-01T01:00+01:00", numbers, clocks).value();
-    CHECK(read.lines == 2 && numbers[0] == 1000000 && numbers[1] == 3600000000);
-    read = time_column("12:13:14.5\n00:00+01:00\n", numbers).value();
-    CHECK(read.lines == 2 && numbers[0] == 43994500000 && numbers[1] == 0);
+    CHECK(listed(date_column("86400\r\n1970-01-0", days, column), days) == "1 at 7" && days[1] == 7);
+    CHECK(listed(duration_column("PT1.5S\n-00:01:00\n", numbers), numbers) == "1500000 -60000000 at 17");
+    CHECK(listed(datetime_column("1970-01-01T00:00:01\n1970-01-01T01:00+01:00", numbers, clocks), numbers) == "1000000 3600000000 at 42");
+    CHECK(listed(time_column("12:13:14.5\n00:00+01:00\n", numbers), numbers) == "43994500000 0 at 23");
     column = ColumnConfig();
     column.assume_utc = true;
-    CHECK(datetime_column("1970-01-01T00:00:02", numbers, column).value().lines == 1 && numbers[0] == 2000000);
+    CHECK(listed(datetime_column("1970-01-01T00:00:02", numbers, column), numbers) == "2000000 at 19");
     column.form = Form::Strict;
-    CHECK(said(date_column("", days, column).has_value()
-                   ? Result<Date>(date("2020-02-29"))
-                   : Error(SPEEDATE_CONFIG_OUT_OF_RANGE)) == "config_out_of_range");
-    read = datetime_column("1970-01-01T00:00Z\n24:00\n1970-01-01T00:00Z", numbers, errors).value();
-    CHECK(read.lines == 2 && numbers[0] == 0 && numbers[1] == INT64_MIN);
-    CHECK(errors[0] == 0 && errors[1] == SPEEDATE_TOO_SHORT);
+    CHECK(listed(date_column("", days, column), days) == "config_out_of_range");
+    const auto with_errors = [&](auto call, const char *text, auto &out, const ColumnConfig &config = {}) {
+        errors = {7, 7};
+        return listed(call(text, out, errors, config), out, errors.data());
+    };
+    CHECK(with_errors(datetime_column, "1970-01-01T00:00Z\n24:00\n1970-01-01T00:00Z", numbers) == "0 -:too_short at 24");
     CHECK(datetime_column("x", numbers, std::array<std::uint8_t, 0>()).value().lines == 0);
-    read = date_column("1970-01-03\nx", days, errors).value();
-    CHECK(read.lines == 2 && days[0] == 2 && days[1] == INT32_MIN && errors[1] == SPEEDATE_TOO_SHORT);
-    read = datetime_column("1970-01-01T00:00:03-01:00\nx", numbers, errors, clocks).value();
-    CHECK(read.lines == 2 && numbers[0] == 3000000 && numbers[1] == INT64_MIN && errors[1] == SPEEDATE_TOO_SHORT);
-    read = time_column("00:00:04+01:00\n24:00", numbers, errors).value();
-    CHECK(read.lines == 2 && numbers[0] == 4000000 && errors[0] == 0 && errors[1] == SPEEDATE_OUT_OF_RANGE_HOUR);
-    read = duration_column("PT2S\nP999999999D", numbers, errors).value();
-    CHECK(read.lines == 2 && numbers[0] == 2000000 && errors[1] == SPEEDATE_NUMBER_TOO_LARGE);
+    CHECK(with_errors(date_column, "1970-01-03\nx", days) == "2 -:too_short at 12");
+    CHECK(with_errors(datetime_column, "1970-01-01T00:00:03-01:00\nx", numbers, clocks) == "3000000 -:too_short at 27");
+    CHECK(with_errors(time_column, "00:00:04+01:00\n24:00", numbers) == "4000000 -:out_of_range_hour at 20");
+    CHECK(with_errors(duration_column, "PT2S\nP999999999D", numbers) == "2000000 -:number_too_large at 16");
 
     // Each call passes on the configuration, the form and the flags.
     column = ColumnConfig();
@@ -288,29 +283,23 @@ static void columns() {
     column.form = Form::OrTimestamp;
     column.drop_returns = true;
     column.assume_utc = true;
-    CHECK(date_column("86400000000\r\n", days, column).value().lines == 1 && days[0] == 1);
-    CHECK(datetime_column("5\r\n", numbers, column).value().lines == 1 && numbers[0] == 5);
+    CHECK(listed(date_column("86400000000\r\n", days, column), days) == "1 at 13");
+    CHECK(listed(datetime_column("5\r\n", numbers, column), numbers) == "5 at 3");
     clocks = column;
     clocks.clock = true;
-    CHECK(datetime_column("6\r\n", numbers, clocks).value().lines == 1 && numbers[0] == 6);
+    CHECK(listed(datetime_column("6\r\n", numbers, clocks), numbers) == "6 at 3");
+    CHECK(listed(duration_column("PT3S\r\n", numbers, column), numbers) == "config_out_of_range");
+    CHECK(with_errors(date_column, "172800000000\r\n", days, column) == "2 at 14");
+    CHECK(with_errors(datetime_column, "7\r\n", numbers, column) == "7 at 3");
     column.form = Form::Text;
-    CHECK(duration_column("PT3S\r\n", numbers, column).value().lines == 1 && numbers[0] == 3000000);
-    CHECK(duration_column("PT1S1M", numbers, column).value().error == Error(SPEEDATE_DURATION_UNIT_ORDER));
-    column.form = Form::OrTimestamp;
-    CHECK(!duration_column("PT3S\r\n", numbers, column));
-    CHECK(date_column("172800000000\r\n", days, errors, column).value().lines == 1);
-    CHECK(days[0] == 2 && errors[0] == 0);
-    CHECK(datetime_column("7\r\n", numbers, errors, column).value().lines == 1);
-    CHECK(numbers[0] == 7 && errors[0] == 0);
+    CHECK(listed(duration_column("PT3S\r\n", numbers, column), numbers) == "3000000 at 6");
+    CHECK(listed(duration_column("PT1S1M", numbers, column), numbers) == "at 0 duration_unit_order");
+    CHECK(with_errors(duration_column, "PT4S\r\nPT1S1M", numbers, column) == "4000000 -:duration_unit_order at 12");
     ColumnConfig times;
     times.drop_returns = true;
     times.config = with(Unit::Infer, Overflow::Truncate, Order::Lax);
-    CHECK(time_column("00:00:00.0000019\r\n", numbers, times).value().lines == 1 && numbers[0] == 1);
-    CHECK(time_column("00:00:00.0000029\r\n", numbers, errors, times).value().lines == 1);
-    CHECK(numbers[0] == 2 && errors[0] == 0);
-    column.form = Form::Text;
-    CHECK(duration_column("PT4S\r\nPT1S1M", numbers, errors, column).value().lines == 2);
-    CHECK(numbers[0] == 4000000 && errors[0] == 0 && errors[1] == SPEEDATE_DURATION_UNIT_ORDER);
+    CHECK(listed(time_column("00:00:00.0000019\r\n", numbers, times), numbers) == "1 at 18");
+    CHECK(with_errors(time_column, "00:00:00.0000029\r\n", numbers, times) == "2 at 18");
 }
 
 static void fronts() {
@@ -330,33 +319,27 @@ static void columns_of_texts() {
     std::array<std::uint8_t, 3> errors = {7, 7, 7};
     std::int32_t days[2] = {7, 7};
     const std::vector<std::int32_t> offsets = {1, 11, 21};
-    Progress read = date_column(Texts(">1970-01-021969-12-31", offsets), days).value();
-    CHECK(read.lines == 2 && read.bytes == 21 && !read.error && days[0] == 1 && days[1] == -1);
-    read = date_column(Texts("x1970-01-03", {0, 1, 11}), days, errors).value();
-    CHECK(read.lines == 2 && days[0] == INT32_MIN && days[1] == 2);
-    CHECK(errors[0] == SPEEDATE_TOO_SHORT && errors[1] == 0 && errors[2] == 7);
-    read = datetime_column(Texts("1970-01-01T00:00:01Zago", {0, 20, 23}), numbers).value();
-    CHECK(read.lines == 1 && read.bytes == 20 && read.error == Error(SPEEDATE_TOO_SHORT));
+    CHECK(listed(date_column(Texts(">1970-01-021969-12-31", offsets), days), days) == "1 -1 at 21");
+    CHECK(listed(date_column(Texts("x1970-01-03", {0, 1, 11}), days, errors), days, errors.data()) == "-:too_short 2 at 11" && errors[2] == 7);
+    CHECK(listed(datetime_column(Texts("1970-01-01T00:00:01Zago", {0, 20, 23}), numbers), numbers) == "1000000 at 20 too_short");
     CHECK(numbers == std::vector<std::int64_t>({1000000, 7, 7}));
     CHECK(datetime_column(Texts("x", {0, 1}), numbers, std::array<std::uint8_t, 0>()).value().lines == 0);
-    read = time_column(Texts("12:13:14.500:00+01:00", {0, 10, 21}), numbers).value();
-    CHECK(read.lines == 2 && numbers[0] == 43994500000 && numbers[1] == 0);
-    read = duration_column(Texts("PT2SP999999999D", {0, 4, 15}), numbers, errors).value();
-    CHECK(read.lines == 2 && numbers[0] == 2000000 && errors[1] == SPEEDATE_NUMBER_TOO_LARGE);
-    CHECK(!date_column(Texts("", std::vector<std::int32_t>()), days).value().lines);
-    CHECK(!date_column(Texts("1970-01-02", {10, 0}), days).has_value() && days[0] == INT32_MIN);
+    CHECK(listed(time_column(Texts("12:13:14.500:00+01:00", {0, 10, 21}), numbers), numbers) == "43994500000 0 at 21");
+    CHECK(listed(duration_column(Texts("PT2SP999999999D", {0, 4, 15}), numbers, errors), numbers, errors.data()) == "2000000 -:number_too_large at 15");
+    CHECK(listed(date_column(Texts("", std::vector<std::int32_t>()), days), days) == "at 0");
+    CHECK(listed(date_column(Texts("1970-01-02", {10, 0}), days), days) == "value_out_of_range" && days[0] == INT32_MIN);
 
     // Each call passes on the configuration and the form.
     ColumnConfig column;
     column.config = with(Unit::Microsecond, Overflow::Error, Order::Strict);
     column.form = Form::OrTimestamp;
     column.assume_utc = true;
-    CHECK(date_column(Texts("86400000000", {0, 11}), days, column).value().lines == 1 && days[0] == 1);
-    CHECK(datetime_column(Texts("5", {0, 1}), numbers, errors, column).value().lines == 1 && numbers[0] == 5);
+    CHECK(listed(date_column(Texts("86400000000", {0, 11}), days, column), days) == "1 at 11");
+    CHECK(listed(datetime_column(Texts("5", {0, 1}), numbers, errors, column), numbers, errors.data()) == "5 at 1");
     column.form = Form::Text;
-    CHECK(duration_column(Texts("PT1S1M", {0, 6}), numbers, column).value().error == Error(SPEEDATE_DURATION_UNIT_ORDER));
+    CHECK(listed(duration_column(Texts("PT1S1M", {0, 6}), numbers, column), numbers) == "at 0 duration_unit_order");
     column.form = Form::Strict;
-    CHECK(time_column(Texts("00:00:00", {0, 8}), numbers, column).value().error == Error(SPEEDATE_TZ_REQUIRED));
+    CHECK(listed(time_column(Texts("00:00:00", {0, 8}), numbers, column), numbers) == "at 0 tz_required");
 }
 
 static void columns_in_print() {

@@ -455,7 +455,7 @@ const FORM = [
 // ---- The pages, in the engine ----
 
 const files = {
-  ...Object.fromEntries(["rows.mjs", "shim.mjs", "drawn.mjs"].map((it) => [it, readFileSync(it)])),
+  ...Object.fromEntries(["rows.mjs", "helpers.mjs", "shim.mjs", "drawn.mjs"].map((it) => [it, readFileSync(it)])),
   "speedate.js": source("out/js/speedate.js"), "columns.js": source("out/js/columns.js"), "rows.txt": source("c/tests/rows.txt"),
   "examples.js": scriptOf(source("docs/JAVASCRIPT.md"), "ts", "Temporal"), "form.js": scriptOf(source("docs/JAVASCRIPT.md"), "ts", "createElement"),
   "speedate.bare.js": source("out/js/speedate.bare.js"), "speedate.wasm": readFileSync(`${root}/out/js/speedate.wasm`),

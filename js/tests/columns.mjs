@@ -9,6 +9,7 @@ import {
   columnReader, dateTimeFromTimestamp, daysBetween, durationFromMicroseconds, format, fromDate, parseDate, parseDateTime, printColumn, readColumn, safeParseDate, safeParseDateTime,
   safeParseDateTimeFront, safeParseDuration, safeParseTime, SpeedateError, toDate, withOffset,
 } from "speedate/columns";
+import { thrown } from "./helpers.mjs";
 
 let drawn = 1;
 const below = (most) => (drawn = (drawn * 48271) % 2147483647) % most;
@@ -106,14 +107,6 @@ function expected({ of, Numbers }, text, options) {
   const refusals = its.flatMap(({ refusal }, index) => (refusal ? [{ index, text: new Uint8Array(Buffer.from(lines[index])), ...refusal }] : []));
   return { numbers: Numbers(options).from(its, (it) => it.number), refusedCount: refusals.length, refusals };
 }
-
-const thrown = (call) => {
-  try {
-    call();
-  } catch (error) {
-    return error;
-  }
-};
 
 /** Compares a column, by all ways of refusing, and gives the number of lines that are refused. */
 function compareColumn(kind, text, options) {

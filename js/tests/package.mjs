@@ -11,6 +11,7 @@ import { gzipSync } from "node:zlib";
 import * as core from "speedate";
 import * as speedate from "speedate/columns";
 import { scriptOf } from "./examples.mjs";
+import { thrown, unitsAt } from "./helpers.mjs";
 
 const { add, columnReader, dateTimeFromTimestamp, format, fromDate, parseDate, parseDateFront, parseDateTime, parseDuration, parseTime, readColumn, safeParseDate, toDate, withOffset } = speedate;
 const date = parseDate("2020-02-29");
@@ -201,13 +202,6 @@ for (const [kind, [text, options]] of Object.entries(SCHEMAS)) {
 
 // ---- Errors, and what is handed out ----
 
-const thrown = (call) => {
-  try {
-    call();
-  } catch (error) {
-    return error;
-  }
-};
 const error = thrown(() => parseDate("x"));
 assert.deepEqual({ ...error }, { name: "SpeedateError", code: "too_short", expected: "a date: YYYY-MM-DD", text: "x", start: 1, end: 1 });
 // What is expected goes by the call, and by what the options have it read.
@@ -361,29 +355,37 @@ for (const size of [63, 64, 65, 65000, 66000, 2 ** 24, 2 ** 24 + 1]) {
 
 // ---- Where errors start and end: in units of a string, otherwise in bytes ----
 
-/** A reader, a text that it refuses, and where the error starts in a string and in bytes. */
-const STARTS = [
-  ["Date", "2020-13-01", 5, 5], ["Date", "20200229", 8, 8], ["Date", "86400", 0, 0, { form: "orTimestamp", timestampUnit: "us" }], ["Date", "", 0, 0],
-  ["Date", "\u00e9", 1, 2], ["Date", "\u2212", 1, 3], ["Date", "\u{1f600}", 2, 4], ["Date", "\ud83d", 1, 3], ["Date", "\ud83d\u{1f600}\ude00", 0, 0],
-  ["Date", "2020-02-29\u{1f600}", 10, 10], ["Date", `2020-01-01${"\u00e9".repeat(70)}`, 10, 10], ["Date", `2020-01-01${"x".repeat(2 ** 24)}`, 10, 10],
-  ["Time", "12:13:60", 6, 6], ["Time", "12:13\u221201:60", 9, 11], ["Time", "12:13\u221208:00\u{1f600}", 11, 13], ["Time", "12:13:14\u{1f552}", 8, 8],
-  ["Time", "12:13:14.1234567x", 15, 15], ["Time", "12:13:14.1234567x", 16, 16, { overflow: "truncate" }], ["Time", "\u00e9\u00e9", 2, 4],
-  ["Time", "12:13:14,5Z", 8, 8, { form: "strict" }], ["Time", "12:13:14.5", 10, 10, { form: "strict" }], ["Time", "12:13:14\u221208:00", 8, 8, { form: "strict" }],
-  ["DateTime", "2020-02-29T12:60", 14, 14], ["DateTime", "1.0000000", 8, 8, { form: "orTimestamp", timestampUnit: "s" }], ["DateTime", "1.0", 2, 2, { form: "orTimestamp", timestampUnit: "us" }], ["DateTime", "1.0", 3, 3],
-  ["DateTime", "2020-02-29 12:13:14Z", 10, 10, { form: "strict" }], ["DateTime", "2020-02-29T12:13:14.1234567\u22121", 28, 30, { overflow: "truncate" }],
-  ["Duration", "P1D1Q", 4, 4], ["Duration", "PT", 2, 2], ["Duration", "12345", 5, 5], ["Duration", "1 dax", 3, 3], ["Duration", "\u{1f552}", 0, 0],
-  ["Duration", `00:0${"\u00e9".repeat(7)}`, 9, 15], ["Duration", `00:0${"\u2212".repeat(4)}`, 7, 15], ["Duration", `00:0${"\u{1f600}".repeat(3)}`, 8, 15],
-  ["Duration", "P1D1Y", 4, 4, { isoOrder: "strict" }], ["Duration", "00:00:00.1234567x", 15, 15], ["Duration", "00:00:00.1234567x", 16, 16, { overflow: "truncate" }],
-  ["DateFront", "2020-02-3 opening", 8, 8], ["TimeFront", "12:13\u22121 opening", 6, 8], ["DateTimeFront", "2020-02-29 opening", 11, 11],
+/** A reader, a text that it refuses, and where the part starts and ends in a string and in bytes. */
+const PARTS = [
+  ["Date", "2020-13-01", [5, 7], [5, 7]], ["Date", "20200229", [8, 8], [8, 8]], ["Date", "2020-01-01T12:13", [10, 16], [10, 16]], ["Date", "", [0, 0], [0, 0]],
+  ["Date", "86400", [0, 5], [0, 5], { form: "orTimestamp", timestampUnit: "us" }], ["Date", "86401", [0, 5], [0, 5], { form: "orTimestamp", timestampUnit: "s" }],
+  ["Date", "\u00e9", [1, 1], [2, 2]], ["Date", "\u2212", [1, 1], [3, 3]], ["Date", "\u{1f600}", [2, 2], [4, 4]], ["Date", "\ud83d", [1, 1], [3, 3]], ["Date", "\ud83d\u{1f600}\ude00", [0, 3], [0, 7]],
+  ["Date", "202\u00e9-01-01", [0, 4], [0, 5]], ["Date", "2020\u{1f4c5}01-01", [4, 6], [4, 8]], ["Date", "2020\ud83d01-01", [4, 5], [4, 7]], ["Date", "2020-02-29\u{1f600}", [10, 12], [10, 14]],
+  ["Date", `2020-01-01${"\u00e9".repeat(70)}`, [10, 80], [10, 150]], ["Date", `2020-01-01${"\u00e9".repeat(2 ** 24)}`, [10, 2 ** 24 + 10], [10, 2 ** 25 + 10]],
+  ["Date", `2020-01-01${"x".repeat(2 ** 24)}`, [10, 2 ** 24 + 10], [10, 2 ** 24 + 10]],
+  ["Time", "12:13:60", [6, 8], [6, 8]], ["Time", "9:30 AM", [0, 1], [0, 1]], ["Time", "12:13\u221201:60", [9, 11], [11, 13]], ["Time", "12:13\u221208:00\u{1f600}", [11, 13], [13, 17]],
+  ["Time", "12:13:14\u{1f552}", [8, 10], [8, 12]], ["Time", "12:13:14.12345678", [15, 17], [15, 17]], ["Time", "12:13:14.1234567x", [15, 16], [15, 16]],
+  ["Time", "12:13:14.1234567x", [16, 17], [16, 17], { overflow: "truncate" }], ["Time", "\u00e9\u00e9", [2, 2], [4, 4]], ["Time", "12:13:14,5Z", [8, 9], [8, 9], { form: "strict" }],
+  ["Time", "12:13:14.5", [10, 10], [10, 10], { form: "strict" }], ["Time", "12:13:14\u221208:00", [8, 9], [8, 11], { form: "strict" }],
+  ["DateTime", "2020-02-29T12:60", [14, 16], [14, 16]], ["DateTime", "2020-02-29T1:13:14", [11, 12], [11, 12]], ["DateTime", "1.0", [3, 3], [3, 3]], ["DateTime", "1.00000000Z", [0, 4], [0, 4]],
+  ["DateTime", "1.0000000", [8, 9], [8, 9], { form: "orTimestamp", timestampUnit: "s" }], ["DateTime", "1.00000000", [8, 10], [8, 10], { form: "orTimestamp", timestampUnit: "s" }],
+  ["DateTime", "1.0", [2, 3], [2, 3], { form: "orTimestamp", timestampUnit: "us" }], ["DateTime", "2020-02-29 12:13:14Z", [10, 11], [10, 11], { form: "strict" }],
+  ["DateTime", "2020-02-29T12:13:14.1234567\u22121", [28, 29], [30, 31], { overflow: "truncate" }], ["DateTime", "2020-02-29T12:13", [16, 16], [16, 16], { missingOffset: "error" }],
+  ["Duration", "P1D1Q", [4, 5], [4, 5]], ["Duration", "PT", [2, 2], [2, 2]], ["Duration", "12345", [5, 5], [5, 5]], ["Duration", "1 dax", [3, 4], [3, 4]], ["Duration", "\u{1f552}", [0, 2], [0, 4]],
+  ["Duration", "1h30m", [1, 2], [1, 2]], ["Duration", "1 day, 24:00", [7, 9], [7, 9]], ["Duration", "P1DT4294967296S", [4, 14], [4, 14]], ["Duration", "P1D1Y", [4, 5], [4, 5], { isoOrder: "strict" }],
+  ["Duration", `00:0${"\u00e9".repeat(7)}`, [9, 10], [15, 16]], ["Duration", `00:0${"\u2212".repeat(4)}`, [7, 8], [15, 16]], ["Duration", `00:0${"\u{1f600}".repeat(3)}`, [8, 10], [15, 16]],
+  ["Duration", "00:00:00.1234567x", [15, 16], [15, 16]], ["Duration", "00:00:00.1234567x", [16, 17], [16, 17], { overflow: "truncate" }],
+  ["DateFront", "2020-02-3 opening", [8, 10], [8, 10]], ["DateFront", "2021-02-29 opening", [8, 10], [8, 10]], ["TimeFront", "12:13\u22121 opening", [6, 8], [8, 10]],
+  ["TimeFront", `12:13:14.${"5".repeat(100)} opening \u00e9`, [15, 109], [15, 109]], ["DateTimeFront", "2020-02-29 opening", [11, 12], [11, 12]],
+  ["DateTimeFront", "2020-02-29T12:13\u22121 opening", [17, 19], [19, 21]],
 ];
-for (const [name, text, units, bytes, options] of STARTS) {
-  for (const [it, start] of [[text, units], [Buffer.from(text), bytes]]) {
+for (const [name, text, units, bytes, options] of PARTS) {
+  for (const [it, [start, end]] of [[text, units], [Buffer.from(text), bytes]]) {
     const answer = speedate[`safeParse${name}`](it, options);
-    assert.equal(answer.start, start, text);
+    assert.deepEqual([answer.start, answer.end], [start, end], text.slice(0, 40));
     assert.ok(Object.hasOwn(answer, "start") && Object.getPrototypeOf(answer) === Object.prototype && new Proxy(answer, {}).start === start, "an answer is a plain object");
     const raised = thrown(() => speedate[`parse${name}`](it, options));
-    assert.deepEqual([raised.start, raised.end], [start, answer.end], text);
-    assert.ok(answer.end >= start && answer.end <= it.length, text);
+    assert.deepEqual([raised.start, raised.end], [start, end], text.slice(0, 40));
     const seen = typeof it === "string" || !name.endsWith("Front") ? it : it.subarray(0, raised.text.length);
     assert.ok(raised.text.length >= raised.start, text);
     assert.ok(typeof it === "string" ? raised.text === it : Buffer.compare(raised.text, seen) === 0 && raised.text.buffer !== it.buffer, text);
@@ -395,23 +397,6 @@ const [answer, raised] = [speedate.safeParseTime("12:13:14.1234567x", options), 
 const fields = { code: "invalid_char_tz_sign", expected: "after the clock at most an offset: Z or +01:00" };
 for (const copy of [JSON.parse(JSON.stringify(answer)), structuredClone(answer), { ...answer }]) assert.deepEqual(copy, { ok: false, ...fields, start: 16, end: 17 });
 assert.deepEqual({ ...raised }, { name: "SpeedateError", ...fields, text: "12:13:14.1234567x", start: 16, end: 17 });
-/** A reader, a text that it refuses, and the end of the part in a string and in bytes. */
-const ENDS = [
-  ["Date", "2020-13-01", 7, 7], ["Date", "2020-01-01T12:13", 16, 16], ["Date", "", 0, 0], ["Date", "86401", 5, 5, { form: "orTimestamp", timestampUnit: "s" }],
-  ["Date", "202\u00e9-01-01", 4, 5], ["Date", "2020\u{1f4c5}01-01", 6, 8], ["Date", "2020\ud83d01-01", 5, 7], ["Date", `2020-01-01${"\u00e9".repeat(70)}`, 80, 150],
-  ["Date", `2020-01-01${"\u00e9".repeat(2 ** 24)}`, 2 ** 24 + 10, 2 ** 25 + 10],
-  ["Time", "9:30 AM", 1, 1], ["Time", "12:13:14\u{1f552}", 10, 12], ["Time", "12:13\u221201:60", 11, 13], ["Time", "12:13:14\u221208:00", 9, 11, { form: "strict" }],
-  ["Time", "12:13:14.12345678", 17, 17], ["Time", "12:13:14.5", 10, 10, { form: "strict" }],
-  ["DateTime", "2020-02-29T1:13:14", 12, 12], ["DateTime", "1.00000000Z", 4, 4], ["DateTime", "1.00000000", 10, 10, { form: "orTimestamp", timestampUnit: "s" }], ["DateTime", "2020-02-29T12:13", 16, 16, { missingOffset: "error" }],
-  ["Duration", "1h30m", 2, 2], ["Duration", "1 day, 24:00", 9, 9], ["Duration", `00:0${"\u00e9".repeat(7)}`, 10, 16], ["Duration", "P1DT4294967296S", 14, 14],
-  ["DateFront", "2021-02-29 opening", 10, 10], ["TimeFront", `12:13:14.${"5".repeat(100)} opening \u00e9`, 109, 109], ["DateTimeFront", "2020-02-29T12:13\u22121 opening", 19, 21],
-];
-for (const [name, text, units, bytes, options] of ENDS) {
-  for (const [it, end] of [[text, units], [Buffer.from(text), bytes]]) {
-    assert.equal(speedate[`safeParse${name}`](it, options).end, end, text.slice(0, 40));
-    assert.equal(thrown(() => speedate[`parse${name}`](it, options)).end, end, text.slice(0, 40));
-  }
-}
 options.overflow = "error";
 safeParseDate("2020-02-29", { get form() { assert.equal(raised.start, 16); } });
 assert.equal(parseTime("12:13:14.1234567", { get overflow() { assert.equal(answer.start, 16); return "truncate"; } }).microsecond, 456);
@@ -454,15 +439,6 @@ function answerInC(kind, how, bytes, { timestampUnit = "infer", overflow = "erro
   const code = inC[`speedate_${kind}_parse_or_part`](BigInt(TEXT), BigInt(bytes.length), form, BigInt(CONFIG), BigInt(OUT), BigInt(PART));
   if (code !== 0) return [code, view.getUint32(PART, true)];
   return [code, how === "_front" ? view.getUint32(PART + 8, true) : undefined];
-}
-/** How many units of a string end at a byte of its UTF-8 or before. */
-function unitsAt(text, byte) {
-  let [units, bytes] = [0, 0];
-  for (const it of text) {
-    bytes += Buffer.byteLength(it);
-    if (bytes <= byte) units += it.length;
-  }
-  return units;
 }
 let drawn = 1;
 const one = (all) => all[(drawn = (drawn * 48271) % 2147483647) % all.length];

@@ -7,6 +7,7 @@
 import assert from "node:assert/strict";
 import { readFileSync } from "node:fs";
 import * as speedate from "speedate";
+import { unitsAt } from "./helpers.mjs";
 
 const { add, compare, format, SpeedateError, subtract, toDate, until, withOffset } = speedate;
 
@@ -62,16 +63,6 @@ const CALLS = {
 /** What no call here can be given, by the call of C and its code. */
 const LEFT_OUT = / config_out_of_range|_with_digits value_out_of_range|^(date|time)_from_timestamp|^datetime_from_timestamp time_too_large/;
 
-/** How many units of a string end at a byte of its UTF-8 or before. */
-function unitsAt(text, byte) {
-  let [units, bytes] = [0, 0];
-  for (const it of text) {
-    bytes += Buffer.from(it).length;
-    if (bytes <= byte) units += it.length;
-  }
-  return units;
-}
-
 /** What a call answers, a number as a text, or its error. */
 function outcome(call, ...args) {
   try {
@@ -109,7 +100,7 @@ const left = {};
 for (const row of rows) {
   const [call, ...fields] = row.split("|");
   const [, kind, name] = /^([a-z]+)_?(.*)$/.exec(call);
-  const [, isPart, how] = /^parse(_or_part)?(|_text|_strict|_front)$/.exec(name) ?? [];
+  const [, how] = /^parse(|_text|_strict|_front)$/.exec(name) ?? [];
   const at = fields.findIndex((it) => /^(ok|[a-z]+_[a-z_]+)$/.test(it));
   const [args, [code, written, size]] = [fields.slice(0, at), fields.slice(at)];
   if (!(kind in KINDS && (how !== undefined || name in CALLS)) || LEFT_OUT.test(`${call} ${code}`)) {
@@ -119,14 +110,13 @@ for (const row of rows) {
   ran++;
   const hasNoOffset = name.startsWith("unix_") && args[0].split(" ")[6] === "0";
   const outcomes = how === undefined ? [outcome(CALLS[name], KINDS[kind][0], ...args)] : read(KINDS[kind], how, args);
-  if (isPart && code !== "ok") {
+  if (how !== undefined && code !== "ok") {
     parts.add(call);
-    const [start, end] = written.split(" ").map(Number);
+    const [start, end] = numbers(written);
     assert.deepEqual(outcomes.map((it) => [it.start, it.end]), [[unitsAt(args.at(-1), start), unitsAt(args.at(-1), end)], [start, end]], row);
-    continue;
   }
   // A text of a date-time has a colon.
-  const isTimestamp = call === "datetime_from_timestamp" || (/^datetime_parse(_or_part)?$/.test(call) && !args.at(-1).includes(":"));
+  const isTimestamp = call === "datetime_from_timestamp" || (call === "datetime_parse" && !args.at(-1).includes(":"));
   for (const { code: told = "ok", value } of outcomes) {
     if (code === "value_out_of_range") assert.equal(told, args.map((it) => checked.get(it)).find(Boolean), row);
     else assert.equal(told, hasNoOffset ? "tz_required" : code, row);

@@ -295,15 +295,20 @@ static int refuse_text(Column *column, int code, Py_ssize_t index, PyObject *ite
     return column->refused == NUMBER ? 0 : refuse(column, code, index, kept_text(item, text, cut));
 }
 
+/* The integer of an item, or, if that is no object, of what lies in memory. */
+PyObject *new_integer(PyObject *item, Whole whole) {
+    return item         ? PyNumber_Index(item)
+           : whole.fits ? PyLong_FromLongLong(whole.number)
+                        : PyLong_FromUnsignedLongLong((unsigned long long)whole.number);
+}
+
 /* The same of an integer that is read as a timestamp. It is no object if it lies in memory. */
 static int refuse_timestamp(Column *column, int code, PyObject *item, Whole timestamp) {
     if (code > LAST_OF_TEXTS)
         return raise_mistake(code), -1;
     if (column->refused == NUMBER)
         return 0;
-    PyObject *integer = item ? PyNumber_Index(item)
-                        : timestamp.fits ? PyLong_FromLongLong(timestamp.number)
-                                         : PyLong_FromUnsignedLongLong((unsigned long long)timestamp.number);
+    PyObject *integer = new_integer(item, timestamp);
     Py_ssize_t index = next_index(column);
     PyObject *digits = integer ? call_on_item(column->state, DIGITS, index, integer, column->reader.parser) : NULL;
     Py_XDECREF(integer);
@@ -764,52 +769,15 @@ static PyObject *read_column(const ColumnCall *call, GIVEN) {
 }
 
 #define DATETIME_PARSERS {DATETIME_TEXT, DATETIME_OR_TIMESTAMP, DATETIME_STRICT}
-static const ColumnCall datetime_column_reader = {
-    {"datetime_column", {"texts", OTHERS, "timestamps", "strict", "missing_offset"}, 1},
-    read_datetimes,
-    number_of_datetime,
-    datetime_of_timestamp,
-    DATETIME_PARSERS,
-    "datetime"};
-static const ColumnCall datetime_clock_column_reader = {
-    {"datetime_clock_column", {"texts", OTHERS, "timestamps", "strict"}, 1},
-    read_clocks,
-    number_of_clock,
-    clock_of_timestamp,
-    DATETIME_PARSERS,
-    "datetime_clock"};
-static const ColumnCall datetime_offset_column_reader = {
-    {"datetime_offset_column", {"texts", OTHERS, "timestamps", "strict"}, 1},
-    read_offsets,
-    number_of_offset,
-    offset_of_timestamp,
-    DATETIME_PARSERS,
-    "datetime_offset"};
-static const ColumnCall date_column_reader = {
-    {"date_column", {"texts", OTHERS, "timestamps"}, 1},
-    read_dates,
-    number_of_date,
-    date_of_timestamp,
-    {DATE, DATE_OR_TIMESTAMP, NO_PARSER},
-    "date"};
-static const ColumnCall time_column_reader = {
-    {"time_column", {"texts", OTHERS, "strict"}, 1},
-    read_times,
-    number_of_time,
-    NULL,
-    {TIME, NO_PARSER, TIME_STRICT},
-    "time"};
-static const ColumnCall duration_column_reader = {
-    {"duration_column", {"texts", OTHERS}, 1},
-    read_durations,
-    number_of_duration,
-    NULL,
-    {DURATION, NO_PARSER, NO_PARSER},
-    "duration"};
-
-CALL(datetime_column, read_column)
-CALL(datetime_clock_column, read_column)
-CALL(datetime_offset_column, read_column)
-CALL(date_column, read_column)
-CALL(time_column, read_column)
-CALL(duration_column, read_column)
+CALL(datetime_column, read_column, ColumnCall, {"datetime_column", {"texts", OTHERS, "timestamps", "strict", "missing_offset"}, 1},
+     read_datetimes, number_of_datetime, datetime_of_timestamp, DATETIME_PARSERS, "datetime")
+CALL(datetime_clock_column, read_column, ColumnCall, {"datetime_clock_column", {"texts", OTHERS, "timestamps", "strict"}, 1},
+     read_clocks, number_of_clock, clock_of_timestamp, DATETIME_PARSERS, "datetime_clock")
+CALL(datetime_offset_column, read_column, ColumnCall, {"datetime_offset_column", {"texts", OTHERS, "timestamps", "strict"}, 1},
+     read_offsets, number_of_offset, offset_of_timestamp, DATETIME_PARSERS, "datetime_offset")
+CALL(date_column, read_column, ColumnCall, {"date_column", {"texts", OTHERS, "timestamps"}, 1},
+     read_dates, number_of_date, date_of_timestamp, {DATE, DATE_OR_TIMESTAMP, NO_PARSER}, "date")
+CALL(time_column, read_column, ColumnCall, {"time_column", {"texts", OTHERS, "strict"}, 1},
+     read_times, number_of_time, NULL, {TIME, NO_PARSER, TIME_STRICT}, "time")
+CALL(duration_column, read_column, ColumnCall, {"duration_column", {"texts", OTHERS}, 1},
+     read_durations, number_of_duration, NULL, {DURATION, NO_PARSER, NO_PARSER}, "duration")

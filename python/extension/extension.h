@@ -86,11 +86,13 @@ typedef struct {
 int bind_keyword(const Signature *signature, PyObject *keyword, PyObject *argument, PyObject **bound);
 int lacks_argument(const Signature *signature, int place);
 
-/* Puts each argument at the place of its parameter, and NULL where there is none. */
+/* Puts each argument at the place of its parameter. The places are NULL before. */
 static inline int bind(const Signature *signature, PyObject *const *arguments, Py_ssize_t count, PyObject *keywords,
                        PyObject **bound) {
-    for (Py_ssize_t i = 0; signature->parameters[i]; i++)
-        bound[i] = i < count && i < signature->positional ? arguments[i] : NULL;
+    for (Py_ssize_t i = 0; i < count && i < signature->positional; i++)
+        bound[i] = arguments[i];
+    if (count == 1 && !keywords)
+        return 0;
     for (Py_ssize_t i = 0; keywords && i < PyTuple_GET_SIZE(keywords); i++)
         if (bind_keyword(signature, PyTuple_GET_ITEM(keywords, i), arguments[count + i], bound) < 0)
             return -1;
@@ -148,8 +150,8 @@ typedef int Parse(const Text *text, SpeedateConfig config, Value *out, size_t *t
 
 #define BYTES text->bytes, text->size
 
-/* The same, and the part for which a text is refused. It takes longer, so it is called for what a first call refused. */
-typedef int ParseOrPart(const Text *text, SpeedateConfig config, Value *out, size_t *taken, SpeedatePart *part);
+/* The same in a form, and the part for which a text is refused. It takes longer, so it is called for what a first call refused. */
+typedef int ParseOrPart(const Text *text, int form, SpeedateConfig config, Value *out, size_t *taken, SpeedatePart *part);
 
 /* The parsers. */
 enum {
@@ -170,6 +172,7 @@ enum {
 typedef struct {
     Parse *parse;
     ParseOrPart *parse_or_part;
+    int form;
     int kind; /* of calls, on which it depends what is expected */
 } Parser;
 extern const Parser parsers[ALL_PARSERS];
@@ -204,33 +207,26 @@ typedef struct {
 bool has_integers(const Py_buffer *buffer);
 int view_memory(PyObject *texts, bool (*has)(const Py_buffer *), PyObject **view);
 Whole whole_at(const Py_buffer *buffer, size_t place);
+PyObject *new_integer(PyObject *item, Whole whole);
 int is_missing(const State *state, PyObject **kept, PyObject *item);
 int take_whole(const State *state, const char *name, Py_ssize_t index, PyObject *item, Whole *out);
 int give_turn(const State *state);
 
 /* ---- Calls ---- */
 
-#define CALL(name, read) \
+/* A call that a function reads, by a constant of this type, which begins with its signature. */
+#define CALL(name, read, type, ...) \
     PyObject *call_##name(GIVEN) { \
-        return read(&name##_reader, module, arguments, count, keywords); \
+        static const type it = {__VA_ARGS__}; \
+        return read(&it, module, arguments, count, keywords); \
     }
 
-#define DECLARE(name) PyObject *call_##name(GIVEN)
-DECLARE(date);
-DECLARE(time);
-DECLARE(datetime);
-DECLARE(duration);
-DECLARE(date_front);
-DECLARE(time_front);
-DECLARE(datetime_front);
-DECLARE(datetime_column);
-DECLARE(datetime_clock_column);
-DECLARE(datetime_offset_column);
-DECLARE(date_column);
-DECLARE(time_column);
-DECLARE(duration_column);
-DECLARE(text);
-DECLARE(text_column);
+#define DECLARE(name) PyObject *call_##name(GIVEN);
+DECLARE(date) DECLARE(time) DECLARE(datetime) DECLARE(duration)
+DECLARE(date_front) DECLARE(time_front) DECLARE(datetime_front)
+DECLARE(datetime_column) DECLARE(datetime_clock_column) DECLARE(datetime_offset_column)
+DECLARE(date_column) DECLARE(time_column) DECLARE(duration_column)
+DECLARE(text) DECLARE(text_column)
 PyObject *call_found(PyObject *module, PyObject *arguments);
 PyObject *call_refusal(PyObject *module, PyObject *arguments);
 

@@ -254,25 +254,19 @@ static PyObject *make_duration(const State *state, const Value *value, int *code
 
 /* ---- Reading ---- */
 
-/* A parser with the part. At a front it writes the size too. */
-#define PARSE_OR_PART(name, type, form, field) \
-    static int name##_or_part(const Text *text, SpeedateConfig config, Value *out, size_t *taken, SpeedatePart *part) { \
-        int code = speedate_##type##_parse_or_part(BYTES, form, config, &out->field, part); \
+/* The parsers of a type with the part. At a front they write the size too. */
+#define PARSE_OR_PART(type) \
+    static int type##_or_part(const Text *text, int form, SpeedateConfig config, Value *out, size_t *taken, \
+                              SpeedatePart *part) { \
+        int code = speedate_##type##_parse_or_part(BYTES, form, config, &out->type, part); \
         if (form == SPEEDATE_FRONT && code == SPEEDATE_OK) \
             *taken = part->end; \
         return code; \
     }
-PARSE_OR_PART(parse_date, date, SPEEDATE_TEXT, date)
-PARSE_OR_PART(parse_date_or_timestamp, date, SPEEDATE_OR_TIMESTAMP, date)
-PARSE_OR_PART(parse_date_front, date, SPEEDATE_FRONT, date)
-PARSE_OR_PART(parse_time, time, SPEEDATE_TEXT, time)
-PARSE_OR_PART(parse_time_strict, time, SPEEDATE_STRICT, time)
-PARSE_OR_PART(parse_time_front, time, SPEEDATE_FRONT, time)
-PARSE_OR_PART(parse_datetime, datetime, SPEEDATE_TEXT, datetime)
-PARSE_OR_PART(parse_datetime_or_timestamp, datetime, SPEEDATE_OR_TIMESTAMP, datetime)
-PARSE_OR_PART(parse_datetime_strict, datetime, SPEEDATE_STRICT, datetime)
-PARSE_OR_PART(parse_datetime_front, datetime, SPEEDATE_FRONT, datetime)
-PARSE_OR_PART(parse_duration, duration, SPEEDATE_TEXT, duration)
+PARSE_OR_PART(date)
+PARSE_OR_PART(time)
+PARSE_OR_PART(datetime)
+PARSE_OR_PART(duration)
 
 #define PARSE(name, call) \
     static int name(const Text *text, SpeedateConfig config, Value *out, size_t *taken) { \
@@ -282,30 +276,30 @@ PARSE_OR_PART(parse_duration, duration, SPEEDATE_TEXT, duration)
     }
 PARSE(parse_date, speedate_date_parse_text(BYTES, &out->date))
 PARSE(parse_date_or_timestamp, speedate_date_parse_or_timestamp(BYTES, config, &out->date))
-PARSE(parse_date_front, parse_date_front_or_part(text, config, out, taken, &part))
+PARSE(parse_date_front, date_or_part(text, SPEEDATE_FRONT, config, out, taken, &part))
 PARSE(parse_time, speedate_time_parse_text(BYTES, config, &out->time))
 PARSE(parse_time_strict, speedate_time_parse_strict(BYTES, config, &out->time))
-PARSE(parse_time_front, parse_time_front_or_part(text, config, out, taken, &part))
+PARSE(parse_time_front, time_or_part(text, SPEEDATE_FRONT, config, out, taken, &part))
 PARSE(parse_datetime, speedate_datetime_parse_text(BYTES, config, &out->datetime))
 PARSE(parse_datetime_or_timestamp, speedate_datetime_parse_or_timestamp(BYTES, config, &out->datetime))
 PARSE(parse_datetime_strict, speedate_datetime_parse_strict(BYTES, config, &out->datetime))
-PARSE(parse_datetime_front, parse_datetime_front_or_part(text, config, out, taken, &part))
+PARSE(parse_datetime_front, datetime_or_part(text, SPEEDATE_FRONT, config, out, taken, &part))
 PARSE(parse_duration, speedate_duration_parse_text(BYTES, config, &out->duration))
 
 const Parser parsers[ALL_PARSERS] = {
-#define PARSER(name, kind) {name, name##_or_part, SPEEDATE_KIND_##kind}
-    [NO_PARSER] = {NULL, NULL, SPEEDATE_KIND_NONE},
-    [DATE] = PARSER(parse_date, DATE),
-    [DATE_OR_TIMESTAMP] = PARSER(parse_date_or_timestamp, DATE_OR_TIMESTAMP),
-    [DATE_FRONT] = PARSER(parse_date_front, DATE),
-    [TIME] = PARSER(parse_time, TIME),
-    [TIME_STRICT] = PARSER(parse_time_strict, TIME_STRICT),
-    [TIME_FRONT] = PARSER(parse_time_front, TIME),
-    [DATETIME_TEXT] = PARSER(parse_datetime, DATETIME),
-    [DATETIME_OR_TIMESTAMP] = PARSER(parse_datetime_or_timestamp, DATETIME_OR_TIMESTAMP),
-    [DATETIME_STRICT] = PARSER(parse_datetime_strict, DATETIME_STRICT),
-    [DATETIME_FRONT] = PARSER(parse_datetime_front, DATETIME),
-    [DURATION] = PARSER(parse_duration, DURATION),
+    [NO_PARSER] = {NULL, NULL, SPEEDATE_TEXT, SPEEDATE_KIND_NONE},
+    [DATE] = {parse_date, date_or_part, SPEEDATE_TEXT, SPEEDATE_KIND_DATE},
+    [DATE_OR_TIMESTAMP] = {parse_date_or_timestamp, date_or_part, SPEEDATE_OR_TIMESTAMP, SPEEDATE_KIND_DATE_OR_TIMESTAMP},
+    [DATE_FRONT] = {parse_date_front, date_or_part, SPEEDATE_FRONT, SPEEDATE_KIND_DATE},
+    [TIME] = {parse_time, time_or_part, SPEEDATE_TEXT, SPEEDATE_KIND_TIME},
+    [TIME_STRICT] = {parse_time_strict, time_or_part, SPEEDATE_STRICT, SPEEDATE_KIND_TIME_STRICT},
+    [TIME_FRONT] = {parse_time_front, time_or_part, SPEEDATE_FRONT, SPEEDATE_KIND_TIME},
+    [DATETIME_TEXT] = {parse_datetime, datetime_or_part, SPEEDATE_TEXT, SPEEDATE_KIND_DATETIME},
+    [DATETIME_OR_TIMESTAMP] = {parse_datetime_or_timestamp, datetime_or_part, SPEEDATE_OR_TIMESTAMP,
+                               SPEEDATE_KIND_DATETIME_OR_TIMESTAMP},
+    [DATETIME_STRICT] = {parse_datetime_strict, datetime_or_part, SPEEDATE_STRICT, SPEEDATE_KIND_DATETIME_STRICT},
+    [DATETIME_FRONT] = {parse_datetime_front, datetime_or_part, SPEEDATE_FRONT, SPEEDATE_KIND_DATETIME},
+    [DURATION] = {parse_duration, duration_or_part, SPEEDATE_TEXT, SPEEDATE_KIND_DURATION},
 };
 
 /* A call that parses a text. Its parameters after the text and the configuration are `timestamps` and `strict`, if it has a
@@ -363,9 +357,7 @@ static inline PyObject *read_text(const Reader *reader, GIVEN) {
     SpeedateConfig config;
     Text text;
     Value value;
-    if (count == 1 && !keywords)
-        bound[0] = arguments[0];
-    else if (bind(&reader->signature, arguments, count, keywords, bound) < 0)
+    if (bind(&reader->signature, arguments, count, keywords, bound) < 0)
         return NULL;
     PyObject *timestamps = reader->timestamps ? bound[reader->timestamps] : NULL;
     PyObject *strict = reader->strict ? bound[reader->strict] : NULL;
@@ -429,7 +421,7 @@ static int parse_long_front(int parser, PyObject *object, SpeedateConfig config,
         if (take_front(object, size, text, &whole) < 0)
             return -1;
         SpeedatePart part;
-        *code = parsers[parser].parse_or_part(text, config, value, taken, &part);
+        *code = parsers[parser].parse_or_part(text, SPEEDATE_FRONT, config, value, taken, &part);
         if (whole || (*code == SPEEDATE_OK ? *taken : part.end) + BEYOND <= text->size)
             return 0;
         Py_XDECREF(text->owner);
@@ -454,9 +446,7 @@ static inline PyObject *read_front(const Reader *reader, GIVEN) {
     Text text;
     Value value;
     size_t taken = 0;
-    if (count == 1 && !keywords)
-        bound[0] = arguments[0];
-    else if (bind(&reader->signature, arguments, count, keywords, bound) < 0)
+    if (bind(&reader->signature, arguments, count, keywords, bound) < 0)
         return NULL;
     if (take_config(state, bound[1], SPEEDATE_TEXT, &config) < 0)
         return NULL;
@@ -478,29 +468,15 @@ static inline PyObject *read_front(const Reader *reader, GIVEN) {
     return made;
 }
 
-static const Reader date_reader = {
-    {"date", {"value", "config", "timestamps"}, 1}, make_date, {DATE, DATE_OR_TIMESTAMP}, 2, 0, date_of_timestamp};
-static const Reader time_reader = {
-    {"time", {"value", "config", "strict"}, 1}, make_time, {TIME, NO_PARSER, TIME_STRICT}, 0, 2, NULL};
-static const Reader datetime_reader = {{"datetime", {"value", "config", "timestamps", "strict"}, 1},
-                                       make_datetime,
-                                       {DATETIME_TEXT, DATETIME_OR_TIMESTAMP, DATETIME_STRICT},
-                                       2,
-                                       3,
-                                       datetime_of_timestamp};
-static const Reader duration_reader = {{"duration", {"value", "config"}, 1}, make_duration, {DURATION}, 0, 0, NULL};
-static const Reader date_front_reader = {{"date_front", {"text"}, 1}, make_date, {DATE_FRONT}, 0, 0, NULL};
-static const Reader time_front_reader = {{"time_front", {"text", "config"}, 1}, make_time, {TIME_FRONT}, 0, 0, NULL};
-static const Reader datetime_front_reader = {
-    {"datetime_front", {"text", "config"}, 1}, make_datetime, {DATETIME_FRONT}, 0, 0, NULL};
-
-CALL(date, read_text)
-CALL(time, read_text)
-CALL(datetime, read_text)
-CALL(duration, read_text)
-CALL(date_front, read_front)
-CALL(time_front, read_front)
-CALL(datetime_front, read_front)
+CALL(date, read_text, Reader, {"date", {"value", "config", "timestamps"}, 1}, make_date, {DATE, DATE_OR_TIMESTAMP}, 2, 0,
+     date_of_timestamp)
+CALL(time, read_text, Reader, {"time", {"value", "config", "strict"}, 1}, make_time, {TIME, NO_PARSER, TIME_STRICT}, 0, 2, NULL)
+CALL(datetime, read_text, Reader, {"datetime", {"value", "config", "timestamps", "strict"}, 1}, make_datetime,
+     {DATETIME_TEXT, DATETIME_OR_TIMESTAMP, DATETIME_STRICT}, 2, 3, datetime_of_timestamp)
+CALL(duration, read_text, Reader, {"duration", {"value", "config"}, 1}, make_duration, {DURATION}, 0, 0, NULL)
+CALL(date_front, read_front, Reader, {"date_front", {"text"}, 1}, make_date, {DATE_FRONT}, 0, 0, NULL)
+CALL(time_front, read_front, Reader, {"time_front", {"text", "config"}, 1}, make_time, {TIME_FRONT}, 0, 0, NULL)
+CALL(datetime_front, read_front, Reader, {"datetime_front", {"text", "config"}, 1}, make_datetime, {DATETIME_FRONT}, 0, 0, NULL)
 
 /* ---- Parts ---- */
 
@@ -527,6 +503,10 @@ static bool reads_datetimes(const Call *call) {
     return DATETIME_TEXT <= call->parser && call->parser <= DATETIME_STRICT;
 }
 
+static bool reads_timestamps(const Call *call) {
+    return parsers[call->parser].form == SPEEDATE_OR_TIMESTAMP;
+}
+
 static bool is_accepted(const Call *call, const Text *text) {
     Value value;
     size_t taken;
@@ -541,7 +521,7 @@ static bool is_accepted(const Call *call, const Text *text) {
 
 /* The one thing for which a text is refused. A line ending is looked for in an item that may not have one. */
 static int hint_of(const Call *call, PyObject *object, const Text *text) {
-    if (call->of_integer && call->parser != DATE_OR_TIMESTAMP && call->parser != DATETIME_OR_TIMESTAMP)
+    if (call->of_integer && !reads_timestamps(call))
         return call->parser == DATE || reads_datetimes(call) ? INTEGER_OR_TIMESTAMP : NO_TIMESTAMP;
     bool has_mark = text->size >= 3 && memcmp(text->bytes, "\xef\xbb\xbf", 3) == 0;
     Text rest = has_mark ? (Text){text->bytes + 3, text->size - 3, NULL} : *text;
@@ -567,9 +547,8 @@ static PyObject *expected_of(int code, int kind) {
 /* The part of a text, and what was expected there, from what its parser has answered. */
 static PyObject *part_of(const Call *call, const Text *text, int code, const Value *value, size_t taken,
                          SpeedatePart *part) {
-    bool is_timestamp = call->parser == DATE_OR_TIMESTAMP || call->parser == DATETIME_OR_TIMESTAMP;
     int64_t number;
-    if (call->of_integer && is_timestamp && speedate_int_parse(BYTES, &number) != SPEEDATE_OK) {
+    if (call->of_integer && reads_timestamps(call) && speedate_int_parse(BYTES, &number) != SPEEDATE_OK) {
         *part = (SpeedatePart){0, text->size, 0};
         return PyUnicode_FromString("a number that fits 64 bits");
     }
@@ -610,7 +589,7 @@ PyObject *call_found(PyObject *module, PyObject *arguments) {
     if (!PyArg_ParseTuple(arguments, "Oi:_found", &object, &number) || take_call(number, &call) < 0)
         return NULL;
     int parser = call.parser;
-    bool front = (parser == DATE_FRONT || parser == TIME_FRONT || parser == DATETIME_FRONT) && is_long(object);
+    bool front = parsers[parser].form == SPEEDATE_FRONT && is_long(object);
     bool whole = true;
     for (Py_ssize_t size = FRONT;; size *= 8) {
         Text text;
@@ -620,7 +599,7 @@ PyObject *call_found(PyObject *module, PyObject *arguments) {
         if ((front ? take_front(object, size, &text, &whole) : take_text(object, -1, &text)) < 0)
             return NULL;
         size_t taken = text.size;
-        int code = parsers[parser].parse_or_part(&text, call.config, &value, &taken, &part);
+        int code = parsers[parser].parse_or_part(&text, parsers[parser].form, call.config, &value, &taken, &part);
         bool is_enough = whole || (code == SPEEDATE_OK ? taken : part.end) + BEYOND <= text.size;
         if (is_enough)
             found = found_of(state, &call, object, &text, part_of(&call, &text, code, &value, taken, &part), part);

@@ -18,16 +18,11 @@ static PyObject *text_of(int code, const Printed *printed) {
 
 #define ROOM printed.bytes, sizeof printed.bytes, &printed.length
 
-#define PRINTED(call, value) \
-    Printed printed; \
-    int code = call(value, ROOM); \
-    return text_of(code, &printed)
-
-/* The same of a value with a second, with just as many digits of it unless these are SHORTEST. */
+/* The text that a call prints of a value, of one with a second with just as many digits of it unless these are SHORTEST. */
 #define SHORTEST SPEEDATE_DIGITS_AUTO
-#define PRINTED_WITH_DIGITS(call, value, digits) \
+#define PRINTED(call, ...) \
     Printed printed; \
-    int code = call(value, digits, ROOM); \
+    int code = call(__VA_ARGS__, ROOM); \
     return text_of(code, &printed)
 
 static int take_size(PyObject *size, SpeedateTime *time) {
@@ -86,7 +81,7 @@ static PyObject *print_time(const State *state, PyObject *value, int digits) {
                          .microsecond = PyDateTime_TIME_GET_MICROSECOND(it)};
     if (take_offset(state, value, it->hastzinfo ? it->tzinfo : Py_None, &time) < 0)
         return NULL;
-    PRINTED_WITH_DIGITS(speedate_time_to_text, time, digits);
+    PRINTED(speedate_time_to_text, time, digits);
 }
 
 static PyObject *print_datetime(const State *state, PyObject *value, int digits) {
@@ -98,7 +93,7 @@ static PyObject *print_datetime(const State *state, PyObject *value, int digits)
                                 .microsecond = PyDateTime_DATE_GET_MICROSECOND(it)}};
     if (take_offset(state, value, it->hastzinfo ? it->tzinfo : Py_None, &moment.time) < 0)
         return NULL;
-    PRINTED_WITH_DIGITS(speedate_datetime_to_text, moment, digits);
+    PRINTED(speedate_datetime_to_text, moment, digits);
 }
 
 static PyObject *print_duration(const State *state, PyObject *value, int digits) {
@@ -142,7 +137,7 @@ static int take_digits(const State *state, PyObject *value, int *digits) {
 PyObject *call_text(GIVEN) {
     static const Signature signature = {"text", {"value", "digits"}, 1};
     const State *state = PyModule_GetState(module);
-    PyObject *bound[2], *text = NULL;
+    PyObject *bound[2] = {NULL}, *text = NULL;
     int digits;
     if (bind(&signature, arguments, count, keywords, bound) < 0 || take_digits(state, bound[1], &digits) < 0)
         return NULL;
@@ -276,9 +271,7 @@ static int put_number(PrintedColumn *column, Whole whole, PyObject *item) {
     bool is_taken = whole.number == NOT_A_TIME || (-column->largest <= whole.number && whole.number <= column->largest);
     if (!whole.fits || !is_taken) {
         refuse_number(column, SPEEDATE_NUMBER_TOO_LARGE, column->before + (Py_ssize_t)column->count,
-                      item         ? PyNumber_Index(item)
-                      : whole.fits ? PyLong_FromLongLong(whole.number)
-                                   : PyLong_FromUnsignedLongLong((unsigned long long)whole.number));
+                      new_integer(item, whole));
         return fail_after_numbers(column);
     }
     column->numbers[column->count++] = whole.number;
@@ -344,7 +337,7 @@ static PyObject *lines_of(PrintedColumn *column, PyObject *numbers) {
 PyObject *call_text_column(GIVEN) {
     static const Signature signature = {"text_column", {"numbers", "kind"}, 1};
     PrintedColumn column = {.state = PyModule_GetState(module)};
-    PyObject *bound[2], *lines = NULL, *numbers;
+    PyObject *bound[2] = {NULL}, *lines = NULL, *numbers;
     int kind;
     if (bind(&signature, arguments, count, keywords, bound) < 0)
         return NULL;

@@ -316,22 +316,14 @@ def _value_of_text(out, text, size):
         raise error.of(_kept(text), 0, size, LACKING[error.code])
 
 
-def _read_text(call, out, text, *numbers):
-    """The value that a call reads from a text."""
-    whole = _bytes(text)
-    code = call(whole, len(whole), *numbers, out)
+def _read_front(call, text, *numbers):
+    """The value that a call reads of a text, and its size: of all of the text, unless the call is one of fronts."""
+    whole, out, taken = _bytes(text), call.type(), [ctypes.c_size_t()] * (call.form == 3)
+    code = call(whole, len(whole), *numbers, out, *taken)
     if code:
         raise _error(call, code, text, *numbers)
-    return _value_of_text(out, text, _end(text, len(whole)))
-
-
-def _read_front(call, out, text, *numbers):
-    """The value that a call reads at the front of a text, and its size."""
-    whole, size = _bytes(text), ctypes.c_size_t()
-    code = call(whole, len(whole), *numbers, out, size)
-    if code:
-        raise _error(call, code, text, *numbers)
-    return _value_of_text(out, text, _end(text, size.value)), _end(text, size.value)
+    size = _end(text, taken[0].value if taken else len(whole))
+    return _value_of_text(out, text, size), size
 
 
 def _read_integer(call, out, kind, value, *numbers):
@@ -339,18 +331,18 @@ def _read_integer(call, out, kind, value, *numbers):
     whole, digits = _whole("value", -1, value), _digits(-1, value, True)
     code = call(whole, *numbers, out) if -(2**63) <= whole < 2**63 else NUMBER_TOO_LARGE
     if code:
-        raise ParseError(code).of(digits, 0, len(digits), _expected_of_integer(code, kind))
+        raise ParseError(code).of(digits, 0, len(digits), "a number that fits 64 bits" if code == NUMBER_TOO_LARGE else _expected(code, kind))
     return _value_of_text(out, digits, len(digits))
-
-
-def _expected_of_integer(code, kind):
-    return "a number that fits 64 bits" if code == NUMBER_TOO_LARGE else _expected(code, kind)
 
 
 def _date_of_timestamp(timestamp, numbers, out):
     """The date of a timestamp, which is parsed as its digits are."""
     digits = str(timestamp).encode()
     return _library.speedate_date_parse(digits, len(digits), numbers, out)
+
+
+def _datetime_of_timestamp(timestamp, numbers, out):
+    return _library.speedate_datetime_from_timestamp(timestamp, 0, numbers, out)
 
 
 def _is_text(value):
@@ -365,54 +357,47 @@ def _form(timestamps, strict):
     return "_strict" if strict else "" if timestamps else "_text"
 
 
-def _check_text(value, timestamps, can_read_timestamps):
+def _parser(kind, ending, config, timestamps):
+    """The parser of a kind whose form ends its name, the numbers of the configuration, and those that it is given."""
+    call, numbers = getattr(_library, f"speedate_{kind}_parse{ending}"), _configured(config, _OF_TIMESTAMPS if timestamps else ())
+    return call, numbers, [] if call.__name__ == "speedate_date_parse_text" else [numbers]
+
+
+def _read(kind, ending, value, config, timestamps=None, of_timestamp=None):
+    """The value of a text, or of an integer that is a timestamp. `timestamps` is None in a call without this argument."""
     if not _is_text(value) and not (timestamps and hasattr(type(value), "__index__")):
-        raise _wrong_text(-1, value, can_read_timestamps)
+        raise _wrong_text(-1, value, timestamps is not None)
+    _is_text(value) and _bytes(value)
+    call, numbers, given = _parser(kind, ending, config, timestamps)
+    return _read_front(call, value, *given)[0] if _is_text(value) else _read_integer(of_timestamp, call.type(), KINDS[call.__name__], value, numbers)
 
 
 def date(value, *, config=None, timestamps=False):
-    form = _form(timestamps, False)
-    _check_text(value, timestamps, True)
-    _is_text(value) and _bytes(value)
-    numbers = _configured(config, _OF_TIMESTAMPS if timestamps else ())
-    if not _is_text(value):
-        return _read_integer(_date_of_timestamp, _Date(), 2, value, numbers)
-    return _read_text(getattr(_library, f"speedate_date_parse{form}"), _Date(), value, *[numbers] * timestamps)
+    return _read("date", _form(timestamps, False), value, config, timestamps, _date_of_timestamp)
 
 
 def time(value, *, config=None, strict=False):
-    form = _form(False, strict).replace("_text", "")
-    _check_text(value, False, False)
-    _bytes(value)
-    return _read_text(getattr(_library, f"speedate_time_parse{form}"), _Time(), value, _configured(config))
+    return _read("time", _form(False, strict).replace("_text", ""), value, config)
 
 
 def datetime(value, *, config=None, timestamps=False, strict=False):
-    form = _form(timestamps, strict)
-    _check_text(value, timestamps, True)
-    _is_text(value) and _bytes(value)
-    numbers = _configured(config, _OF_TIMESTAMPS if timestamps else ())
-    if not _is_text(value):
-        return _read_integer(lambda it, numbers, out: _library.speedate_datetime_from_timestamp(it, 0, numbers, out), _DateTime(), 6, value, numbers)
-    return _read_text(getattr(_library, f"speedate_datetime_parse{form}"), _DateTime(), value, numbers)
+    return _read("datetime", _form(timestamps, strict), value, config, timestamps, _datetime_of_timestamp)
 
 
 def duration(value, *, config=None):
-    _check_text(value, False, False)
-    _bytes(value)
-    return _read_text(_library.speedate_duration_parse, _Duration(), value, _configured(config))
+    return _read("duration", "", value, config)
 
 
 def date_front(text):
-    return _read_front(_library.speedate_date_parse_front, _Date(), text)
+    return _read_front(_library.speedate_date_parse_front, text)
 
 
 def time_front(text, *, config=None):
-    return _read_front(_library.speedate_time_parse_front, _Time(), text, _configured(config))
+    return _read_front(_library.speedate_time_parse_front, text, _configured(config))
 
 
 def datetime_front(text, *, config=None):
-    return _read_front(_library.speedate_datetime_parse_front, _DateTime(), text, _configured(config))
+    return _read_front(_library.speedate_datetime_parse_front, text, _configured(config))
 
 
 def _view(texts):
@@ -471,9 +456,23 @@ def _fitting(number, least, most):
     return number
 
 
-def _column(kind, read, part_of, texts, refused, empty, lines, read_integer=None, has_timestamps=False):
-    """The numbers of texts, each by a call that gives it of the bytes, or raises a ParseError, whose part another call gives."""
-    column = Column(kind, array.array("q"), [])
+def _column(kind, ending, number_of, config, texts, refused, empty, lines, timestamps=None, of_timestamp=None):
+    """The numbers of texts, each by what is taken of the struct that a parser writes, whose form ends its name. `timestamps` is
+    None in a call without this argument. Then integers are refused; otherwise another call writes the struct of one."""
+    _choice("refused", refused, "stop", "number", "collect")
+    _choice("empty", empty, "error", "nat")
+    _flag("lines", lines)
+    parser, numbers, given = _parser(kind.partition("_")[0], ending, config, timestamps)
+
+    def number(call, *arguments):
+        out = parser.type()
+        _check(call(*arguments, out))
+        return number_of(out)
+
+    def read(whole):
+        return number(parser, whole, len(whole), *given)
+
+    column, has_timestamps = Column(kind, array.array("q"), []), timestamps is not None
     for index, (text, is_line) in enumerate(_lines(texts, lines)):
         if _is_missing(text):
             column.numbers.append(-(2**63))
@@ -487,15 +486,15 @@ def _column(kind, read, part_of, texts, refused, empty, lines, read_integer=None
             column.numbers.append(-(2**63))
             continue
         try:
-            if is_integer and read_integer:
-                column.numbers.append(read_integer(_fitting(_whole("text", index, text), -(2**63), 2**63 - 1)))
+            if is_integer and timestamps:
+                column.numbers.append(number(of_timestamp, _fitting(_whole("text", index, text), -(2**63), 2**63 - 1), numbers))
             else:
                 column.numbers.append(read(whole))
         except ParseError as error:
             error = ParseError(error.number, index)
-            place, end, words = part_of(whole, error.number)
+            place, end, words = _part_in_column(parser, whole, error.number, *given)
             hint = None
-            if is_integer and not read_integer:
+            if is_integer and not timestamps:
                 hint = INTEGER_WORDS[has_timestamps]
             elif is_integer and error.number == NUMBER_TOO_LARGE:
                 place, end, words = 0, len(whole), "a number that fits 64 bits"
@@ -536,12 +535,6 @@ KINDS = {
         "datetime_parse_strict", "duration_parse"], 1)}
 
 
-def _check_choices(refused, empty, lines):
-    _choice("refused", refused, "stop", "number", "collect")
-    _choice("empty", empty, "error", "nat")
-    _flag("lines", lines)
-
-
 def _check(code):
     if code:
         raise ParseError(code)
@@ -553,16 +546,16 @@ def datetime_column(texts, *, config=None, timestamps=False, strict=False, missi
             raise ParseError(TZ_REQUIRED)
         return _second_in_utc(out) * 1_000_000 + out.microsecond
 
-    _form(timestamps, strict)
+    ending = _form(timestamps, strict)
     _choice("missing_offset", missing_offset, "error", "utc")
-    return _datetimes("datetime", number_of, texts, config, strict, timestamps, refused, empty, lines)
+    return _column("datetime", ending, number_of, config, texts, refused, empty, lines, timestamps, _datetime_of_timestamp)
 
 
 def datetime_clock_column(texts, *, config=None, timestamps=False, strict=False, refused="stop", empty="error", lines=False):
     def number_of(out):
         return (_second_in_utc(out) + out.has_offset * out.offset) * 1_000_000 + out.microsecond
 
-    return _datetimes("datetime_clock", number_of, texts, config, strict, timestamps, refused, empty, lines)
+    return _column("datetime_clock", _form(timestamps, strict), number_of, config, texts, refused, empty, lines, timestamps, _datetime_of_timestamp)
 
 
 def datetime_offset_column(texts, *, config=None, timestamps=False, strict=False, refused="stop", empty="error", lines=False):
@@ -571,7 +564,7 @@ def datetime_offset_column(texts, *, config=None, timestamps=False, strict=False
             raise ParseError(TZ_REQUIRED)
         return out.offset
 
-    return _datetimes("datetime_offset", number_of, texts, config, strict, timestamps, refused, empty, lines)
+    return _column("datetime_offset", _form(timestamps, strict), number_of, config, texts, refused, empty, lines, timestamps, _datetime_of_timestamp)
 
 
 def _second_in_utc(out):
@@ -580,84 +573,28 @@ def _second_in_utc(out):
     return micros.value // 1_000_000
 
 
-def _datetimes(kind, number_of, texts, config, strict, timestamps, refused, empty, lines):
-    """The numbers of date-times, by what is taken of their structs."""
-    name = f"speedate_datetime_parse{_form(timestamps, strict)}"
-    _check_choices(refused, empty, lines)
-    numbers = _configured(config, _OF_TIMESTAMPS if timestamps else ())
-
-    def read(text):
-        out = _DateTime()
-        _check(getattr(_library, name)(text, len(text), numbers, out))
-        return number_of(out)
-
-    def read_integer(timestamp):
-        out = _DateTime()
-        _check(_library.speedate_datetime_from_timestamp(timestamp, 0, numbers, out))
-        return number_of(out)
-
-    def part_of(text, number):
-        return _part_in_column(getattr(_library, name), text, number, numbers)
-
-    return _column(kind, read, part_of, texts, refused, empty, lines, read_integer if timestamps else None, True)
-
-
 def date_column(texts, *, config=None, timestamps=False, refused="stop", empty="error", lines=False):
-    name = f"speedate_date_parse{_form(timestamps, False)}"
-    _check_choices(refused, empty, lines)
-    numbers = _configured(config, _OF_TIMESTAMPS if timestamps else ())
-
-    def read(text):
-        out = _Date()
-        _check(getattr(_library, name)(text, len(text), *[numbers] * timestamps, out))
-        return number_of(out)
-
-    def read_integer(timestamp):
-        out = _Date()
-        _check(_date_of_timestamp(timestamp, numbers, out))
-        return number_of(out)
-
     def number_of(out):
         days = ctypes.c_int32()
         _check(_library.speedate_date_days(out, days))
         return days.value
 
-    def part_of(text, number):
-        return _part_in_column(getattr(_library, name), text, number, *[numbers] * timestamps)
-
-    return _column("date", read, part_of, texts, refused, empty, lines, read_integer if timestamps else None, True)
+    return _column("date", _form(timestamps, False), number_of, config, texts, refused, empty, lines, timestamps, _date_of_timestamp)
 
 
 def time_column(texts, *, config=None, strict=False, refused="stop", empty="error", lines=False):
-    name = f"speedate_time_parse{_form(False, strict).replace('_text', '')}"
-    _check_choices(refused, empty, lines)
-    numbers = _configured(config)
-
-    def read(text):
-        out = _Time()
-        _check(getattr(_library, name)(text, len(text), numbers, out))
+    def number_of(out):
         return ((out.hour * 60 + out.minute) * 60 + out.second) * 1_000_000 + out.microsecond
 
-    def part_of(text, number):
-        return _part_in_column(getattr(_library, name), text, number, numbers)
-
-    return _column("time", read, part_of, texts, refused, empty, lines)
+    return _column("time", _form(False, strict).replace("_text", ""), number_of, config, texts, refused, empty, lines)
 
 
 def duration_column(texts, *, config=None, refused="stop", empty="error", lines=False):
-    _check_choices(refused, empty, lines)
-    numbers = _configured(config)
+    def number_of(out):
+        size = _fitting((out.day * 86_400 + out.second) * 1_000_000 + out.microsecond, 0, 2**63 - 1)
+        return -size if out.negative else size
 
-    def read(text):
-        out = _Duration()
-        _check(_library.speedate_duration_parse(text, len(text), numbers, out))
-        size = (out.day * 86_400 + out.second) * 1_000_000 + out.microsecond
-        return -_fitting(size, 0, 2**63 - 1) if out.negative else _fitting(size, 0, 2**63 - 1)
-
-    def part_of(text, number):
-        return _part_in_column(_library.speedate_duration_parse, text, number, numbers)
-
-    return _column("duration", read, part_of, texts, refused, empty, lines)
+    return _column("duration", "", number_of, config, texts, refused, empty, lines)
 
 
 def _line(number, kind):

@@ -61,6 +61,13 @@ def spread(data):
     return memoryview(bytes(room))[::2]
 
 
+def forms(texts, end):
+    """The lines of texts in each kind of input that has lines."""
+    whole = end.join([*texts, ""])
+    data = whole.encode()
+    yield from (data, data[:-len(end)], bytearray(data), memoryview(bytearray(data)), array.array("b", data), spread(data), io.BytesIO(data), io.StringIO(whole, newline=""))
+
+
 class Exporter:
     """What has bytes in Python 3.12 and later."""
 
@@ -289,28 +296,34 @@ class Sources(unittest.TestCase):
 class Blocks(unittest.TestCase):
     """Columns of more lines than are read at a time, and of longer ones."""
 
-    def forms(self, texts, end):
-        whole = end.join([*texts, ""])
-        data = whole.encode()
-        yield from (data, data[:-len(end)], bytearray(data), memoryview(bytearray(data)), spread(data), io.BytesIO(data), io.StringIO(whole, newline=""))
+    def columns(self):
+        """A call, texts that it reads, more than are read at a time, and the number of each."""
+        yield speedate.datetime_column, [f"1970-01-01T{it // 3600 % 24:02}:{it // 60 % 60:02}:{it % 60:02}Z" for it in range(70_000)], [it % 86_400 * 1_000_000 for it in range(70_000)]
+        days = [datetime.date(year, month, day) for year in range(1970, 2170) for month in range(1, 13) for day in range(1, 29)]
+        yield speedate.date_column, list(map(str, days)), [(it - datetime.date(1970, 1, 1)).days for it in days]
+        yield speedate.duration_column, [f"PT{it}.{it % 10}S" for it in range(70_000)], [it * 1_000_000 + it % 10 * 100_000 for it in range(70_000)]
 
     def test_many(self):
-        texts = [f"1970-01-01T{it // 3600 % 24:02}:{it // 60 % 60:02}:{it % 60:02}Z" for it in range(70_000)]
-        wanted = [it % 86_400 * 1_000_000 for it in range(70_000)]
-        for it in (texts, tuple(texts), iter(texts), *self.forms(texts, "\n"), *self.forms(texts, "\r\n")):
-            self.assertTrue(column(it, refused="stop") == wanted, type(it))
-        for index in (1_000, 32_767, 32_768, 69_999):
-            wrong = [*texts[:index], "24:00", *texts[index + 1:]]
-            for it in (wrong, iter(wrong), *self.forms(wrong, "\n")):
-                with self.assertRaisesRegex(speedate.ParseError, f"^too_short in text {index} at ") as caught:
-                    column(it, refused="stop")
-                self.assertEqual(caught.exception.index, index)
-        bad = {32_767, 32_768, 69_998, 5}
-        wrong = ["" if it in bad else text for it, text in enumerate(texts)]
-        for it in (wrong, iter(wrong), *self.forms(wrong, "\r\n")):
-            told, errors = collected(it)
-            self.assertEqual([it.index for it in errors], sorted(bad))
-            self.assertTrue(told == [NAT if it in bad else number for it, number in enumerate(wanted)])
+        for read, texts, numbers in self.columns():
+            for it in (texts, tuple(texts), iter(texts), *forms(texts, "\n"), *forms(texts, "\r\n")):
+                self.assertTrue(read(it).tolist() == numbers, (read, type(it)))
+            self.assertTrue(collected(texts, read) == (numbers, []))
+            last = len(texts) - 1
+            for index in (1_000, 32_767, 32_768, last):
+                wrong = [*texts[:index], "-", *texts[index + 1:]]
+                for it in (wrong, iter(wrong), *forms(wrong, "\n")):
+                    with self.assertRaisesRegex(speedate.ParseError, f"^too_short in text {index} at ") as caught:
+                        read(it)
+                    self.assertEqual(caught.exception.index, index)
+            bad = {0, 5, 32_767, 32_768, last}
+            wrong = ["-" if it in bad else text for it, text in enumerate(texts)]
+            wanted = [NAT if it in bad else number for it, number in enumerate(numbers)]
+            for it in (wrong, iter(wrong), *forms(wrong, "\r\n")):
+                told, errors = collected(it, read)
+                self.assertTrue(told == wanted, (read, type(it)))
+                self.assertEqual([it.index for it in errors], sorted(bad))
+            for it in (wrong, *forms(wrong, "\n")):
+                self.assertTrue(read(it, refused="number").tolist() == wanted, (read, type(it)))
 
     def test_all_refused(self):
         for lines in (b"x\n" * 70_000, ["x"] * 70_000):
@@ -323,10 +336,10 @@ class Blocks(unittest.TestCase):
     def test_long_lines(self):
         for size in (1, 262_142, 262_143, 262_144, 262_145, 600_000):
             texts = [SECOND, "x" * size, SECOND, "", "y" * size]
-            for it in (texts, *self.forms(texts, "\n")):
+            for it in (texts, *forms(texts, "\n")):
                 self.assertEqual(column(it), [1_000_000, NAT, 1_000_000, NAT, NAT])
         text = SECOND[:-1] + "." + "1" * 600_000 + "Z"
-        for it in self.forms([SECOND, text], "\r\n"):
+        for it in forms([SECOND, text], "\r\n"):
             self.assertEqual(column(it, config=speedate.Config(overflow_behavior="truncate")), [1_000_000, 1_111_111])
 
     def test_odd_iterables(self):
@@ -580,9 +593,7 @@ class Others(unittest.TestCase):
                 (speedate.date_column, ["1970-01-02", "never", "1969-12-31"], [1, NAT, -1]),
                 (speedate.duration_column, ["PT1.5S", "never", "-00:01:00"], [1_500_000, NAT, -60_000_000])):
             for end in ("\n", "\r\n"):
-                whole = end.join([*texts, ""])
-                data = whole.encode()
-                for it in (texts, iter(texts), data, data[:-len(end)], bytearray(data), spread(data), array.array("b", data), io.BytesIO(data), io.StringIO(whole, newline="")):
+                for it in (texts, iter(texts), *forms(texts, end)):
                     with self.subTest(read, it=it):
                         told, errors = collected(it, read)
                         self.assertEqual(told, wanted)
@@ -591,26 +602,6 @@ class Others(unittest.TestCase):
                 read([texts[0], True])
             with self.assertRaisesRegex(TypeError, "^texts has to be one column, not dict"):
                 read({"column": texts})
-
-    def test_many(self):
-        days = [f"{year:04}-{month:02}-{day:02}" for year in range(1970, 2170) for month in range(1, 13) for day in range(1, 29)]
-        first = datetime.date(1970, 1, 1).toordinal()
-        moments = [datetime.date(*map(int, it.split("-"))).toordinal() - first for it in days]
-        sizes = [f"PT{it}.{it % 10}S" for it in range(70_000)]
-        for read, texts, numbers in (
-                (speedate.date_column, days, moments), (speedate.duration_column, sizes, [it * 1_000_000 + it % 10 * 100_000 for it in range(70_000)])):
-            for bad in (set(), {0, 5, 32_767, 32_768, len(texts) - 1}):
-                wrong = ["" if it in bad else text for it, text in enumerate(texts)]
-                wanted = [NAT if it in bad else number for it, number in enumerate(numbers)]
-                data = "\n".join([*wrong, ""]).encode()
-                for it in (wrong, data, bytearray(data)):
-                    told, errors = collected(it, read)
-                    self.assertTrue(told == wanted, (read, type(it)))
-                    self.assertEqual([it.index for it in errors], sorted(bad))
-                    self.assertTrue(read(it, refused="number").tolist() == wanted, (read, type(it)))
-                    if bad:
-                        with self.assertRaisesRegex(speedate.ParseError, "^too_short in text 0 at "):
-                            read(it)
 
     @unittest.skipUnless(numpy, "NumPy is not installed")
     def test_numpy(self):

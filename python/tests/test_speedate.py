@@ -77,7 +77,6 @@ date(1.0, timestamps=True) -> TypeError: value has to be str or bytes or bytearr
 speedate.datetime("1", timestamps=True, strict=True) -> ValueError: strict and timestamps exclude each other
 speedate.datetime("2020-02-29T12:13", None) -> TypeError: datetime() takes at most 1 positional arguments but 2 were given
 date("2020-02-29", strict=True) -> TypeError: date() got an unexpected keyword argument 'strict'
-datetime_front("2026-11-01 08:00:00 -0500") -> (datetime.datetime(2026, 11, 1, 8, 0), 19)
 text_column(date_column(["2020-01-01"]), kind="datetime") -> ValueError: the column is of kind date, not datetime
 text_column(date_column(["2020-01-01", None])), text_column(date_column(["2020-01-01"]), kind="date") -> (b'2020-01-01\n\n', b'2020-01-01\n')
 text_column([18262]) -> TypeError: numbers has to be a Column, not list, unless there is a kind
@@ -111,7 +110,6 @@ datetime_column(b"\xef\xbb\xbf1970-01-01T00:00Z\n1970-01-01T00:00Z\n") -> ParseE
 datetime_column(["\ufeff1970-01-01T00:00Z\n"]) -> ParseError: invalid_char_year in text 0: it begins with a byte order mark, which the encoding utf-8-sig drops; it has a line ending, which lines=True drops
 datetime_column(["\ufeff1970-01-01T00:00Z\n"], lines=True) -> ParseError: invalid_char_year in text 0: it begins with a byte order mark, which the encoding utf-8-sig drops
 datetime_column(["\ufeff1970-01-01"]) -> ParseError: invalid_char_year in text 0
-datetime_column(["1970-01-01T00:00"], missing_offset="utc") -> Column('datetime', [0])
 datetime_column(["", b"", None, "1970-01-01T00:00Z"], empty="nat") -> Column('datetime', [-9223372036854775808, -9223372036854775808, -9223372036854775808, 0])
 datetime_column(b"\n\r\n1970-01-01T00:00Z\n\n", empty="nat") -> Column('datetime', [-9223372036854775808, -9223372036854775808, 0, -9223372036854775808])
 datetime_column(b"\n \n", empty="nat") -> ParseError: too_short in text 1
@@ -253,7 +251,6 @@ setattr(Config(), "_numbers", bytes(8)) -> AttributeError: _numbers cannot be ch
 setattr(Config(), "other", 1) -> AttributeError: other cannot be changed: a Config stays as it was made
 delattr(Config(), "timestamp_unit") -> AttributeError: timestamp_unit cannot be changed: a Config stays as it was made
 vars(Config()) -> TypeError: vars() argument must have __dict__ attribute
-place(time, "12:13\u221201:60"), place(time, "12:13\u221201:60".encode()) -> (9, 11)
 place(time, "00:0\u00e9\u00e9"), place(time_front, "00:0\u00e9\u00e9".encode()) -> (3, 3)
 place(time, "12:13:14\U0001f552"), place(time, "12:13:14Z\U0001f552") -> (8, 9)
 place(time, "\u00e9\u00e9:\u00e9\u00e9"), place(time, "\u00e9"), place(time, "\u00e9".encode()), place(time, "") -> (0, 1, 2, 0)
@@ -276,7 +273,6 @@ place(datetime_column, ["1970-01-01T00:00"], strict=True), place(datetime_column
 place(duration_column, ["P1D1Q"]), place(duration_column, b"P106751992D"), place(duration_column, ["P1D1Y"], config=Config(iso_order="strict")) -> (4, 0, 4)
 refusal(date, "2020-02-30"), refusal(date, bytearray(b"2020-02-30")), refusal(date, memoryview(b"2020-02-30")) -> (('2020-02-30', 8), (b'2020-02-30', 8), (b'2020-02-30', 8))
 refusal(date, "0000-01-01"), refusal(speedate.datetime, b"0000-01-01T00:00"), refusal(date_front, memoryview(b"0000-01-01 x")) -> (('0000-01-01', 0), (b'0000-01-01T00:00', 0), (b'0000-01-01 x', 0))
-refusal(duration, "-P999999999DT1S") -> ('-P999999999DT1S', 0)
 whole(date, "0000-01-01"), whole(speedate.datetime, b"0000-01-01T00:00"), whole(date_front, "0000-01-01 \u00e9"), whole(duration, "-P999999999DT1S") -> (('0000-01-01', 'a year from 0001 to 9999'), (b'0000-01-01T00:00', 'a year from 0001 to 9999'), ('0000-01-01', 'a year from 0001 to 9999'), ('-P999999999DT1S', 'a duration of at least -999999999 days'))
 whole(date, "-62167219200", config=Config("s"), timestamps=True), whole(datetime_front, "0000-01-01T00:00\u221201:00 " + "\u00e9" * 300)[0] == "0000-01-01T00:00\u221201:00" -> (('-62167219200', 'a year from 0001 to 9999'), True)
 refusal(date_column, ["1970-01-01", "x"]), refusal(date_column, b"1970-01-01\nx\r\n"), refusal(date_column, ["x\r\n"], lines=True) -> (('x', 1), (b'x', 1), ('x', 1))
@@ -368,16 +364,17 @@ def error_of(call, *given, **named):
         return checked(error)
 
 
-def refusal(call, *given, **named):
-    """The text that a call refuses, and the start of the part."""
-    error = error_of(call, *given, **named)
-    return error.text, error.start
+def reading(read):
+    """A call that refuses a text, of whose error this is read."""
+    return lambda call, *given, **named: read(error_of(call, *given, **named))
 
 
-def whole(call, *given, **named):
-    """The part that is wrong of a text, and what was expected."""
-    error = error_of(call, *given, **named)
-    return error.text[error.start:error.end], error.expected
+# The text and the start of the part; the part that is wrong, and what was expected; the start alone, or None; the part; and what was expected.
+refusal = reading(lambda error: (error.text, error.start))
+whole = reading(lambda error: (error.text[error.start:error.end], error.expected))
+place = reading(lambda error: error and error.start)
+part = reading(lambda error: (error.start, error.end))
+expected = reading(lambda error: error.expected)
 
 
 def listed(texts, read=speedate.datetime_column):
@@ -396,23 +393,6 @@ def numbered(read, timestamps):
         told.append((len(it), [error.index for error in refused], [str(error) for error in refused], refused.codes))
     assert told[0] == told[1] == told[2], told
     return told[0][0], told[0][1], told[0][3]
-
-
-def place(call, *given, **named):
-    """Where the part begins for which a call refuses a text, or `None`."""
-    error = error_of(call, *given, **named)
-    return error and error.start
-
-
-def part(call, *given, **named):
-    """The part for which a call refuses a text."""
-    error = error_of(call, *given, **named)
-    return error.start, error.end
-
-
-def expected(call, *given, **named):
-    """What a call expected where it refuses."""
-    return error_of(call, *given, **named).expected
 
 
 class numbers:
@@ -531,8 +511,7 @@ def config_of(field, *names):
 
 
 def call_of(name, fields, text_of=str.encode):
-    """The call here that is one of C, with its arguments, or nothing. For one that gives a part it is the parser."""
-    name = name.replace("_parse_or_part", "_parse")
+    """The call here that is one of C, with its arguments, or nothing."""
     kind, _, form = name.rpartition("_parse")
     if kind in ("date", "time", "datetime", "duration") and form in ("", "_text", "_front", "_strict"):
         call = getattr(speedate, kind + form * (form == "_front"))
@@ -596,12 +575,11 @@ class Speedate(unittest.TestCase):
                 continue
             with self.subTest(row):
                 self.check_row(name, call, wanted, *fields[place + 1:])
-                if "_or_part" in name and wanted != "ok":
-                    self.check_places(name, fields[:place], *fields[place + 1:])
-                    self.check_ends(name, fields[:place], *fields[place + 1:])
+                if "_parse" in name and wanted != "ok":
+                    self.check_part(name, fields[:place], *fields[place + 1:])
                 ran[name] += 1
         self.assertGreater(sum(ran.values()), 190, (ran, left))
-        self.assertEqual(sum("_or_part" in name for name in ran), 11, ran)
+        self.assertEqual(sum("_parse" in name for name in ran), 11, ran)
 
     def check_row(self, name, call, wanted, written=None, size=None):
         try:
@@ -619,20 +597,13 @@ class Speedate(unittest.TestCase):
         else:
             self.assertEqual(repr(told), repr((value_of(written), int(size)) if size else value_of(written)))
 
-    def check_ends(self, name, fields, written="None None"):
-        """Where the part ends that C writes, in a str and in bytes: the end lies within no character."""
-        end = written.split()[1]
-        for text_of in (str.encode, str):
-            found = part(call_of(name, fields, text_of))[1]
-            self.assertEqual(str(len(fields[-1][:found].encode()) if text_of is str and found is not None else found), end)
-
-    def check_places(self, name, fields, written="None None"):
-        """The place that C writes, in texts of each type: in a str it is how many characters end there or before."""
-        ends = [len(fields[-1][:it].encode()) for it in range(1, len(fields[-1]) + 1)]
+    def check_part(self, name, fields, written):
+        """The part that C writes, in texts of each type: in a str it starts after the characters that end there or before, and its
+        end lies within no character."""
+        text, (start, end, _) = fields[-1], map(int, written.split(" "))
+        in_str = sum(len(text[:it].encode()) <= start for it in range(1, len(text) + 1)), len(text.encode()[:end].decode())
         for text_of in (str.encode, str, lambda it: bytearray(it.encode()), lambda it: memoryview(it.encode()), lambda it: memoryview(bytearray(it.encode()))):
-            at = written.split()[0]
-            wanted = None if at == "None" else sum(it <= int(at) for it in ends) if text_of is str else int(at)
-            self.assertEqual(place(call_of(name, fields, text_of)), wanted)
+            self.assertEqual(part(call_of(name, fields, text_of)), in_str if text_of is str else (start, end))
 
     def test_messages(self):
         """What `str` and `message()` say of an error, of texts that are long or that a terminal may not show as they are."""

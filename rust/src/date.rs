@@ -30,13 +30,7 @@ value! {
     /// assert_eq!(Date::parse_str("2020-02-29"), Date::parse_str("1582934400"));
     /// assert_eq!(Date::parse_str("2021-02-29"), Err(ParseError::OutOfRangeDay));
     /// ```
-    Date by speedate_date_parse_or_timestamp under DateConfig, speedate_date_to_text
-}
-
-impl Value for Date {
-    fn check(&self) -> Result<(), ParseError> {
-        ffi::speedate_date_check(self)
-    }
+    Date by speedate_date_parse_or_timestamp under DateConfig, speedate_date_to_text, speedate_date_check
 }
 
 impl Date {

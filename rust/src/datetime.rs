@@ -40,13 +40,8 @@ value! {
     /// assert_eq!(DateTime::parse_str("2020-02-29 12:13:14.5"), DateTime::parse_str("1582978394.5"));
     /// assert_eq!(DateTime::parse_str("2020-02-29"), Err(ParseError::InvalidCharDateTimeSep));
     /// ```
-    DateTime by speedate_datetime_parse_or_timestamp under DateTimeConfig, speedate_datetime_to_text with digits
-}
-
-impl Value for DateTime {
-    fn check(&self) -> Result<(), ParseError> {
-        ffi::speedate_datetime_check(self)
-    }
+    DateTime by speedate_datetime_parse_or_timestamp under DateTimeConfig, speedate_datetime_to_text with digits,
+        speedate_datetime_check
 }
 
 /// The order of instants, as in [`Time`].

@@ -41,13 +41,7 @@ value! {
     /// assert!(Time::parse_str("15:00Z").unwrap() > Time::parse_str("15:00+01:00").unwrap());
     /// assert_eq!(Time::parse_str("24:00"), Err(ParseError::OutOfRangeHour));
     /// ```
-    Time by speedate_time_parse_text under TimeConfig, speedate_time_to_text with digits
-}
-
-impl Value for Time {
-    fn check(&self) -> Result<(), ParseError> {
-        ffi::speedate_time_check(self)
-    }
+    Time by speedate_time_parse_text under TimeConfig, speedate_time_to_text with digits, speedate_time_check
 }
 
 /// The order of instants: in UTC if both times have an offset, otherwise as clocks show them. So times at different offsets

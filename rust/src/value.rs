@@ -55,9 +55,18 @@ fn out_of_range<V: Value + ?Sized>(value: &V) -> ! {
     panic!("`{field}` is out of range in {value:?}")
 }
 
-/// Defines how values of a type are parsed and printed, by its functions of C.
+/// Defines how values of a type are parsed, printed and, unless there is more to say of it, checked, by its functions of C.
 macro_rules! value {
-    ($(#[$parse_str:meta])* $name:ident by $parse:ident under $config:ident, $to_text:ident $(with $digits:ident)?) => {
+    (
+        $(#[$parse_str:meta])*
+        $name:ident by $parse:ident under $config:ident, $to_text:ident $(with $digits:ident)? $(, $check:ident)?
+    ) => {
+        $(impl Value for $name {
+            fn check(&self) -> Result<(), ParseError> {
+                ffi::$check(self)
+            }
+        })?
+
         /// Writes the text. It panics if the value is out of range.
         impl core::fmt::Display for $name {
             fn fmt(&self, f: &mut core::fmt::Formatter<'_>) -> core::fmt::Result {

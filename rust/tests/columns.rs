@@ -9,7 +9,7 @@ use speedate::{
     TimeOffsetReader, TimeParser, TimeReader, TimestampUnit,
 };
 
-const TEXTS: usize = 120_000;
+const TEXTS: u64 = 120_000;
 
 /// The fault of a line, where its part begins and ends, and what was expected there.
 type Refusal = (Fault, usize, usize, String);
@@ -33,8 +33,7 @@ fn without_offset(line: &[u8]) -> Refusal {
 fn dates() {
     let lines = ["2020-02-29", "0000-01-01", "9999-12-31", "2021-02-29", "86400", "-86400000000", "1", ""];
     let epoch = Date { year: 1970, month: 1, day: 1 };
-    for seed in 1..=TEXTS {
-        let mut draws = Draws::new(seed);
+    for mut draws in Draws::all() {
         let reader = match draws.flag() {
             true => DateReader::Text,
             false => DateReader::OrTimestamp(DateConfig { timestamp_unit: draws.unit() }),
@@ -46,8 +45,7 @@ fn dates() {
             };
             Ok(value(date)?.days_since(&epoch))
         };
-        draws.compare(&lines, &reader, i32::MIN, answer);
-        draws.compare_texts(&lines, &reader, i32::MIN, answer);
+        draws.compare_with_texts(&lines, &reader, i32::MIN, answer);
     }
 }
 
@@ -78,8 +76,7 @@ fn time_config(microseconds_precision_overflow_behavior: MicrosecondsPrecisionOv
 
 #[test]
 fn date_times() {
-    for seed in 1..=TEXTS {
-        let mut draws = Draws::new(seed);
+    for mut draws in Draws::all() {
         let reader = DateTimeReader { parser: draws.parser(), assumes_utc: draws.flag() };
         let answer = |line: &[u8]| {
             let value = date_time(line, &reader.parser)?;
@@ -88,15 +85,13 @@ fn date_times() {
             }
             Ok(value.timestamp_tz_us())
         };
-        draws.compare(&DATE_TIMES, &reader, i64::MIN, answer);
-        draws.compare_texts(&DATE_TIMES, &reader, i64::MIN, answer);
+        draws.compare_with_texts(&DATE_TIMES, &reader, i64::MIN, answer);
     }
 }
 
 #[test]
 fn clocks() {
-    for seed in 1..=TEXTS {
-        let mut draws = Draws::new(seed);
+    for mut draws in Draws::all() {
         let reader = DateTimeClockReader { parser: draws.parser() };
         draws.compare(&DATE_TIMES, &reader, i64::MIN, |line| {
             let value = date_time(line, &reader.parser)?;
@@ -107,8 +102,7 @@ fn clocks() {
 
 #[test]
 fn date_time_offsets() {
-    for seed in 1..=TEXTS {
-        let mut draws = Draws::new(seed);
+    for mut draws in Draws::all() {
         let reader = DateTimeOffsetReader { parser: draws.parser() };
         draws.compare(&DATE_TIMES, &reader, i32::MIN, |line| {
             let offset = date_time(line, &reader.parser)?.time.tz_offset;
@@ -130,22 +124,19 @@ fn time(line: &[u8], parser: &TimeParser) -> Result<Time, Refusal> {
 
 #[test]
 fn times() {
-    for seed in 1..=TEXTS {
-        let mut draws = Draws::new(seed);
+    for mut draws in Draws::all() {
         let reader = TimeReader { parser: draws.time_parser() };
         let answer = |line: &[u8]| {
             let time = time(line, &reader.parser)?;
             Ok(i64::from(time.total_seconds()) * 1_000_000 + i64::from(time.microsecond))
         };
-        draws.compare(&TIMES, &reader, i64::MIN, answer);
-        draws.compare_texts(&TIMES, &reader, i64::MIN, answer);
+        draws.compare_with_texts(&TIMES, &reader, i64::MIN, answer);
     }
 }
 
 #[test]
 fn time_offsets() {
-    for seed in 1..=TEXTS {
-        let mut draws = Draws::new(seed);
+    for mut draws in Draws::all() {
         let reader = TimeOffsetReader { parser: draws.time_parser() };
         draws.compare(&TIMES, &reader, i32::MIN, |line| {
             time(line, &reader.parser)?.tz_offset.ok_or(without_offset(line))
@@ -165,8 +156,7 @@ fn durations() {
         "P1",
         "",
     ];
-    for seed in 1..=TEXTS {
-        let mut draws = Draws::new(seed);
+    for mut draws in Draws::all() {
         let reader = DurationReader { config: draws.time_config() };
         let answer = |line: &[u8]| {
             let duration = value(Duration::parse_or_place(line, Form::Text, &reader.config))?;
@@ -176,8 +166,7 @@ fn durations() {
             let expected = "a duration of less than 2^63 microseconds".to_owned();
             number.ok_or((Fault::NumberTooLarge, 0, line.len(), expected))
         };
-        draws.compare(&lines, &reader, i64::MIN, answer);
-        draws.compare_texts(&lines, &reader, i64::MIN, answer);
+        draws.compare_with_texts(&lines, &reader, i64::MIN, answer);
     }
 }
 
@@ -222,8 +211,9 @@ fn defaults() {
 struct Draws(u64);
 
 impl Draws {
-    fn new(seed: usize) -> Self {
-        Self((seed as u64).wrapping_mul(0x9E37_79B9_7F4A_7C15))
+    /// A generator for each text.
+    fn all() -> impl Iterator<Item = Self> {
+        (1..=TEXTS).map(|seed| Self(seed.wrapping_mul(0x9E37_79B9_7F4A_7C15)))
     }
 
     fn below(&mut self, end: usize) -> usize {
@@ -339,14 +329,15 @@ impl Draws {
         (bytes, offsets)
     }
 
-    /// The same of the columns of drawn texts at offsets.
-    fn compare_texts<R: TextReader<Number: From<u8> + PartialEq + Debug> + Debug>(
+    /// The same, and then of the columns of drawn texts at offsets.
+    fn compare_with_texts<R: TextReader<Number: From<u8> + PartialEq + Debug> + Debug>(
         &mut self,
         lines: &[&str],
         reader: &R,
         least: R::Number,
         answer: impl Fn(&[u8]) -> Result<R::Number, Refusal>,
     ) {
+        self.compare(lines, reader, least, &answer);
         let (bytes, offsets) = self.texts(lines);
         let are_right = offsets.is_sorted() && offsets.iter().all(|&it| it >= 0 && it as usize <= bytes.len());
         for mut empty in self.empty_columns() {

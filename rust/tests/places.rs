@@ -31,7 +31,8 @@ fn dates() {
     for template in ["2020-02-29", "1999-12-31x", "2021-06-30T1"] {
         each_text(template, BYTES, FEW_BYTES, |text| {
             let placed = |form| Date::parse_or_place(text, form, &DateConfig::default());
-            same(text, whole(text, Date::parse_bytes_rfc3339(text)), placed(Form::Text), whole_date(text));
+            let ended_date = ended(text, date(text).map(|size| (size, ParseError::ExtraCharacters)));
+            same(text, whole(text, Date::parse_bytes_rfc3339(text)), placed(Form::Text), ended_date);
             same(text, Date::parse_front(text), placed(Form::Front), date(text));
         });
     }
@@ -47,8 +48,8 @@ fn times() {
             each_text(template, BYTES, FEW_BYTES, |text| {
                 let placed = |form| Time::parse_or_place(text, form, &config);
                 let relaxed = whole(text, Time::parse_bytes_with_config(text, &config));
-                same(text, relaxed, placed(Form::Text), whole_time(text, behavior));
-                let strict = whole_time(text, behavior).and_then(|_| strict_time(text));
+                same(text, relaxed, placed(Form::Text), ended(text, time(text, behavior)));
+                let strict = ended(text, time(text, behavior)).and_then(|_| strict_time(text));
                 same(text, whole(text, Time::parse_bytes_strict(text, behavior)), placed(Form::Strict), strict);
                 let front = time(text, behavior).map(|(size, _)| size);
                 same(text, Time::parse_front(text, &config), placed(Form::Front), front);
@@ -64,8 +65,9 @@ fn date_times() {
     {
         each_text(template, BYTES, FEW_BYTES, |text| {
             let placed = |form| DateTime::parse_or_place(text, form, &DateTimeConfig::default());
-            same(text, whole(text, DateTime::parse_bytes_rfc3339(text)), placed(Form::Text), whole_date_time(text));
-            let strict = whole_date_time(text).and_then(|_| strict_date_time(text));
+            let relaxed = ended(text, date_time(text));
+            let strict = relaxed.clone().and_then(|_| strict_date_time(text));
+            same(text, whole(text, DateTime::parse_bytes_rfc3339(text)), placed(Form::Text), relaxed);
             same(text, whole(text, DateTime::parse_bytes_strict(text, Error)), placed(Form::Strict), strict);
             let front = date_time(text).map(|(size, _)| size);
             same(text, DateTime::parse_front(text, &TimeConfig::default()), placed(Form::Front), front);
@@ -192,9 +194,10 @@ fn date(text: &[u8]) -> Taken {
     Ok(10)
 }
 
-fn whole_date(text: &[u8]) -> Taken {
-    let size = date(text)?;
-    first(&[(text.len() == size, ParseError::ExtraCharacters, size)])?;
+/// How many bytes a value takes after which the text ends.
+fn ended(text: &[u8], front: Front) -> Taken {
+    let (size, error) = front?;
+    first(&[(text.len() == size, error, size)])?;
     Ok(size)
 }
 
@@ -257,12 +260,6 @@ fn time(text: &[u8], behavior: MicrosecondsPrecisionOverflowBehavior) -> Front {
     Ok((whole, if whole > size { ParseError::ExtraCharacters } else { ParseError::InvalidCharTzSign }))
 }
 
-fn whole_time(text: &[u8], behavior: MicrosecondsPrecisionOverflowBehavior) -> Taken {
-    let (size, error) = time(text, behavior)?;
-    first(&[(text.len() == size, error, size)])?;
-    Ok(size)
-}
-
 /// The rows of RFC 3339 alone of a text that is a time.
 fn strict_time(text: &[u8]) -> Taken {
     first(&[
@@ -285,12 +282,6 @@ fn date_time(text: &[u8]) -> Front {
     first(&[(is_separator, ParseError::InvalidCharDateTimeSep, 10)])?;
     let taken = time(&text[11..], Error).map_err(|(error, place)| (error, 11 + place))?;
     Ok((11 + taken.0, taken.1))
-}
-
-fn whole_date_time(text: &[u8]) -> Taken {
-    let (size, error) = date_time(text)?;
-    first(&[(text.len() == size, error, size)])?;
-    Ok(size)
 }
 
 fn strict_date_time(text: &[u8]) -> Taken {

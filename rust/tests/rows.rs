@@ -27,8 +27,8 @@ fn rows() {
     assert!(columns > 70, "only {columns} rows of columns");
     let texts = tried.iter().filter(|(row, _)| row.contains("_texts|")).count();
     assert!(texts > 40, "only {texts} rows of columns of texts");
-    let places = tried.iter().filter(|(row, _)| row.contains("_or_part")).count();
-    assert!(places > 70, "only {places} rows of places");
+    let parsers = tried.iter().filter(|(row, _)| row.contains("_parse")).count();
+    assert!(parsers > 140, "only {parsers} rows of parsers");
 }
 
 /// Whether a row tells what its call answers, if the API has the call. One that panics has a value out of range.
@@ -46,7 +46,7 @@ impl Row<'_> {
         let time_config = |place| Some(config(place)?.time_config);
         let behavior = |place| Some(time_config(place)?.microseconds_precision_overflow_behavior);
         let text = |place: usize| self.0[place].as_bytes();
-        Some(match self.0[0] {
+        let is_right = match self.0[0] {
             "int_parse" => self.has(2, int_parse_str(self.0[1]).ok_or("invalid_integer")),
             "date_parse" => self.has(3, Date::parse_bytes_with_config(text(2), &self.get(1)?)),
             "date_parse_text" => self.has(2, Date::parse_bytes_rfc3339(text(1))),
@@ -121,42 +121,39 @@ impl Row<'_> {
             "duration_between_dates" => self.get(4) == Some(Duration::between_dates(&self.get(1)?, &self.get(2)?)),
             "duration_after_date" => self.has(3, self.get::<Duration>(1)?.after_date(&self.get(2)?)),
             "duration_before_date" => self.has(3, self.get::<Duration>(1)?.before_date(&self.get(2)?)),
-            "date_column" => {
+            "date_column" | "date_texts" => {
                 let config: DateConfig = self.get(1)?;
                 let readers = [DateReader::Text, DateReader::OrTimestamp(config)];
-                self.has_column(readers.get(usize::from(self.get::<Column>(2)?.parser))?)?
+                self.has_column_or_texts(readers.get(usize::from(self.get::<Column>(2)?.parser))?)?
             }
-            "datetime_column" => {
+            "datetime_column" | "datetime_texts" => {
                 let assumes_utc = self.get::<Column>(2)?.assumes_utc;
-                self.has_column(&DateTimeReader { parser: self.get_parser()?, assumes_utc })?
+                self.has_column_or_texts(&DateTimeReader { parser: self.get_parser()?, assumes_utc })?
             }
             "datetime_clock_column" => self.has_column(&DateTimeClockReader { parser: self.get_parser()? })?,
             "datetime_offset_column" => self.has_column(&DateTimeOffsetReader { parser: self.get_parser()? })?,
-            "time_column" => self.has_column(&TimeReader { parser: self.get_time_parser()? })?,
+            "time_column" | "time_texts" => {
+                self.has_column_or_texts(&TimeReader { parser: self.get_time_parser()? })?
+            }
             "time_offset_column" => self.has_column(&TimeOffsetReader { parser: self.get_time_parser()? })?,
-            "duration_column" => self.has_column(&DurationReader { config: time_config(1)? })?,
-            "date_texts" => {
-                let config: DateConfig = self.get(1)?;
-                let readers = [DateReader::Text, DateReader::OrTimestamp(config)];
-                self.has_texts(readers.get(usize::from(self.get::<Column>(2)?.parser))?)?
+            "duration_column" | "duration_texts" => {
+                self.has_column_or_texts(&DurationReader { config: time_config(1)? })?
             }
-            "datetime_texts" => {
-                let assumes_utc = self.get::<Column>(2)?.assumes_utc;
-                self.has_texts(&DateTimeReader { parser: self.get_parser()?, assumes_utc })?
-            }
-            "time_texts" => self.has_texts(&TimeReader { parser: self.get_time_parser()? })?,
-            "duration_texts" => self.has_texts(&DurationReader { config: time_config(1)? })?,
             "date_print_column" => self.has_lines(&DatePrinter),
             "datetime_print_column" => self.has_lines(&DateTimePrinter),
             "datetime_clock_print_column" => self.has_lines(&DateTimeClockPrinter),
             "time_print_column" => self.has_lines(&TimePrinter),
             "duration_print_column" => self.has_lines(&DurationPrinter),
-            call => self.has_form(call.split_once("_parse_or_part")?)?,
-        })
+            _ => return None,
+        };
+        Some(is_right && self.has_part()?)
     }
 
-    /// Whether the parser of a type in a form, which ends the name of the call, has this answer.
-    fn has_form(&self, (kind, form): (&str, &str)) -> Option<bool> {
+    /// Whether the parser that gives the part too has this answer, if the call is a parser. Its form ends the name of the call.
+    fn has_part(&self) -> Option<bool> {
+        let Some((kind @ ("date" | "time" | "datetime" | "duration"), form)) = self.0[0].split_once("_parse") else {
+            return Some(true);
+        };
         let form = match (kind, form) {
             ("date" | "datetime", "") => Form::OrTimestamp,
             (_, "" | "_text") => Form::Text,
@@ -206,8 +203,11 @@ impl Row<'_> {
         Some(is_read(&self.0[5..], &progress, &out, errors.as_deref()))
     }
 
-    /// The same of a column of texts.
-    fn has_texts<R: TextReader<Number: Default + ToString>>(&self, reader: &R) -> Option<bool> {
+    /// The same, or the same of a column of texts if the call says so.
+    fn has_column_or_texts<R: TextReader<Number: Default + ToString>>(&self, reader: &R) -> Option<bool> {
+        if self.0[0].ends_with("_column") {
+            return self.has_column(reader);
+        }
         let (mut out, mut errors) = self.places::<R::Number>()?;
         let bytes = self.lines(5);
         let offsets: Vec<i32> = self.0[4].split_whitespace().map(|it| it.parse().unwrap()).collect();
@@ -256,10 +256,13 @@ impl Row<'_> {
         }
     }
 
-    /// The error of a code. Where this is that of a value out of range, Rust has the error of the field.
+    /// The error of a code. Where this is that of a value or of a configuration out of range, Rust has the error of the field.
     fn error(&self, place: usize) -> &str {
-        let of_field = self.0[1..place].iter().find_map(|value| checked(value));
-        of_field.filter(|_| self.0[place] == "value_out_of_range").unwrap_or(self.0[place])
+        match self.0[place] {
+            "value_out_of_range" => self.0[1..place].iter().find_map(|value| checked(value)).unwrap_or_default(),
+            "config_out_of_range" => "out_of_range_tz",
+            code => code,
+        }
     }
 
     fn has_front<T: Field + PartialEq>(&self, place: usize, answer: Result<(T, usize), ParseError>) -> bool {
@@ -267,15 +270,19 @@ impl Row<'_> {
         self.has(place, answer.map(|front| front.0)) && self.get::<i64>(place + 2).unwrap_or(0) == size as i64
     }
 
-    /// Whether a value has this size, which only a row of fronts names, or a refusal this part.
+    /// Whether a value has this size, which only a row of fronts names, or a refusal this part, and what was expected there.
     fn has_or_part<T: Field + PartialEq>(&self, place: usize, answer: Result<(T, usize), Refused>) -> bool {
-        let is_there = match &answer {
-            Ok((_, size)) => self.get(place + 2).unwrap_or(self.0[place - 1].len()) == *size,
-            Err(Refused { start, end, .. }) => {
-                self.0.get(place + 1).unwrap_or(&"0 0 ").starts_with(&format!("{start} {end} "))
+        match answer {
+            Ok((value, size)) => {
+                self.has(place, Ok::<_, ParseError>(value))
+                    && self.get(place + 2).unwrap_or(self.0[place - 1].len()) == size
             }
-        };
-        is_there && self.has(place, answer.map(|it| it.0).map_err(|refused| refused.fault))
+            Err(refused) => {
+                let part = format!("{} {} ", refused.start, refused.end);
+                let kind = self.0.get(place + 1).unwrap_or(&"0 0 0").strip_prefix(&part);
+                self.0[place] == refused.fault.to_string() && kind.is_some_and(|kind| is_expected(&refused, kind))
+            }
+        }
     }
 
     /// The digits of a second that a row prints, if a precision can ask for them.
@@ -308,6 +315,13 @@ fn is_read(row: &[&str], progress: &Progress, numbers: &[impl ToString], errors:
     written.extend(errors.map(|errors| joined(&errors[..*lines])));
     let kind = row.last().and_then(|last| last.strip_prefix(&reached));
     kind.is_some_and(|kind| kind.is_empty() == error.is_none()) && row[..row.len() - 1] == written
+}
+
+/// Whether a refusal by a call of a kind names what was expected, if a row has the phrase.
+fn is_expected(refused: &Refused, kind: &str) -> bool {
+    let row = format!("code_expected|{}|{kind}|ok|", refused.fault.number());
+    let phrase = ROWS.lines().find_map(|it| it.strip_prefix(&row));
+    phrase.is_none_or(|phrase| refused.expected().to_string() == phrase)
 }
 
 fn joined(numbers: &[impl ToString]) -> String {
