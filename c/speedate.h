@@ -198,7 +198,7 @@ const char *speedate_code_string(int code);
 typedef struct SpeedatePart {
     size_t start; /* where the part begins, or would begin if it is missing: at most the size of the text */
     size_t end;   /* where it ends: `start` if it is missing */
-    int32_t kind; /* what a refused text was read as, such as SPEEDATE_KIND_DATE; SPEEDATE_KIND_NONE if it is accepted */
+    int32_t kind; /* what a refused text was read as, as SPEEDATE_KIND_DATE; SPEEDATE_KIND_NONE if accepted */
 } SpeedatePart;
 
 /* No part: SpeedatePart part = SPEEDATE_PART_NONE; */
