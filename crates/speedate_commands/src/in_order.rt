@@ -183,7 +183,7 @@ fn print_part<S: ReadAt, W: Write>(
 }
 
 /// Prints the lines of a part of a file, before which others were not read. If one of them is bad,
-/// these are counted, for the numbers of the reports.
+/// these are counted, for the numbers of the reports, also if a read or a write failed.
 fn print_found<S: ReadAt, W: Write>(
     command: &mut Between<'_>,
     source: &S,
@@ -201,15 +201,22 @@ fn print_found<S: ReadAt, W: Write>(
         FailsBy result failed.old failed.new output.new.failed }
 {
     let told = command.scan.bad;
-    print_part(command, source, start, end, failed, output)?;
+    let ended = print_part(command, source, start, end, failed, output);
     if command.scan.bad > told && !command.prefix.has_number {
-        let Ok(skipped) = count_lines(source, 0, begin, start, failed) else {
-            command.scan.bad = told;
-            return Err(RunError::Read);
-        };
-        renumber(&mut command.scan, told, skipped);
+        let mut missed = false;
+        match count_lines(source, 0, begin, start, &mut missed) {
+            Ok(skipped) => renumber(&mut command.scan, told, skipped),
+            // Nobody knows their numbers, so these reports are not told.
+            Err(_) => {
+                command.scan.bad = told;
+                if ended.is_ok() {
+                    *failed = true;
+                    return Err(RunError::Read);
+                }
+            }
+        }
     }
-    Ok(())
+    ended
 }
 
 /// The same, and then, unless the run has ended, passes over the lines after the part, if there are any:
