@@ -13,6 +13,7 @@ use Rattle.speedate_civil.specs.Calendar.{Ymd, days_between}
 use Rattle.speedate_civil.specs.Date.{date_answer, date_or_timestamp}
 use Rattle.speedate_civil.specs.DateTime.{DateAndTime, date_time_answer, date_time_by_config}
 use Rattle.speedate_civil.specs.DateTime.{date_time_front, local_microsecond, utc_microsecond}
+use Rattle.speedate_civil.specs.Form.{size_or_place}
 use Rattle.speedate_civil.specs.Strict.{strict_date_time, strict_date_time_answer}
 use Rattle.speedate_civil.specs.Strict.{strict_time_answer}
 use Rattle.speedate_civil.specs.Time.{TimeOfDay, microsecond_of_day, time_answer}
@@ -272,11 +273,6 @@ date_place reader line = unwrap_or (refused_place (date_of_line reader line)) (l
 abbrev pub date_time_place : DateTimeParser → List ℕ → ℕ
 date_time_place parser line =
     unwrap_or (refused_place (date_time_of_line parser line)) (length line)
-
--- how many bytes the value at the front of a text takes, or the place of the text's error
-abbrev pub size_or_place : {A : Type 0} → Result (A × ℕ) Refused → ℕ
-size_or_place (Ok front) = front.1
-size_or_place (Err refused) = refused.place
 
 -- the place of a line in a column of date-times at the front of lines: the end of the date-time,
 -- if an offset is missing

@@ -81,4 +81,5 @@ pub use speedate_base::numbers::{
 pub use speedate_base::refusal::Refused;
 pub use speedate_civil::date::{Date, is_leap_year, month_length};
 pub use speedate_civil::datetime::{DateTime, Moment};
+pub use speedate_civil::form::{DateForm, DateTimeForm, TimeForm};
 pub use speedate_civil::time::{FractionDigits, Time};

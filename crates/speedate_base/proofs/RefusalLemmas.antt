@@ -231,6 +231,31 @@ pub seen_alone : {A E : Type 0} (refuse : ParseError → ℕ → E) (fault : A �
     ≡ result_and_then (with_no_more_or refuse fault text) (seen_as refuse front)
 seen_alone refuse fault text front = search rules
 
+-- so what is alone is the value, what is longer is refused where the value ends, and a refusal stays
+pub seen_whole : {A E : Type 0} (refuse : ParseError → ℕ → E) (fault : A → ParseError)
+    (text : List ℕ) (value : A) (size : ℕ) (front : Result (A × ℕ) Refused)
+    → size ≡ length text → Ok (value, size) ≡ seen_as refuse front
+    → Ok value ≡ seen_as refuse (result_and_then (alone_or fault text) front)
+seen_whole refuse fault text value size front same read =
+    sym (refusal-whole refuse fault text value size (sym same))
+    ∙ ap (result_and_then (with_no_more_or refuse fault text)) read
+    ∙ sym (seen_alone refuse fault text front)
+
+pub seen_longer : {A E : Type 0} (refuse : ParseError → ℕ → E) (fault : A → ParseError)
+    (text : List ℕ) (value : A) (size : ℕ) (front : Result (A × ℕ) Refused)
+    → (size ≡ length text → ⊥) → Ok (value, size) ≡ seen_as refuse front
+    → Err (refuse (fault value) size) ≡ seen_as refuse (result_and_then (alone_or fault text) front)
+seen_longer refuse fault text value size front other read =
+    sym (refusal-longer refuse fault text value size (λ same. other (sym same)))
+    ∙ ap (result_and_then (with_no_more_or refuse fault text)) read
+    ∙ sym (seen_alone refuse fault text front)
+
+pub seen_stopped : {A B E : Type 0} (refuse : ParseError → ℕ → E) (step : A → Result B Refused)
+    (front : Result A Refused) (refusal : E)
+    → Err refusal ≡ seen_as refuse front
+    → Err refusal ≡ seen_as refuse (result_and_then step front)
+seen_stopped refuse step front refusal read = search rules
+
 -- a number seen in another way, where no table lets a value through
 pub seen-number_map : {A B E : Type 0} (refuse : ParseError → ℕ → E) (view : A → B)
     (number : Option (Result A Refused)) (refusal : E)

@@ -1,13 +1,14 @@
 -- What a date from outside says, and how a date is written.
-use Rattle.std.specs.Prelude.{ℤ, List, ℕ, Option, Some, None, Result, if◌then◌else◌}
+use Rattle.std.specs.Prelude.{ℤ, List, ℕ, Option, option_map, Some, None, Result, if◌then◌else◌}
 use Rattle.std.specs.Ordering.{int_eq}
 use Rattle.speedate.specs.Base.{CallKind, ParseError}
 use Rattle.speedate.specs.Calendar.{Ymd}
 use Rattle.speedate.specs.Config.{Choices}
-use Rattle.speedate.specs.Date.{date_answer, date_front, date_or_timestamp}
 use Rattle.speedate.specs.Date.{new_date_answer}
+use Rattle.speedate.specs.Form.{date_by_form}
+use Rattle.speedate.specs.declared.DateForm.{DateForm}
 use Rattle.speedate_c.specs.Code.{front_form, or_timestamp_form, text_form}
-use Rattle.speedate_c.specs.Written.{Reading, front, whole}
+use Rattle.speedate_c.specs.Written.{Reading, reading}
 use Rattle.speedate_c.specs.declared.date.SpeedateDate.{SpeedateDate}
 
 -- the date of its numbers, or the fault of the first that is out of range
@@ -22,13 +23,15 @@ shown_date date = record { year = date.year; month = date.month; day = date.day 
 abbrev pub first_day : Ymd
 first_day = record { year = 1970; month = 1; day = 1 }
 
--- how a form reads a text, where dates have that form
+-- the form that a number asks for, where dates have it, and the kind of calls that read so
+abbrev pub date_form : ℤ → Option (DateForm × CallKind)
+date_form form =
+    if int_eq form text_form then Some (DateForm.Text, CallKind.Date)
+    else (if int_eq form or_timestamp_form then Some (DateForm.OrTimestamp, CallKind.DateOrTimestamp)
+    else (if int_eq form front_form then Some (DateForm.Front, CallKind.Date)
+    else None))
+
+-- how it reads a text
 abbrev pub date_reading : ℤ → Choices → List ℕ → Option (Reading Ymd)
 date_reading form chosen text =
-    if int_eq form text_form
-    then Some (whole text CallKind.Date (date_answer text))
-    else (if int_eq form or_timestamp_form
-    then Some (whole text CallKind.DateOrTimestamp (date_or_timestamp chosen.unit text))
-    else (if int_eq form front_form
-    then Some (front CallKind.Date (date_front text))
-    else None))
+    option_map (λ read. reading read.1 (date_by_form read.0 chosen.unit text)) (date_form form)

@@ -1,20 +1,20 @@
 -- What a date-time from outside says, and how a date-time is written.
-use Rattle.std.specs.Prelude.{◌≡◌, nat_le, true, ℤ, List, ℕ, Option, Some, None, Result, if◌then◌else◌}
+use Rattle.std.specs.Prelude.{◌≡◌, nat_le, true, ℤ, List, ℕ, Option, option_map, Some, None, Result, if◌then◌else◌}
 use Rattle.std.specs.Int.{is_in_range}
 use Rattle.std.specs.Option.{option_map_or}
 use Rattle.std.specs.Ordering.{int_eq}
 use Rattle.speedate.specs.Base.{CallKind, ParseError}
 use Rattle.speedate.specs.Calendar.{month_length}
 use Rattle.speedate.specs.Config.{Choices}
-use Rattle.speedate.specs.DateTime.{DateAndTime, date_time_answer, date_time_front}
-use Rattle.speedate.specs.DateTime.{date_time_or_timestamp}
+use Rattle.speedate.specs.DateTime.{DateAndTime}
+use Rattle.speedate.specs.Form.{date_time_by_form}
+use Rattle.speedate.specs.declared.DateTimeForm.{DateTimeForm}
 use Rattle.speedate.specs.Offset.{is_offset}
 use Rattle.speedate.specs.Requirement.{result_and_then, result_map}
-use Rattle.speedate.specs.Strict.{strict_date_time_answer}
 use Rattle.speedate_c.specs.Code.{front_form, or_timestamp_form, strict_form, text_form}
 use Rattle.speedate_c.specs.Date.{date_of, shown_date}
 use Rattle.speedate_c.specs.Time.{attached_offset, time_of, shown_time}
-use Rattle.speedate_c.specs.Written.{Reading, front, whole}
+use Rattle.speedate_c.specs.Written.{Reading, reading}
 use Rattle.speedate_c.specs.declared.datetime.SpeedateDateTime.{SpeedateDateTime}
 
 -- the date-time of its date and its time, or the fault of one that is out of range: the date is
@@ -40,17 +40,16 @@ pub record IsInRanges (value : SpeedateDateTime) : Type 0 where
 abbrev pub shown_date_time : DateAndTime → SpeedateDateTime
 shown_date_time value = record { date = shown_date value.date; time = shown_time value.time }
 
--- how a form reads a text, where date-times have that form
+-- the form that a number asks for, where date-times have it, and the kind of calls that read so
+abbrev pub date_time_form : ℤ → Option (DateTimeForm × CallKind)
+date_time_form form =
+    if int_eq form text_form then Some (DateTimeForm.Text, CallKind.DateTime)
+    else (if int_eq form or_timestamp_form then Some (DateTimeForm.OrTimestamp, CallKind.DateTimeOrTimestamp)
+    else (if int_eq form strict_form then Some (DateTimeForm.Strict, CallKind.DateTimeStrict)
+    else (if int_eq form front_form then Some (DateTimeForm.Front, CallKind.DateTime)
+    else None)))
+
+-- how it reads a text
 abbrev pub date_time_reading : ℤ → Choices → List ℕ → Option (Reading DateAndTime)
 date_time_reading form chosen text =
-    if int_eq form text_form
-    then Some (whole text CallKind.DateTime (date_time_answer chosen.behavior text))
-    else (if int_eq form or_timestamp_form
-    then Some (whole text CallKind.DateTimeOrTimestamp
-    (date_time_or_timestamp chosen.unit chosen.behavior chosen.offset text))
-    else (if int_eq form strict_form
-    then Some (whole text CallKind.DateTimeStrict
-    (strict_date_time_answer chosen.behavior text))
-    else (if int_eq form front_form
-    then Some (front CallKind.DateTime (date_time_front chosen.behavior text))
-    else None)))
+    option_map (λ read. reading read.1 (date_time_by_form read.0 chosen text)) (date_time_form form)

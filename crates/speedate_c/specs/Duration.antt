@@ -6,9 +6,10 @@ use Rattle.speedate.specs.Config.{Choices}
 use Rattle.speedate.specs.Duration.{duration_answer, signed_amount}
 use Rattle.speedate_c.specs.Code.{text_form}
 use Rattle.speedate.specs.DurationNumbers.{DurationNumbers}
+use Rattle.speedate.specs.Form.{with_length}
 use Rattle.speedate.specs.Timestamp.{seconds_per_day}
 use Rattle.speedate.specs.Requirement.{NumberRow, ◌else_fault◌, first_fault_or}
-use Rattle.speedate_c.specs.Written.{Reading, whole, with_value}
+use Rattle.speedate_c.specs.Written.{Reading, reading, with_value}
 use Rattle.speedate_c.specs.declared.duration.SpeedateDuration.{SpeedateDuration}
 
 -- the numbers of a duration from outside, whatever they are
@@ -59,6 +60,6 @@ sum_after sum (duration ∷ durations) =
 abbrev pub duration_reading : ℤ → Choices → List ℕ → Option (Reading DurationNumbers)
 duration_reading form chosen text =
     if int_eq form text_form
-    then Some (whole text CallKind.Duration
-    (duration_answer chosen.order chosen.behavior text))
+    then Some (reading CallKind.Duration
+    (with_length text (duration_answer chosen.order chosen.behavior text)))
     else None

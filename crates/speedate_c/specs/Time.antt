@@ -1,15 +1,16 @@
 -- What a time from outside says, and how a time is written.
-use Rattle.std.specs.Prelude.{ℕ, ℤ, pos, negsuc, List, Option, Some, None, Result, if◌then◌else◌, ◌==◌}
+use Rattle.std.specs.Prelude.{ℕ, ℤ, pos, negsuc, List, Option, option_map, Some, None, Result, if◌then◌else◌, ◌==◌}
 use Rattle.std.specs.Ordering.{int_eq}
 use Rattle.speedate.specs.Base.{CallKind, ParseError}
 use Rattle.speedate.specs.Config.{Choices}
-use Rattle.speedate.specs.Strict.{strict_time_answer}
-use Rattle.speedate.specs.Time.{new_time_answer, time_answer, time_front, TimeOfDay}
+use Rattle.speedate.specs.Form.{time_by_form}
+use Rattle.speedate.specs.declared.TimeForm.{TimeForm}
+use Rattle.speedate.specs.Time.{new_time_answer, TimeOfDay}
 use Rattle.speedate.specs.declared.FractionDigits.{FractionDigits}
 use Rattle.speedate.specs.Requirement.{result_and_then, result_map}
 use Rattle.speedate_c.specs.Code.{front_form, strict_form, text_form}
 use Rattle.speedate_c.specs.Config.{offset_answer}
-use Rattle.speedate_c.specs.Written.{Reading, front, whole}
+use Rattle.speedate_c.specs.Written.{Reading, reading}
 use Rattle.speedate_c.specs.declared.time.SpeedateTime.{SpeedateTime}
 
 -- the time of its numbers, or the fault of the first that is out of range; the offset is looked at
@@ -53,13 +54,15 @@ fraction_digits_of number =
     then Some FractionDigits.Three
     else (if int_eq number (pos 6) then Some FractionDigits.Six else None))
 
--- how a form reads a text, where times have that form
+-- the form that a number asks for, where times have it, and the kind of calls that read so
+abbrev pub time_form : ℤ → Option (TimeForm × CallKind)
+time_form form =
+    if int_eq form text_form then Some (TimeForm.Text, CallKind.Time)
+    else (if int_eq form strict_form then Some (TimeForm.Strict, CallKind.TimeStrict)
+    else (if int_eq form front_form then Some (TimeForm.Front, CallKind.Time)
+    else None))
+
+-- how it reads a text
 abbrev pub time_reading : ℤ → Choices → List ℕ → Option (Reading TimeOfDay)
 time_reading form chosen text =
-    if int_eq form text_form
-    then Some (whole text CallKind.Time (time_answer chosen.behavior text))
-    else (if int_eq form strict_form
-    then Some (whole text CallKind.TimeStrict (strict_time_answer chosen.behavior text))
-    else (if int_eq form front_form
-    then Some (front CallKind.Time (time_front chosen.behavior text))
-    else None))
+    option_map (λ read. reading read.1 (time_by_form read.0 chosen text)) (time_form form)

@@ -5,7 +5,6 @@ use Rattle.speedate.specs.Base.{CallKind, ParseError}
 use Rattle.speedate.specs.declared.LineError.{LineError}
 use Rattle.speedate.specs.Part.{part_end}
 use Rattle.speedate.specs.declared.Refused.{Refused}
-use Rattle.speedate.specs.Requirement.{result_map}
 use Rattle.speedate_c.specs.Code.{buffer_too_small, fault_code, kind_number}
 use Rattle.speedate_c.specs.Code.{line_error_code, no_such_date, success}
 use Rattle.speedate_c.specs.declared.part.SpeedatePart.{SpeedatePart}
@@ -49,14 +48,8 @@ pub record Reading (A : Type 0) : Type 0 where
   pub answer : Result (A × ℕ) Refused
   pub kind : CallKind
 
--- how a form reads a text that is a value as a whole
-abbrev pub whole : {A : Type 0} → List ℕ → CallKind → Result A Refused → Reading A
-whole text kind answer =
-    record { answer = result_map (λ value. (value, length text)) answer; kind = kind }
-
--- how a form reads a value at the front of a text
-abbrev pub front : {A : Type 0} → CallKind → Result (A × ℕ) Refused → Reading A
-front kind answer = record { answer = answer; kind = kind }
+abbrev pub reading : {A : Type 0} → CallKind → Result (A × ℕ) Refused → Reading A
+reading kind answer = record { answer = answer; kind = kind }
 
 -- written of what was read: its value as C sees it
 abbrev pub written_front : {A B : Type 0} → (A → B) → B → Result (A × ℕ) Refused → ℤ × B

@@ -8,7 +8,7 @@ pub mod DateTimeLemmas
 pub mod DateTimeTimestampLemmas
 pub mod DateTimestampLemmas
 pub mod DayNumberLemmas
-mod FrontLemmas
+pub mod FrontLemmas
 mod FullClockLemmas
 pub mod InstantOrderLemmas
 pub mod NoControlLemmas

@@ -6,3 +6,4 @@ pub mod DateTime
 pub mod Time
 pub mod ParserParts
 pub mod Strict
+pub mod Form

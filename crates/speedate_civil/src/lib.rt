@@ -7,5 +7,6 @@
 
 pub mod date;
 pub mod datetime;
+pub mod form;
 pub mod text;
 pub mod time;

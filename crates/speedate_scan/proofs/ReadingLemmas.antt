@@ -1,10 +1,16 @@
 -- Texts that claim to be dates.
-use Rattle.std.proofs.Common.{◌≡◌, ◌≢◌, ℕ, ◌+◌, ◌==◌, Bool, true, false, ◌&&◌, nat_le, List, [], ◌∷◌, codes, slice_index, refl, arith, rules, Ok, if◌then◌else◌}
+use Rattle.std.proofs.Common.{◌≡◌, ◌≢◌, ◌≤◌, ℕ, ◌+◌, ◌==◌, Bool, true, false, ◌&&◌, nat_le, List, [], ◌∷◌, codes, slice_index, length, take, refl, arith, rules, Ok, if◌then◌else◌}
 use Rattle.std.proofs.lemmas.Bool.Decides.{nat_tests}
 use Rattle.speedate_base.specs.Digits.{eight_at, fit_length}
 use Rattle.speedate.specs.Base.{Behavior}
 use Rattle.speedate.specs.DateTime.{DateAndTime, date_time_front}
+use Rattle.speedate.specs.Refused.{placed}
+use Rattle.speedate.specs.Requirement.{fault_alone, first_fault_or}
+use Rattle.speedate.specs.Strict.{strict_date_time}
+use Rattle.speedate_base.proofs.RefusalLemmas.{refusal-all, refusal-ok}
+use Rattle.speedate_civil.proofs.FrontLemmas.{date_time_front-alone}
 use Rattle.speedate_scan.specs.Reading.{claims_date, left_bracket, length_before_value}
+use Rattle.speedate_scan.specs.Reading.{library_front, strict_front, strict_whole}
 
 -- five or more of nested tests hold if and only if the first five do
 five_of : (a b c d e : Bool) (n : ℕ)
@@ -38,3 +44,16 @@ pub date_time_claims : (behavior : Behavior) (text : List ℕ) (front : DateAndT
     → date_time_front behavior text ≡ Ok front → claims_date text ≡ true
 unfolding claims_date
 date_time_claims behavior text front read = search rules
+
+-- the date-time that the library reads at the front is that of RFC 3339, where its own text is one
+pub strict_is_front : (behavior : Behavior) (text : List ℕ) (front : DateAndTime × ℕ)
+    → library_front behavior text ≡ Ok front → front.1 ≤ length text
+    → first_fault_or {A = Unit {0}} (strict_date_time (take front.1 text)) (Ok tt) ≡ Ok tt
+    → strict_front behavior text ≡ Ok front
+unfolding library_front strict_whole strict_front
+strict_is_front behavior text front read within holds =
+    let alone = date_time_front-alone behavior text front read within in
+    let all = refusal-ok {A = Unit {0}} fault_alone (strict_date_time (take front.1 text)) (Ok tt) tt
+    holds in
+    let whole = refusal-all placed (strict_date_time (take front.1 text)) (Ok front.0) all.0 in
+    rw (read, alone, whole) refl

@@ -1,6 +1,6 @@
 //! What values are, and how a text is parsed as one.
 
-ghost use Rattle.std.specs.Prelude.{◌≡◌, ◌+◌, ◌≤◌, IfErr, IfOk, IfSome, Ok, Some, length, pos, true};
+ghost use Rattle.std.specs.Prelude.{◌≡◌, ◌+◌, ◌≤◌, ℕ, Err, IfErr, IfOk, IfSome, List, Ok, Result, Some, length, pos, true};
 ghost use Rattle.std.specs.Option.{ForSome};
 ghost use Rattle.speedate_base.specs.Offset.{IsOffset};
 ghost use Rattle.speedate_civil.specs.Time.{clock_parts, clock_with_offset, end_fault};
@@ -11,7 +11,9 @@ ghost use Rattle.speedate.specs.Base.{Behavior, IsoOrder};
 ghost use Rattle.speedate.specs.Config.{choices, time_choices};
 ghost use Rattle.speedate.specs.Requirement.{result_map, with_size};
 ghost use Rattle.speedate.specs.Date.{ymd};
-ghost use Rattle.speedate.specs.DateTime.{date_and_time};
+ghost use Rattle.speedate.specs.DateTime.{DateAndTime, date_and_time};
+ghost use Rattle.speedate.specs.Form.{with_length};
+ghost use Rattle.speedate.specs.declared.Refused.{Refused};
 ghost use Rattle.speedate_scan.specs.Reading.{front_of, midnight_front, midnight_of, midnight_whole};
 ghost use Rattle.speedate_scan.specs.Reading.{relaxed_front, relaxed_whole, strict_front};
 ghost use Rattle.speedate_scan.specs.Reading.{strict_whole, timestamp_front, timestamp_of};
@@ -20,11 +22,11 @@ ghost use Rattle.speedate_scan.specs.Reading.{past_64_bits, timestamp_whole, who
 use crate::timestamp::{has_number, number_length};
 use crate::zone::{late_zone, zone_front};
 use speedate::{
-    Date, DateTime, DateTimeConfig, IsoOrder, MicrosecondsPrecisionOverflowBehavior, ParseError,
-    Refused, Time, TimeConfig, TimestampUnit,
+    Date, DateConfig, DateForm, DateTime, DateTimeConfig, DateTimeForm, IsoOrder,
+    MicrosecondsPrecisionOverflowBehavior, ParseError, Refused, Time, TimeConfig, TimestampUnit,
 };
 use speedate_base::numbers::byte_at;
-use speedate_civil::datetime::{full_front, has_separator};
+use speedate_civil::datetime::{full_front, has_separator, require_standard_date_time};
 use speedate_civil::time::{PureTime, end_fault};
 
 /// What a value is.
@@ -176,7 +178,7 @@ fn date_and_clock(
     ensures size { IfOk result (λ front. 11 + front.1.size ≤ length text.now) }
     ensures within { IfErr result (λ refused. refused.place ≤ length text.now) }
 {
-    let date = match Date::parse_or_place_front(text) {
+    let date = match Date::parse_or_place(text, DateForm::Front, &DateConfig::default()) {
         Ok((date, _)) => date,
         Err(refused) => return Err(refused),
     };
@@ -295,6 +297,16 @@ fn whole_front(text: &[u8], value: DateTime, size: usize) -> Result<DateTime, Re
     Ok(value)
 }
 
+/// How the library reads a text that is no timestamp.
+fn texts(behavior: MicrosecondsPrecisionOverflowBehavior) -> DateTimeConfig
+    ensures behavior { (choices result).behavior ≡ behavior }
+{
+    DateTimeConfig {
+        timestamp_unit: TimestampUnit::Infer,
+        time_config: relaxed(behavior),
+    }
+}
+
 /// How the library reads a text as a Unix timestamp in UTC.
 fn timestamps(
     unit: TimestampUnit,
@@ -348,6 +360,20 @@ fn past_64_bits(text: &[u8]) -> Refused
     Refused { fault, place: 0 }
 }
 
+/// The value that the library read of a text as a whole.
+#[inline(always)]
+fn value_of(read: Result<(DateTime, usize), Refused>) -> Result<DateTime, Refused>
+    ensures value { (text : List ℕ) → (answer : Result DateAndTime Refused)
+        → result_map (with_size date_and_time) read ≡ with_length text answer
+        → result_map date_and_time result ≡ answer }
+    ensures same { IfErr result (λ refused. read ≡ Err refused) }
+{
+    match read {
+        Ok((value, _)) => Ok(value),
+        Err(refused) => Err(refused),
+    }
+}
+
 /// What the library reads of a text that is a number.
 fn library_timestamp(
     text: &[u8],
@@ -358,7 +384,12 @@ fn library_timestamp(
         ≡ date_time_or_timestamp unit behavior (Some (pos 0)) text.now }
     ensures within { IfErr result (λ refused. refused.place ≤ length text.now) }
 {
-    DateTime::parse_or_place(text, &timestamps(unit, behavior))
+    let config = timestamps(unit, behavior);
+    match DateTime::parse_bytes_with_config(text, &config) {
+        Ok(value) => Ok(value),
+        // Again, for the place.
+        Err(_) => value_of(DateTime::parse_or_place(text, DateTimeForm::OrTimestamp, &config)),
+    }
 }
 
 /// The date-time in UTC of the Unix timestamp at the front of a text, and how many bytes it takes.
@@ -406,7 +437,10 @@ fn library_front(
     ensures size { IfOk result (λ front. front.1 ≤ length text.now) }
     ensures within { IfErr result (λ refused. refused.place ≤ length text.now) }
 {
-    DateTime::parse_or_place_front(text, &relaxed(behavior))
+    match full_front(text) {
+        Some((value, size)) => Ok((value, size)),
+        None => DateTime::parse_or_place(text, DateTimeForm::Front, &texts(behavior)),
+    }
 }
 
 /// The date-time of RFC 3339 that a text is.
@@ -418,7 +452,7 @@ fn strict_whole(
     ensures whole { result_map date_and_time result ≡ strict_whole behavior text.now }
     ensures within { IfErr result (λ refused. refused.place ≤ length text.now) }
 {
-    DateTime::parse_or_place_strict(text, behavior)
+    value_of(DateTime::parse_or_place(text, DateTimeForm::Strict, &texts(behavior)))
 }
 
 /// The date-time at the front of a text, whose own text is one of RFC 3339 alone.
@@ -431,13 +465,18 @@ fn strict_front(
     ensures size { IfOk result (λ front. front.1 ≤ length text.now) }
     ensures within { IfErr result (λ refused. refused.place ≤ length text.now) }
 {
-    let (_, size) = match library_front(text, behavior) {
+    let (value, size) = match library_front(text, behavior) {
         Ok(front) => front,
         Err(refused) => return Err(refused),
     };
-    match strict_whole(&text[..size], behavior) {
-        Ok(value) => Ok((value, size)),
-        Err(refused) => Err(refused),
+    let own = &text[..size];
+    match require_standard_date_time(own) {
+        Ok(()) => Ok((value, size)),
+        // Again, for the place.
+        Err(_) => match strict_whole(own, behavior) {
+            Ok(value) => Ok((value, size)),
+            Err(refused) => Err(refused),
+        },
     }
 }
 
@@ -448,7 +487,7 @@ fn midnight_front(text: &[u8]) -> Result<(DateTime, usize), Refused>
     ensures size { IfOk result (λ front. front.1 ≤ length text.now) }
     ensures within { IfErr result (λ refused. refused.place ≤ length text.now) }
 {
-    match Date::parse_or_place_front(text) {
+    match Date::parse_or_place(text, DateForm::Front, &DateConfig::default()) {
         Ok((date, size)) => Ok((midnight_of(date), size)),
         Err(refused) => Err(refused),
     }
@@ -460,8 +499,8 @@ fn midnight_whole(text: &[u8]) -> Result<DateTime, Refused>
     ensures whole { result_map date_and_time result ≡ midnight_whole text.now }
     ensures within { IfErr result (λ refused. refused.place ≤ length text.now) }
 {
-    match Date::parse_or_place_rfc3339(text) {
-        Ok(date) => Ok(midnight_of(date)),
+    match Date::parse_or_place(text, DateForm::Text, &DateConfig::default()) {
+        Ok((date, _)) => Ok(midnight_of(date)),
         Err(refused) => Err(refused),
     }
 }

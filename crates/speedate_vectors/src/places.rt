@@ -1,7 +1,10 @@
 //! The places of errors: refused texts of each row of each table, and the byte at which the error lies.
 
 use crate::rows::{date_time_config, quoted, same, time_config, value, words};
-use speedate::{Date, DateConfig, DateTime, Duration, ParseError, Refused, Time, TimestampUnit};
+use speedate::{
+    Date, DateConfig, DateForm, DateTime, DateTimeConfig, DateTimeForm, Duration, ParseError,
+    Refused, Time, TimeForm, TimestampUnit,
+};
 use std::fmt::Debug;
 use std::process::Abort;
 
@@ -331,17 +334,38 @@ fn expect_both<T: PartialEq + Debug + Copy, R: Abort>(
     }
 }
 
+/// What a call gives that returns the size of the value too, which is that of the text.
+fn alone<T: Copy>(parsed: Result<T, ParseError>, text: &[u8]) -> Result<(T, usize), ParseError> {
+    match parsed {
+        Ok(value) => Ok((value, text.len())),
+        Err(fault) => Err(fault),
+    }
+}
+
 #[test]
 fn dates_or_places(rt: HostRuntime) {
+    let config = DateConfig::default();
     for row in DATES.lines() {
         let (_, text, wants) = quoted(&rt, row);
-        let [alone, relaxed, front, ..] = words(wants);
+        let [whole, relaxed, front, ..] = words(wants);
         let text = text.as_bytes();
-        let found = Date::parse_or_place_rfc3339(text);
-        expect_both(&rt, found, Date::parse_bytes_rfc3339(text), alone, row);
-        let found = Date::parse_or_place(text, &DateConfig::default());
-        expect_both(&rt, found, Date::parse_bytes(text), relaxed, row);
-        let found = Date::parse_or_place_front(text);
+        let found = Date::parse_or_place(text, DateForm::Text, &config);
+        expect_both(
+            &rt,
+            found,
+            alone(Date::parse_bytes_rfc3339(text), text),
+            whole,
+            row,
+        );
+        let found = Date::parse_or_place(text, DateForm::OrTimestamp, &config);
+        expect_both(
+            &rt,
+            found,
+            alone(Date::parse_bytes(text), text),
+            relaxed,
+            row,
+        );
+        let found = Date::parse_or_place(text, DateForm::Front, &config);
         expect_both(&rt, found, Date::parse_front(text), front, row);
     }
 }
@@ -352,21 +376,57 @@ fn times_or_places(rt: HostRuntime) {
         let (behavior, text, wants) = quoted(&rt, row);
         let [relaxed, strict, front, ..] = words(wants);
         let (text, config) = (text.as_bytes(), time_config(&rt, behavior));
-        let parsed = Time::parse_bytes_with_config(text, &config);
-        expect_both(
-            &rt,
-            Time::parse_or_place(text, &config),
-            parsed,
-            relaxed,
-            row,
-        );
-        let parsed = Time::parse_bytes_strict(text, value(&rt, behavior));
-        let found = Time::parse_or_place_strict(text, value(&rt, behavior));
+        let parsed = alone(Time::parse_bytes_with_config(text, &config), text);
+        let found = Time::parse_or_place(text, TimeForm::Text, &config);
+        expect_both(&rt, found, parsed, relaxed, row);
+        let parsed = alone(Time::parse_bytes_strict(text, value(&rt, behavior)), text);
+        let found = Time::parse_or_place(text, TimeForm::Strict, &config);
         expect_both(&rt, found, parsed, strict, row);
-        let parsed = Time::parse_front(text, &config);
-        expect_both(
+        let found = Time::parse_or_place(text, TimeForm::Front, &config);
+        expect_both(&rt, found, Time::parse_front(text, &config), front, row);
+    }
+}
+
+/// The size of the value, or the place of the error, by itself too.
+fn expect_date_time<R: Abort>(
+    rt: &R,
+    (text, form, config): (&[u8], DateTimeForm, &DateTimeConfig),
+    parsed: Result<(DateTime, usize), ParseError>,
+    want: &str,
+    row: &str,
+) {
+    let found = DateTime::parse_or_place(text, form, config);
+    let size_or_place = match found {
+        Ok((_, size)) => size,
+        Err(refused) => refused.place,
+    };
+    same(
+        rt,
+        DateTime::size_or_place(text, form, config),
+        size_or_place,
+        row,
+    );
+    expect_both(rt, found, parsed, want, row);
+}
+
+#[test]
+fn date_times_or_places(rt: HostRuntime) {
+    for row in DATE_TIMES.lines() {
+        let (behavior, text, wants) = quoted(&rt, row);
+        let [relaxed, strict, front, ..] = words(wants);
+        let time_config = time_config(&rt, behavior);
+        let text = text.as_bytes();
+        let config = DateTimeConfig::builder().time_config(time_config).build();
+        let parsed = DateTime::parse_bytes_rfc3339_with_config(text, &config.time_config);
+        let call = (text, DateTimeForm::Text, &config);
+        expect_date_time(&rt, call, alone(parsed, text), relaxed, row);
+        let parsed = DateTime::parse_bytes_strict(text, value(&rt, behavior));
+        let call = (text, DateTimeForm::Strict, &config);
+        expect_date_time(&rt, call, alone(parsed, text), strict, row);
+        let parsed = DateTime::parse_front(text, &config.time_config);
+        expect_date_time(
             &rt,
-            Time::parse_or_place_front(text, &config),
+            (text, DateTimeForm::Front, &config),
             parsed,
             front,
             row,
@@ -375,36 +435,13 @@ fn times_or_places(rt: HostRuntime) {
 }
 
 #[test]
-fn date_times_or_places(rt: HostRuntime) {
-    for row in DATE_TIMES.lines() {
-        let (behavior, text, wants) = quoted(&rt, row);
-        let [relaxed, strict, front, ..] = words(wants);
-        let (text, config) = (text.as_bytes(), time_config(&rt, behavior));
-        let parsed = DateTime::parse_bytes_rfc3339_with_config(text, &config);
-        let found = DateTime::parse_or_place_rfc3339(text, &config);
-        expect_both(&rt, found, parsed, relaxed, row);
-        let parsed = DateTime::parse_bytes_strict(text, value(&rt, behavior));
-        let found = DateTime::parse_or_place_strict(text, value(&rt, behavior));
-        expect_both(&rt, found, parsed, strict, row);
-        let parsed = DateTime::parse_front(text, &config);
-        let found = DateTime::parse_or_place_front(text, &config);
-        expect_both(&rt, found, parsed, front, row);
-    }
-}
-
-#[test]
 fn timestamps_or_places(rt: HostRuntime) {
     for row in TIMESTAMPS.lines() {
         let (config, text, want) = quoted(&rt, row);
         let (text, config) = (text.as_bytes(), date_time_config(&rt, config.trim()));
-        let parsed = DateTime::parse_bytes_with_config(text, &config);
-        expect_both(
-            &rt,
-            DateTime::parse_or_place(text, &config),
-            parsed,
-            want,
-            row,
-        );
+        let parsed = alone(DateTime::parse_bytes_with_config(text, &config), text);
+        let call = (text, DateTimeForm::OrTimestamp, &config);
+        expect_date_time(&rt, call, parsed, want, row);
     }
 }
 

@@ -14,13 +14,14 @@ ghost use Rattle.speedate.specs.ColumnText.{IsShownLine, date_time_line};
 use super::{LINE_MAX, LineError, LinePrinter, LineReader};
 use arrayvec::ArrayString;
 use speedate_base::config::{
-    DateTimeConfig, IsoOrder, MicrosecondsPrecisionOverflowBehavior, TimeConfig,
+    DateTimeConfig, IsoOrder, MicrosecondsPrecisionOverflowBehavior, TimeConfig, TimestampUnit,
 };
 use speedate_base::faults::ParseError;
 use speedate_base::util::UnixTime;
 use speedate_civil::datetime::{
     DateTime, require_standard_date_time, timestamp_instant, utc_front,
 };
+use speedate_civil::form::DateTimeForm;
 
 /// How a column parses its date-times: `DateTimeParser::Text(TimeConfig::default())` takes
 /// `1970-01-01T00:00Z`, and refuses `0`.
@@ -91,12 +92,19 @@ impl DateTimeParser {
     pub(super) fn error_place(&self, line: &[u8]) -> usize
         ensures place { result ≡ date_time_place self.now line.now }
     {
-        let place = match self {
-            DateTimeParser::Text(config) => DateTime::error_place_rfc3339(line, config),
-            DateTimeParser::OrTimestamp(config) => DateTime::error_place(line, config),
-            DateTimeParser::Strict(behavior) => DateTime::error_place_strict(line, *behavior),
+        let config = DateTimeConfig {
+            timestamp_unit: TimestampUnit::Infer,
+            time_config: self.text_config(),
         };
-        place.unwrap_or(line.len())
+        match self {
+            DateTimeParser::Text(_) => DateTime::size_or_place(line, DateTimeForm::Text, &config),
+            DateTimeParser::OrTimestamp(config) => {
+                DateTime::size_or_place(line, DateTimeForm::OrTimestamp, config)
+            }
+            DateTimeParser::Strict(_) => {
+                DateTime::size_or_place(line, DateTimeForm::Strict, &config)
+            }
+        }
     }
 
     /// Whether a line that is a date-time is one for this parser.

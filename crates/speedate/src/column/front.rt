@@ -2,8 +2,9 @@
 
 use super::date_time::utc_number;
 use super::{LineError, LineReader};
-use speedate_base::config::TimeConfig;
+use speedate_base::config::{DateTimeConfig, TimeConfig, TimestampUnit};
 use speedate_civil::datetime::DateTime;
+use speedate_civil::form::DateTimeForm;
 
 /// The date-time at the front of a line: 1,000,000 and 20 for `1970-01-01T00:00:01Z GET /`.
 #[repr(C)]
@@ -54,9 +55,10 @@ impl LineReader for DateTimeFrontReader {
     }
 
     fn error_place(&self, line: &[u8]) -> usize {
-        match DateTime::parse_or_place_front(line, &self.config) {
-            Ok((_, size)) => size,
-            Err(refused) => refused.place,
-        }
+        let config = DateTimeConfig {
+            timestamp_unit: TimestampUnit::Infer,
+            time_config: self.config,
+        };
+        DateTime::size_or_place(line, DateTimeForm::Front, &config)
     }
 }

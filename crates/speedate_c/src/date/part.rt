@@ -6,15 +6,15 @@ ghost use Rattle.speedate.specs.Config.{choices};
 ghost use Rattle.speedate.specs.Date.{date_or_timestamp, ymd, ◌gives◌};
 ghost use Rattle.speedate_c.specs.Code.{config_out_of_range};
 ghost use Rattle.speedate_c.specs.Config.{choices_of};
-ghost use Rattle.speedate_c.specs.Date.{date_reading, shown_date};
+ghost use Rattle.speedate_c.specs.Date.{date_form, date_reading, shown_date};
 ghost use Rattle.speedate_c.specs.Written.{no_part, part_beside, with_option};
 ghost use Rattle.speedate_c.specs.Written.{written_front, written_part};
 
 use super::SpeedateDate;
 use crate::code::{CONFIG_OUT_OF_RANGE, FRONT, OR_TIMESTAMP, SUCCESS, TEXT};
 use crate::config::SpeedateConfig;
-use crate::part::{NO_PART, SpeedatePart, whole, write_part};
-use speedate::{CallKind, Date, DateConfig, DateTimeConfig, Refused};
+use crate::part::{NO_PART, SpeedatePart, write_part};
+use speedate::{CallKind, Date, DateConfig, DateForm, DateTimeConfig, Refused};
 
 /// Parses a date in a form, under a configuration, and writes the part for which the text is refused:
 /// 5 to 7 for `2020-13-01`. The part of an accepted text is from 0 to the end of its value; there is none for
@@ -46,7 +46,6 @@ pub extern "C" fn speedate_date_parse_or_part(
 
 /// Parses a date in a form, if the type has it, and writes its part.
 #[inline(always)]
-#[tactic(auto, using(crate::proofs::PartLemmas::whole_seen))]
 fn parse_form(
     text: &[u8],
     form: i32,
@@ -62,44 +61,33 @@ fn parse_form(
         ≡ with_option (date_reading form (choices config.now) text.now) no_part
         (λ reading. written_part text.now reading) }
 {
-    match form {
-        TEXT => write_front(
-            whole(Date::parse_or_place_rfc3339(text), text),
-            CallKind::Date,
-            text,
-            out,
-            part,
-        ),
-        OR_TIMESTAMP => write_front(
-            whole(date_or_timestamp(text, config), text),
-            CallKind::DateOrTimestamp,
-            text,
-            out,
-            part,
-        ),
-        FRONT => write_front(
-            Date::parse_or_place_front(text),
-            CallKind::Date,
-            text,
-            out,
-            part,
-        ),
-        _ => {
-            *part = NO_PART;
-            CONFIG_OUT_OF_RANGE
-        }
-    }
-}
-
-/// Parses a date, or the date of a timestamp in its place, by the unit of a configuration of date-times.
-#[inline(always)]
-fn date_or_timestamp(text: &[u8], config: &DateTimeConfig) -> Result<Date, Refused>
-    ensures answer { result gives date_or_timestamp (choices config.now).unit text.now }
-{
-    let config = DateConfig {
+    let Some(read) = form_of(form) else {
+        *part = NO_PART;
+        return CONFIG_OUT_OF_RANGE;
+    };
+    let dates = DateConfig {
         timestamp_unit: config.timestamp_unit,
     };
-    Date::parse_or_place(text, &config)
+    write_front(
+        Date::parse_or_place(text, read.0, &dates),
+        read.1,
+        text,
+        out,
+        part,
+    )
+}
+
+/// The form that a number asks for, if dates have it, and the kind of calls that read so.
+#[inline(always)]
+fn form_of(form: i32) -> Option<(DateForm, CallKind)>
+    ensures form { result ≡ date_form form }
+{
+    match form {
+        TEXT => Some((DateForm::Text, CallKind::Date)),
+        OR_TIMESTAMP => Some((DateForm::OrTimestamp, CallKind::DateOrTimestamp)),
+        FRONT => Some((DateForm::Front, CallKind::Date)),
+        _ => None,
+    }
 }
 
 /// Writes the date that a call of a kind read, with its size as the part's end, or the part for which the call

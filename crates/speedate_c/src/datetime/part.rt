@@ -6,15 +6,15 @@ ghost use Rattle.speedate.specs.Requirement.{result_map, with_size};
 ghost use Rattle.speedate.specs.DateTime.{date_and_time};
 ghost use Rattle.speedate_c.specs.Code.{config_out_of_range};
 ghost use Rattle.speedate_c.specs.Config.{choices_of};
-ghost use Rattle.speedate_c.specs.DateTime.{date_time_reading, shown_date_time};
+ghost use Rattle.speedate_c.specs.DateTime.{date_time_form, date_time_reading, shown_date_time};
 ghost use Rattle.speedate_c.specs.Written.{no_part, part_beside, with_option};
 ghost use Rattle.speedate_c.specs.Written.{written_front, written_part};
 
 use super::SpeedateDateTime;
 use crate::code::{CONFIG_OUT_OF_RANGE, FRONT, OR_TIMESTAMP, STRICT, SUCCESS, TEXT};
 use crate::config::SpeedateConfig;
-use crate::part::{NO_PART, SpeedatePart, whole, write_part};
-use speedate::{CallKind, DateTime, DateTimeConfig, Refused};
+use crate::part::{NO_PART, SpeedatePart, write_part};
+use speedate::{CallKind, DateTime, DateTimeConfig, DateTimeForm, Refused};
 
 /// Parses a date-time in a form, under a configuration, and writes the part for which the text is refused:
 /// 17 to 19 for `2020-02-29T12:13:60`. The part of an accepted text is from 0 to the end of its value; there is none for
@@ -46,7 +46,6 @@ pub extern "C" fn speedate_datetime_parse_or_part(
 
 /// Parses a date-time in a form, if the type has it, and writes its part.
 #[inline(always)]
-#[tactic(auto, using(crate::proofs::PartLemmas::whole_seen))]
 fn parse_form(
     text: &[u8],
     form: i32,
@@ -62,45 +61,30 @@ fn parse_form(
         ≡ with_option (date_time_reading form (choices config.now) text.now) no_part
         (λ reading. written_part text.now reading) }
 {
+    let Some(read) = form_of(form) else {
+        *part = NO_PART;
+        return CONFIG_OUT_OF_RANGE;
+    };
+    write_front(
+        DateTime::parse_or_place(text, read.0, config),
+        read.1,
+        text,
+        out,
+        part,
+    )
+}
+
+/// The form that a number asks for, if date-times have it, and the kind of calls that read so.
+#[inline(always)]
+fn form_of(form: i32) -> Option<(DateTimeForm, CallKind)>
+    ensures form { result ≡ date_time_form form }
+{
     match form {
-        TEXT => write_front(
-            whole(
-                DateTime::parse_or_place_rfc3339(text, &config.time_config),
-                text,
-            ),
-            CallKind::DateTime,
-            text,
-            out,
-            part,
-        ),
-        OR_TIMESTAMP => write_front(
-            whole(DateTime::parse_or_place(text, config), text),
-            CallKind::DateTimeOrTimestamp,
-            text,
-            out,
-            part,
-        ),
-        STRICT => {
-            let behavior = config.time_config.microseconds_precision_overflow_behavior;
-            write_front(
-                whole(DateTime::parse_or_place_strict(text, behavior), text),
-                CallKind::DateTimeStrict,
-                text,
-                out,
-                part,
-            )
-        }
-        FRONT => write_front(
-            DateTime::parse_or_place_front(text, &config.time_config),
-            CallKind::DateTime,
-            text,
-            out,
-            part,
-        ),
-        _ => {
-            *part = NO_PART;
-            CONFIG_OUT_OF_RANGE
-        }
+        TEXT => Some((DateTimeForm::Text, CallKind::DateTime)),
+        OR_TIMESTAMP => Some((DateTimeForm::OrTimestamp, CallKind::DateTimeOrTimestamp)),
+        STRICT => Some((DateTimeForm::Strict, CallKind::DateTimeStrict)),
+        FRONT => Some((DateTimeForm::Front, CallKind::DateTime)),
+        _ => None,
     }
 }
 

@@ -6,15 +6,15 @@ ghost use Rattle.speedate.specs.Requirement.{result_map, with_size};
 ghost use Rattle.speedate.specs.Time.{time_of_day};
 ghost use Rattle.speedate_c.specs.Code.{config_out_of_range};
 ghost use Rattle.speedate_c.specs.Config.{choices_of};
-ghost use Rattle.speedate_c.specs.Time.{shown_time, time_reading};
+ghost use Rattle.speedate_c.specs.Time.{time_form, shown_time, time_reading};
 ghost use Rattle.speedate_c.specs.Written.{no_part, part_beside, with_option};
 ghost use Rattle.speedate_c.specs.Written.{written_front, written_part};
 
 use super::SpeedateTime;
 use crate::code::{CONFIG_OUT_OF_RANGE, FRONT, STRICT, SUCCESS, TEXT};
 use crate::config::SpeedateConfig;
-use crate::part::{NO_PART, SpeedatePart, whole, write_part};
-use speedate::{CallKind, DateTimeConfig, Refused, Time};
+use crate::part::{NO_PART, SpeedatePart, write_part};
+use speedate::{CallKind, DateTimeConfig, Refused, Time, TimeForm};
 
 /// Parses a time in a form, under a configuration, and writes the part for which the text is refused:
 /// 6 to 8 for `12:13:60`. The part of an accepted text is from 0 to the end of its value; there is none for
@@ -46,7 +46,6 @@ pub extern "C" fn speedate_time_parse_or_part(
 
 /// Parses a time in a form, if the type has it, and writes its part.
 #[inline(always)]
-#[tactic(auto, using(crate::proofs::PartLemmas::whole_seen))]
 fn parse_form(
     text: &[u8],
     form: i32,
@@ -62,35 +61,29 @@ fn parse_form(
         ≡ with_option (time_reading form (choices config.now) text.now) no_part
         (λ reading. written_part text.now reading) }
 {
+    let Some(read) = form_of(form) else {
+        *part = NO_PART;
+        return CONFIG_OUT_OF_RANGE;
+    };
+    write_front(
+        Time::parse_or_place(text, read.0, &config.time_config),
+        read.1,
+        text,
+        out,
+        part,
+    )
+}
+
+/// The form that a number asks for, if times have it, and the kind of calls that read so.
+#[inline(always)]
+fn form_of(form: i32) -> Option<(TimeForm, CallKind)>
+    ensures form { result ≡ time_form form }
+{
     match form {
-        TEXT => write_front(
-            whole(Time::parse_or_place(text, &config.time_config), text),
-            CallKind::Time,
-            text,
-            out,
-            part,
-        ),
-        STRICT => {
-            let behavior = config.time_config.microseconds_precision_overflow_behavior;
-            write_front(
-                whole(Time::parse_or_place_strict(text, behavior), text),
-                CallKind::TimeStrict,
-                text,
-                out,
-                part,
-            )
-        }
-        FRONT => write_front(
-            Time::parse_or_place_front(text, &config.time_config),
-            CallKind::Time,
-            text,
-            out,
-            part,
-        ),
-        _ => {
-            *part = NO_PART;
-            CONFIG_OUT_OF_RANGE
-        }
+        TEXT => Some((TimeForm::Text, CallKind::Time)),
+        STRICT => Some((TimeForm::Strict, CallKind::TimeStrict)),
+        FRONT => Some((TimeForm::Front, CallKind::Time)),
+        _ => None,
     }
 }
 

@@ -2,10 +2,12 @@
 
 ghost use Rattle.std.specs.Prelude.{◌≡◌, ◌≤◌, IfErr, IfOk, IfSome, length};
 ghost use Rattle.speedate_base.specs.Refused.{refused_place};
+ghost use Rattle.speedate_civil.specs.Form.{date_by_form};
 ghost use Rattle.speedate_civil.specs.Date.{◌gives◌, ◌gives_front◌, date_answer, date_front};
 ghost use Rattle.speedate_civil.specs.Date.{date_or_timestamp};
 
 use super::Date;
+use crate::form::DateForm;
 use speedate_base::config::DateConfig;
 use speedate_base::refusal::Refused;
 
@@ -48,47 +50,39 @@ impl Date {
         Refused::place_of(Self::front(bytes))
     }
 
-    /// Parses a date as [`Date::parse_bytes_with_config`] does, and gives the place of the error too, as
-    /// [`Date::error_place`] does: 29 February 2020 from `b"2020-02-29"`.
+    /// Parses a date in a form, and gives how many bytes it takes; or the error with the place at which it lies:
+    /// 29 February 2020 and 10 from `b"2020-02-29"` with `DateForm::Text`.
+    ///
+    /// The value is that of [`Date::parse_bytes_rfc3339`], or with `OrTimestamp` or `Front` that of
+    /// [`Date::parse_bytes_with_config`] or [`Date::parse_front`]. Only timestamps need the configuration.
     ///
     /// # Errors
     ///
-    /// Those of [`Date::parse_bytes_with_config`], each with its place: `OutOfRangeMonth` and 5 for
-    /// `b"2020-13-01"`.
+    /// Those of the same calls, each with [its place](docs/GRAMMAR.md#the-place-of-an-error): `OutOfRangeMonth`
+    /// and 5 for `b"2020-13-01"`.
+    #[inline(always)]
     #[tactic(auto, using(speedate_base::proofs::RefusalLemmas::seen_placed))]
-    pub fn parse_or_place(bytes: &[u8], config: &DateConfig) -> Result<Self, Refused>
+    pub fn parse_or_place(
+        bytes: &[u8],
+        form: DateForm,
+        config: &DateConfig,
+    ) -> Result<(Self, usize), Refused>
         ensures answer { result
-            gives date_or_timestamp config.now.timestamp_unit bytes.now }
-        ensures within { IfErr result (λ refused. refused.place ≤ length bytes.now) }
-    {
-        Self::whole_or_timestamp(bytes, config)
-    }
-
-    /// Parses a date as [`Date::parse_bytes_rfc3339`] does, and gives the place of the error too, as
-    /// [`Date::error_place_rfc3339`] does: 29 February 2020 from `b"2020-02-29"`.
-    ///
-    /// # Errors
-    ///
-    /// Those of [`Date::parse_bytes_rfc3339`], each with its place: `ExtraCharacters` and 10 for
-    /// `b"2020-01-01T12:13"`.
-    pub fn parse_or_place_rfc3339(bytes: &[u8]) -> Result<Self, Refused>
-        ensures answer { result gives date_answer bytes.now }
-        ensures within { IfErr result (λ refused. refused.place ≤ length bytes.now) }
-    {
-        Self::whole(bytes)
-    }
-
-    /// Parses the date at the front of a text as [`Date::parse_front`] does, and gives the place of the error
-    /// too, as [`Date::error_place_front`] does: 22 November 2026 and 10 from `b"2026-11-22 rent"`.
-    ///
-    /// # Errors
-    ///
-    /// Those of [`Date::parse_front`], each with its place: `TooShort` and 9 for `b"2026-11-2"`.
-    pub fn parse_or_place_front(bytes: &[u8]) -> Result<(Self, usize), Refused>
-        ensures answer { result gives_front date_front bytes.now }
+            gives_front date_by_form form config.now.timestamp_unit bytes.now }
         ensures within { IfErr result (λ refused. refused.place ≤ length bytes.now) }
         ensures size { IfOk result (λ front. front.1 ≤ length bytes.now) }
     {
-        Self::front(bytes)
+        let front = Self::front(bytes);
+        if form == DateForm::Front {
+            return front;
+        }
+        let value = match Self::alone(front, bytes) {
+            Ok(value) => value,
+            Err(refused) if form == DateForm::OrTimestamp => {
+                Self::parse_timestamp(bytes, refused, config)?
+            }
+            Err(refused) => return Err(refused),
+        };
+        Ok((value, bytes.len()))
     }
 }

@@ -156,11 +156,32 @@ impl Date {
         ensures answer { result gives seen_as E.refusal (date_answer bytes.now) }
         ensures placed { IfErr result (E.lies_within (length bytes.now)) }
     {
-        let (date, size) = Self::front::<E>(bytes)?;
-        if size != bytes.len() {
-            return Err(E::refuse_at(ParseError::ExtraCharacters, size));
+        Self::alone(Self::front::<E>(bytes), bytes)
+    }
+
+    /// The date at the front of a text, if nothing follows it.
+    #[inline(always)]
+    pub(super) fn alone<E: Refusal>(
+        front: Result<(Self, usize), E>,
+        bytes: &[u8],
+    ) -> Result<Self, E>
+        ensures answer { front gives_front seen_as E.refusal (date_front bytes.now)
+            → result gives seen_as E.refusal (date_answer bytes.now) }
+        ensures placed { IfOk front (λ front. front.1 ≤ length bytes.now)
+            → IfErr front (E.lies_within (length bytes.now))
+            → IfErr result (E.lies_within (length bytes.now)) }
+        ensures value { IfOk result (λ value. front ≡ Ok (value, length bytes.now)) }
+    {
+        match front {
+            Ok((date, size)) => {
+                if size == bytes.len() {
+                    Ok(date)
+                } else {
+                    Err(E::refuse_at(ParseError::ExtraCharacters, size))
+                }
+            }
+            Err(refusal) => Err(refusal),
         }
-        Ok(date)
     }
 
     /// Parses the date at the front of a text, and how many bytes it takes, whatever follows it.
@@ -249,12 +270,15 @@ impl Date {
     }
 
     /// Parses the timestamp that the bytes are, which are refused so as a date.
-    fn parse_timestamp<E: Refusal>(bytes: &[u8], refusal: E, config: &DateConfig) -> Result<Self, E>
+    pub(super) fn parse_timestamp<E: Refusal>(
+        bytes: &[u8],
+        refusal: E,
+        config: &DateConfig,
+    ) -> Result<Self, E>
         requires refused { seen_as E.refusal (date_answer bytes.now) ≡ Err refusal }
         requires placed { E.lies_within (length bytes.now) refusal }
-        ensures answer { result gives or_number (option_map (seen_as E.refusal)
-            (date_number_answer config.now.timestamp_unit (whole_number bytes.now)))
-            (Err refusal) }
+        ensures answer { result
+            gives seen_as E.refusal (date_or_timestamp config.now.timestamp_unit bytes.now) }
         ensures placed { IfErr result (E.lies_within (length bytes.now)) }
     {
         if !may_be_number(refusal.fault()) {

@@ -7,9 +7,11 @@ ghost use Rattle.speedate_base.specs.Refused.{refused_place};
 ghost use Rattle.speedate_civil.specs.DateTime.{date_time_answer};
 ghost use Rattle.speedate_civil.specs.DateTime.{date_time_by_config};
 ghost use Rattle.speedate_civil.specs.DateTime.{date_time_front, ◌gives◌, ◌gives_front◌};
+ghost use Rattle.speedate_civil.specs.Form.{DateTimeForm, date_time_by_form, size_or_place};
 ghost use Rattle.speedate_civil.specs.Strict.{strict_date_time_answer};
 
 use super::DateTime;
+use crate::form::DateTimeForm;
 use speedate_base::config::{DateTimeConfig, MicrosecondsPrecisionOverflowBehavior, TimeConfig};
 use speedate_base::refusal::Refused;
 
@@ -78,79 +80,79 @@ impl DateTime {
         Refused::place_of(Self::front(bytes, behavior))
     }
 
-    /// Parses a date-time as [`DateTime::parse_bytes_with_config`] does, and gives the place of the error too,
-    /// as [`DateTime::error_place`] does: 12:13 on 29 February 2020 from `b"2020-02-29T12:13"`.
+    /// Parses a date-time in a form, and gives how many bytes it takes; or the error with the place at which it
+    /// lies: 12:13 on 29 February 2020, and 16, from `b"2020-02-29T12:13"` with `DateTimeForm::Text`.
+    ///
+    /// The value is that of [`DateTime::parse_bytes_rfc3339_with_config`], or with `OrTimestamp`, `Strict` or
+    /// `Front` that of [`DateTime::parse_bytes_with_config`], [`DateTime::parse_bytes_strict`] or
+    /// [`DateTime::parse_front`]. Only timestamps need the unit and the offset of the configuration.
     ///
     /// # Errors
     ///
-    /// Those of [`DateTime::parse_bytes_with_config`], each with its place: `OutOfRangeSecond` and 17 for
-    /// `b"2020-02-29T12:13:60"`.
-    #[tactic(auto, using(speedate_base::proofs::RefusalLemmas::seen_placed))]
-    pub fn parse_or_place(bytes: &[u8], config: &DateTimeConfig) -> Result<Self, Refused>
-        ensures answer { result
-            gives date_time_by_config config.now bytes.now }
-        ensures within { IfErr result (λ refused. refused.place ≤ length bytes.now) }
-        ensures minutes { IsWholeMinutes (choices config.now).offset
-            → IfOk result (λ value. IsWholeMinutes value.time.tz_offset) }
-    {
-        Self::whole_or_timestamp(bytes, config)
-    }
-
-    /// Parses a date-time as [`DateTime::parse_bytes_rfc3339_with_config`] does, and gives the place of the
-    /// error too, as [`DateTime::error_place_rfc3339`] does: 12:13 on 29 February 2020 from
-    /// `b"2020-02-29T12:13"`.
-    ///
-    /// # Errors
-    ///
-    /// Those of [`DateTime::parse_bytes_rfc3339_with_config`], each with its place:
-    /// `InvalidCharDateTimeSep` and 10 for `b"2020-02-29"`.
-    #[tactic(auto, using(speedate_base::proofs::RefusalLemmas::seen_placed))]
-    pub fn parse_or_place_rfc3339(bytes: &[u8], config: &TimeConfig) -> Result<Self, Refused>
-        ensures answer { result
-            gives date_time_answer (time_choices config.now).behavior bytes.now }
-        ensures within { IfErr result (λ refused. refused.place ≤ length bytes.now) }
-        ensures minutes { IfOk result (λ value. IsWholeMinutes value.time.tz_offset) }
-    {
-        Self::parse_whole(bytes, config.microseconds_precision_overflow_behavior)
-    }
-
-    /// Parses a date-time as [`DateTime::parse_bytes_strict`] does, and gives the place of the error too, as
-    /// [`DateTime::error_place_strict`] does: 12:13:14 on 29 February 2020 in UTC from
-    /// `b"2020-02-29T12:13:14Z"`.
-    ///
-    /// # Errors
-    ///
-    /// Those of [`DateTime::parse_bytes_strict`], each with its place: `TzRequired` and 19 for
-    /// `b"2020-02-29T12:13:14"`.
-    #[tactic(auto, using(speedate_base::proofs::RefusalLemmas::seen_placed))]
-    pub fn parse_or_place_strict(
+    /// Those of the same calls, each with [its place](docs/GRAMMAR.md#the-place-of-an-error):
+    /// `OutOfRangeSecond` and 17 for `b"2020-02-29T12:13:60"`.
+    #[inline(always)]
+    pub fn parse_or_place(
         bytes: &[u8],
-        behavior: MicrosecondsPrecisionOverflowBehavior,
-    ) -> Result<Self, Refused>
+        form: DateTimeForm,
+        config: &DateTimeConfig,
+    ) -> Result<(Self, usize), Refused>
         ensures answer { result
-            gives strict_date_time_answer behavior bytes.now }
-        ensures within { IfErr result (λ refused. refused.place ≤ length bytes.now) }
-        ensures minutes { IfOk result (λ value. IsWholeMinutes value.time.tz_offset) }
-    {
-        Self::strict(bytes, behavior)
-    }
-
-    /// Parses the date-time at the front of a text as [`DateTime::parse_front`] does, and gives the place of
-    /// the error too, as [`DateTime::error_place_front`] does: 12:13:14 on 22 November 2026 and 19 from
-    /// `b"2026-11-22 12:13:14 GET /"`.
-    ///
-    /// # Errors
-    ///
-    /// Those of [`DateTime::parse_front`], each with its place: `InvalidCharTzHour` and 20 for
-    /// `b"2026-11-22T12:00:00-ERROR"`.
-    #[tactic(auto, using(speedate_base::proofs::RefusalLemmas::seen_placed))]
-    pub fn parse_or_place_front(bytes: &[u8], config: &TimeConfig) -> Result<(Self, usize), Refused>
-        ensures answer { result
-            gives_front date_time_front (time_choices config.now).behavior bytes.now }
+            gives_front date_time_by_form form (choices config.now) bytes.now }
         ensures within { IfErr result (λ refused. refused.place ≤ length bytes.now) }
         ensures size { IfOk result (λ front. front.1 ≤ length bytes.now) }
-        ensures minutes { IfOk result (λ front. IsWholeMinutes front.0.time.tz_offset) }
+        ensures minutes { (form ≡ DateTimeForm.OrTimestamp
+            → IsWholeMinutes (choices config.now).offset)
+            → IfOk result (λ front. IsWholeMinutes front.0.time.tz_offset) }
     {
-        Self::front(bytes, config.microseconds_precision_overflow_behavior)
+        Self::in_form::<0>(bytes, form, config)
+    }
+
+    /// The byte at which [`DateTime::parse_or_place`] has the error of a text, or at which the value ends of a
+    /// text that it accepts: 17 for `b"2020-02-29T12:13:60"`, and 16 for `b"2020-02-29T12:13"`. It has a copy of
+    /// that parser which is not inlined, for what is done after an error.
+    #[cold]
+    #[inline(never)]
+    pub fn size_or_place(bytes: &[u8], form: DateTimeForm, config: &DateTimeConfig) -> usize
+        ensures place { result
+            ≡ size_or_place (date_time_by_form form (choices config.now) bytes.now) }
+        ensures within { result ≤ length bytes.now }
+    {
+        match Self::in_form::<1>(bytes, form, config) {
+            Ok((_, size)) => size,
+            Err(refused) => refused.place,
+        }
+    }
+
+    /// The copy of [`DateTime::parse_or_place`] for one caller. A function with two is inlined into neither.
+    #[inline(always)]
+    #[tactic(auto, using(speedate_base::proofs::RefusalLemmas::seen_placed))]
+    fn in_form<const COPY: u8>(
+        bytes: &[u8],
+        form: DateTimeForm,
+        config: &DateTimeConfig,
+    ) -> Result<(Self, usize), Refused>
+        ensures answer { result
+            gives_front date_time_by_form form (choices config.now) bytes.now }
+        ensures within { IfErr result (λ refused. refused.place ≤ length bytes.now) }
+        ensures size { IfOk result (λ front. front.1 ≤ length bytes.now) }
+        ensures minutes { (form ≡ DateTimeForm.OrTimestamp
+            → IsWholeMinutes (choices config.now).offset)
+            → IfOk result (λ front. IsWholeMinutes front.0.time.tz_offset) }
+    {
+        let behavior = config.time_config.microseconds_precision_overflow_behavior;
+        let front = Self::front(bytes, behavior);
+        if form == DateTimeForm::Front {
+            return front;
+        }
+        let value = match Self::alone(front, bytes) {
+            Ok(value) if form == DateTimeForm::Strict => Self::standard(value, bytes)?,
+            Ok(value) => value,
+            Err(refused) if form == DateTimeForm::OrTimestamp => {
+                Self::parse_timestamp(bytes, refused, config)?
+            }
+            Err(refused) => return Err(refused),
+        };
+        Ok((value, bytes.len()))
     }
 }

@@ -249,11 +249,33 @@ impl DateTime {
         ensures minutes { IfOk result (λ value. IsWholeMinutes value.time.tz_offset) }
         ensures no_number { OnOk result (number_answer bytes.now ≡ NoNumber) }
     {
-        let (value, size) = Self::front::<E>(bytes, behavior)?;
-        if size != bytes.len() {
-            return Err(E::refuse_at(end_fault(value.time.tz_offset), size));
+        Self::alone(Self::front::<E>(bytes, behavior), bytes)
+    }
+
+    /// The date-time at the front of a text, if nothing follows it.
+    #[inline(always)]
+    pub(super) fn alone<E: Refusal>(
+        front: Result<(Self, usize), E>,
+        bytes: &[u8],
+    ) -> Result<Self, E>
+        ensures answer { (behavior : Behavior)
+            → front gives_front seen_as E.refusal (date_time_front behavior bytes.now)
+            → result gives seen_as E.refusal (date_time_answer behavior bytes.now) }
+        ensures placed { IfOk front (λ front. front.1 ≤ length bytes.now)
+            → IfErr front (E.lies_within (length bytes.now))
+            → IfErr result (E.lies_within (length bytes.now)) }
+        ensures value { IfOk result (λ value. front ≡ Ok (value, length bytes.now)) }
+    {
+        match front {
+            Ok((value, size)) => {
+                if size == bytes.len() {
+                    Ok(value)
+                } else {
+                    Err(E::refuse_at(end_fault(value.time.tz_offset), size))
+                }
+            }
+            Err(refusal) => Err(refusal),
         }
-        Ok(value)
     }
 
     /// Parses the date-time of RFC 3339 that takes all the bytes.
@@ -268,9 +290,27 @@ impl DateTime {
         ensures placed { IfErr result (E.lies_within (length bytes.now)) }
         ensures minutes { IfOk result (λ value. IsWholeMinutes value.time.tz_offset) }
     {
-        let value = Self::parse_whole::<E>(bytes, behavior)?;
-        require_strict::<E>(bytes)?;
-        Ok(value)
+        match Self::parse_whole::<E>(bytes, behavior) {
+            Ok(value) => Self::standard(value, bytes),
+            Err(refusal) => Err(refusal),
+        }
+    }
+
+    /// The date-time that a text is, if the text is one of RFC 3339.
+    #[inline(always)]
+    pub(super) fn standard<E: Refusal>(value: Self, bytes: &[u8]) -> Result<Self, E>
+        ensures answer { (behavior : Behavior)
+            → date_time_answer behavior bytes.now ≡ Ok (date_and_time value)
+            → result gives seen_as E.refusal (strict_date_time_answer behavior bytes.now) }
+        ensures placed { (behavior : Behavior)
+            → date_time_answer behavior bytes.now ≡ Ok (date_and_time value)
+            → IfErr result (E.lies_within (length bytes.now)) }
+        ensures same { IfOk result (λ read. read ≡ value) }
+    {
+        match require_strict::<E>(bytes) {
+            Ok(()) => Ok(value),
+            Err(refusal) => Err(refusal),
+        }
     }
 
     /// Parses the date-time at the front of a text, and how many bytes it takes, whatever follows it.

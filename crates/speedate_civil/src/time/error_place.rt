@@ -4,10 +4,12 @@ ghost use Rattle.std.specs.Prelude.{◌≡◌, ◌≤◌, IfErr, IfOk, IfSome, l
 ghost use Rattle.speedate_base.specs.Config.{time_choices};
 ghost use Rattle.speedate_base.specs.Offset.{IsWholeMinutes};
 ghost use Rattle.speedate_base.specs.Refused.{refused_place};
+ghost use Rattle.speedate_civil.specs.Form.{time_by_form};
 ghost use Rattle.speedate_civil.specs.Strict.{strict_time_answer};
 ghost use Rattle.speedate_civil.specs.Time.{time_answer, time_front, ◌gives◌, ◌gives_front◌};
 
 use super::Time;
+use crate::form::TimeForm;
 use speedate_base::config::{MicrosecondsPrecisionOverflowBehavior, TimeConfig};
 use speedate_base::refusal::Refused;
 
@@ -56,58 +58,36 @@ impl Time {
         Refused::place_of(Self::front(bytes, behavior))
     }
 
-    /// Parses a time as [`Time::parse_bytes_with_config`] does, and gives the place of the error too, as
-    /// [`Time::error_place`] does: 12:13:00 from `b"12:13"`.
+    /// Parses a time in a form, and gives how many bytes it takes; or the error with the place at which it lies:
+    /// 12:13:00 and 5 from `b"12:13"` with `TimeForm::Text`.
+    ///
+    /// The value is that of [`Time::parse_bytes_with_config`], or with `Strict` or `Front` that of
+    /// [`Time::parse_bytes_strict`] or [`Time::parse_front`].
     ///
     /// # Errors
     ///
-    /// Those of [`Time::parse_bytes_with_config`], each with its place: `OutOfRangeSecond` and 6 for
-    /// `b"12:13:60"`.
+    /// Those of the same calls, each with [its place](docs/GRAMMAR.md#the-place-of-an-error):
+    /// `OutOfRangeSecond` and 6 for `b"12:13:60"`.
+    #[inline(always)]
     #[tactic(auto, using(speedate_base::proofs::RefusalLemmas::seen_placed))]
-    pub fn parse_or_place(bytes: &[u8], config: &TimeConfig) -> Result<Self, Refused>
-        ensures answer { result
-            gives time_answer (time_choices config.now).behavior bytes.now }
-        ensures within { IfErr result (λ refused. refused.place ≤ length bytes.now) }
-        ensures minutes { IfOk result (λ value. IsWholeMinutes value.tz_offset) }
-    {
-        Self::parse_whole(bytes, config.microseconds_precision_overflow_behavior)
-    }
-
-    /// Parses a time as [`Time::parse_bytes_strict`] does, and gives the place of the error too, as
-    /// [`Time::error_place_strict`] does: 12:13:14 in UTC from `b"12:13:14Z"`.
-    ///
-    /// # Errors
-    ///
-    /// Those of [`Time::parse_bytes_strict`], each with its place: `InvalidCharTimeSep` and 5 for
-    /// `b"12:13"`.
-    #[tactic(auto, using(speedate_base::proofs::RefusalLemmas::seen_placed))]
-    pub fn parse_or_place_strict(
+    pub fn parse_or_place(
         bytes: &[u8],
-        behavior: MicrosecondsPrecisionOverflowBehavior,
-    ) -> Result<Self, Refused>
+        form: TimeForm,
+        config: &TimeConfig,
+    ) -> Result<(Self, usize), Refused>
         ensures answer { result
-            gives strict_time_answer behavior bytes.now }
-        ensures within { IfErr result (λ refused. refused.place ≤ length bytes.now) }
-        ensures minutes { IfOk result (λ value. IsWholeMinutes value.tz_offset) }
-    {
-        Self::strict(bytes, behavior)
-    }
-
-    /// Parses the time at the front of a text as [`Time::parse_front`] does, and gives the place of the error
-    /// too, as [`Time::error_place_front`] does: 12:13:14 and 8 from `b"12:13:14 GET /"`.
-    ///
-    /// # Errors
-    ///
-    /// Those of [`Time::parse_front`], each with its place: `InvalidCharTzHour` and 9 for
-    /// `b"12:00:00-ERROR"`.
-    #[tactic(auto, using(speedate_base::proofs::RefusalLemmas::seen_placed))]
-    pub fn parse_or_place_front(bytes: &[u8], config: &TimeConfig) -> Result<(Self, usize), Refused>
-        ensures answer { result
-            gives_front time_front (time_choices config.now).behavior bytes.now }
+            gives_front time_by_form form (time_choices config.now) bytes.now }
         ensures within { IfErr result (λ refused. refused.place ≤ length bytes.now) }
         ensures size { IfOk result (λ front. front.1 ≤ length bytes.now) }
         ensures minutes { IfOk result (λ front. IsWholeMinutes front.0.tz_offset) }
     {
-        Self::front(bytes, config.microseconds_precision_overflow_behavior)
+        let front = Self::front(bytes, config.microseconds_precision_overflow_behavior);
+        let value = match Self::alone(front, bytes) {
+            Ok(value) if form == TimeForm::Strict => Self::standard(value, bytes)?,
+            Ok(value) => value,
+            Err(_) if form == TimeForm::Front => return front,
+            Err(refused) => return Err(refused),
+        };
+        Ok((value, bytes.len()))
     }
 }

@@ -158,11 +158,33 @@ impl Time {
         ensures placed { IfErr result (E.lies_within (length bytes.now)) }
         ensures minutes { IfOk result (λ time. IsWholeMinutes time.tz_offset) }
     {
-        let (time, size) = Self::front::<E>(bytes, behavior)?;
-        if size != bytes.len() {
-            return Err(E::refuse_at(end_fault(time.tz_offset), size));
+        Self::alone(Self::front::<E>(bytes, behavior), bytes)
+    }
+
+    /// The time at the front of a text, if nothing follows it.
+    #[inline(always)]
+    pub(super) fn alone<E: Refusal>(
+        front: Result<(Self, usize), E>,
+        bytes: &[u8],
+    ) -> Result<Self, E>
+        ensures answer { (behavior : Behavior)
+            → front gives_front seen_as E.refusal (time_front behavior bytes.now)
+            → result gives seen_as E.refusal (time_answer behavior bytes.now) }
+        ensures placed { IfOk front (λ front. front.1 ≤ length bytes.now)
+            → IfErr front (E.lies_within (length bytes.now))
+            → IfErr result (E.lies_within (length bytes.now)) }
+        ensures value { IfOk result (λ value. front ≡ Ok (value, length bytes.now)) }
+    {
+        match front {
+            Ok((time, size)) => {
+                if size == bytes.len() {
+                    Ok(time)
+                } else {
+                    Err(E::refuse_at(end_fault(time.tz_offset), size))
+                }
+            }
+            Err(refusal) => Err(refusal),
         }
-        Ok(time)
     }
 
     /// Parses the time at the front of a text, and how many bytes it takes, whatever follows it.
@@ -231,9 +253,27 @@ impl Time {
         ensures placed { IfErr result (E.lies_within (length bytes.now)) }
         ensures minutes { IfOk result (λ time. IsWholeMinutes time.tz_offset) }
     {
-        let time = Self::parse_whole::<E>(bytes, behavior)?;
-        Self::require_strict::<E>(bytes, 0)?;
-        Ok(time)
+        match Self::parse_whole::<E>(bytes, behavior) {
+            Ok(time) => Self::standard(time, bytes),
+            Err(refusal) => Err(refusal),
+        }
+    }
+
+    /// The time that a text is, if the text is one of RFC 3339.
+    #[inline(always)]
+    pub(super) fn standard<E: Refusal>(time: Self, bytes: &[u8]) -> Result<Self, E>
+        ensures answer { (behavior : Behavior)
+            → time_answer behavior bytes.now ≡ Ok (time_of_day time)
+            → result gives seen_as E.refusal (strict_time_answer behavior bytes.now) }
+        ensures placed { (behavior : Behavior)
+            → time_answer behavior bytes.now ≡ Ok (time_of_day time)
+            → IfErr result (E.lies_within (length bytes.now)) }
+        ensures same { IfOk result (λ read. read ≡ time) }
+    {
+        match Self::require_strict::<E>(bytes, 0) {
+            Ok(()) => Ok(time),
+            Err(refusal) => Err(refusal),
+        }
     }
 
     /// Refuses a text that is parsed as a time, but is none of RFC 3339. It begins at `start` of the
