@@ -84,13 +84,7 @@ pub clock_form-seen : {E : Type 0} (refuse : ParseError → ℕ → E) (behavior
     (seen_as (shifted (colon_place text + 1) refuse)
     (after_hours behavior (digits_value (hours text)) (from_minute text))))
 unfolding clock_form
-clock_form-seen refuse behavior text =
-    let count = digits_value (hours text) in
-    let start = colon_place text + 1 in
-    let after = after_hours behavior count (from_minute text) in
-    seen-tables refuse (hours_table text) (hours_range count) (from_byte start after)
-    ∙ ap (λ (next : Result UnsignedDuration _). first_refusal_or refuse (hours_table text)
-    (first_refusal_or refuse (hours_range count) next)) (seen-from refuse start after)
+clock_form-seen refuse behavior text = search (rules, seen-tables, seen-from)
 
 -- if there are too many, the clock is refused
 pub clock-many : {E : Type 0} (refuse : ParseError → ℕ → E) (behavior : Behavior) (text : List ℕ)
@@ -100,23 +94,7 @@ pub clock-many : {E : Type 0} (refuse : ParseError → ℕ → E) (behavior : Be
     → Err (refuse ParseError.DurationHourValueTooLarge 0)
     ≡ seen_as refuse (clock_form behavior text)
 clock-many refuse behavior text colon count read same more =
-    let all = digits_value (hours text) in
-    let held = refusal-value refuse (hours_table text) (colon_place text) colon (sym read) in
-    let hours_there = hours-count text held.0 in
-    let range : nat_le all 2400000000 ≡ false = grind (
-      arith,
-      nat_tests,
-      same,
-      more,
-      hours_there,
-    ) in
-    let inner = shifted (colon_place text + 1) refuse in
-    let rest = seen_as inner (after_hours behavior all (from_minute text)) in
-    let ranged = first_refusal_or refuse (hours_range all) rest in
-    let too_large = refuse ParseError.DurationHourValueTooLarge 0 in
-    sym (clock_form-seen refuse behavior text
-    ∙ refusal-all refuse (hours_table text) ranged held.0
-    ∙ ap (λ (holds : Bool). if holds then rest else Err too_large) range)
+    search (rules, refusal-value, hours-count, clock_form-seen, refusal-all)
 
 -- the answer to what follows the hours, by the place of the colon and by how many there are
 abbrev hours_rest : {E : Type 0} → (ParseError → ℕ → E) → Behavior → List ℕ → ℕ → ℕ

@@ -1,5 +1,5 @@
 -- A column, line by line.
-use Rattle.std.proofs.Common.{Bool, false, ◌≡◌, ◌∙◌, ap, sym, refl, ℕ, zero, suc, ◌+◌, ◌-◌, ◌≤◌, List, [], ◌∷◌, ◌++◌, length, take, drop, set, add-one, append_assoc, arith, Option, Some, None, Result, Ok, Err}
+use Rattle.std.proofs.Common.{rules, Bool, false, ◌≡◌, ◌∙◌, ap, sym, refl, ℕ, zero, suc, ◌+◌, ◌-◌, ◌≤◌, List, [], ◌∷◌, ◌++◌, length, take, drop, set, add-one, append_assoc, arith, Option, Some, None, Result, Ok, Err}
 use Rattle.std.proofs.Math.Seq.{take-nil}
 use Rattle.std.proofs.lemmas.List.{take-append-drop, drop-drop, drop-take, length-drop, length-take, length-take-le}
 use Rattle.speedate.specs.declared.column.Line.{Line}
@@ -68,12 +68,7 @@ pub record IsSoFar {N : Type 0} (whole left : Column N) (lines : ℕ) (out_old o
 -- before the first line
 pub IsSoFar-none : {N : Type 0} → (whole left : Column N) (out : List N) (errors : List ℕ)
     → whole ≡ left → IsSoFar whole left 0 out out errors errors
-IsSoFar-none {N = N} whole left out errors same = record {
-  count = ap (λ (all : Column N). length all.numbers) same ∙ omega arith;
-  fault = ap (λ (all : Column N). all.fault) same;
-  numbers = ap (λ (all : Column N). overwritten out all.numbers) same;
-  errors = ap (λ (all : Column N). overwritten errors all.errors) same;
-}
+IsSoFar-none {N = N} whole left out errors same = search rules
 
 -- after one more line
 pub IsSoFar-more : {N : Type 0}
@@ -84,21 +79,7 @@ pub IsSoFar-more : {N : Type 0}
     → out_new ≡ set out lines held.0 → errors_new ≡ set errors lines held.1
     → IsSoFar whole rest next out_old out_new errors_old errors_new
 IsSoFar-more {N = N} whole left rest lines next out_old out out_new errors_old errors errors_new
-    held before is counted out_is errors_is = record {
-      count = before.count ∙ ap (λ (all : Column N). lines + length all.numbers) is
-          ∙ omega (arith, counted);
-      fault = before.fault ∙ ap (λ (all : Column N). all.fault) is;
-      numbers =
-          before.numbers
-          ∙ ap (λ (all : Column N). take lines out ++ overwritten (drop lines out) all.numbers) is
-          ∙ overwritten-step out lines held.0 rest.numbers
-          ∙ rw (counted, out_is, add-one) refl;
-      errors =
-          before.errors
-          ∙ ap (λ (c : Column N). take lines errors ++ overwritten (drop lines errors) c.errors) is
-          ∙ overwritten-step errors lines held.1 rest.errors
-          ∙ rw (counted, errors_is, add-one) refl;
-    }
+    held before is counted out_is errors_is = search (rules, overwritten-step, add-one)
 
 -- at the end, where nothing is left
 pub record IsWhole {N : Type 0} (whole : Column N) (fault : Option LineError) (lines : ℕ)
@@ -114,21 +95,8 @@ pub IsSoFar-whole : {N : Type 0}
     → IsSoFar whole left lines out_old out_new errors_old errors_new
     → left ≡ record { numbers = []; errors = []; fault = fault }
     → IsWhole whole fault lines out_old out_new errors_old errors_new
-IsSoFar-whole {N = N} whole left fault lines out_old out errors_old errors before none = record {
-  numbers = sym (
-      before.numbers
-      ∙ ap (λ (all : Column N). take lines out ++ overwritten (drop lines out) all.numbers) none
-      ∙ ap (λ (list : List N). take lines out ++ list) (overwritten-nil (drop lines out))
-      ∙ take-append-drop lines out);
-  errors = sym (
-      before.errors
-      ∙ ap (λ (c : Column N). take lines errors ++ overwritten (drop lines errors) c.errors) none
-      ∙ ap (λ (list : List ℕ). take lines errors ++ list) (overwritten-nil (drop lines errors))
-      ∙ take-append-drop lines errors);
-  count = sym (
-      before.count ∙ ap (λ (all : Column N). lines + length all.numbers) none ∙ omega arith);
-  ends = sym (before.fault ∙ ap (λ (all : Column N). all.fault) none);
-}
+IsSoFar-whole {N = N} whole left fault lines out_old out errors_old errors before none =
+    search (rules, overwritten-nil, take-append-drop)
 
 -- The column of a text from its first line on.
 
@@ -142,15 +110,7 @@ pub text_column-first : {N : Type 0}
     ≡ onto_column held (text_column answer config refused more (drop line.size text))
 unfolding text_column
 text_column-first {N = N} answer config refused room more text line held found one is =
-    let rest = text_column answer config refused more (drop line.size text) in
-    let of_line = line_answer answer config in
-    let of_lines = λ (all : List (List ℕ)). column of_line refused (take (suc more) all) in
-    let of_answer = λ (given : Result N LineError). onto_column (entry refused given) rest in
-    ap (λ (n : ℕ). text_column answer config refused n text) (one ∙ add-one more)
-    ∙ ap of_lines found.first.lines
-    ∙ ap (λ (read : List ℕ). of_answer (answer read)) found.first.is_read
-    ∙ ap of_answer (sym found.answered)
-    ∙ ap (λ (held : Result (N × ℕ) LineError). onto_column held rest) (sym is)
+    search (rules, add-one)
 
 -- without room, or without a whole line, it is empty
 pub text_column-full : {N : Type 0}
@@ -170,9 +130,7 @@ pub text_column-none : {N : Type 0}
     → text_column answer config refused room text
     ≡ record { numbers = []; errors = []; fault = None }
 unfolding text_column
-text_column-none answer config refused room text none =
-    ap (λ (all : List (List ℕ)). column (line_answer answer config) refused (take room all)) none
-    ∙ ap (column (line_answer answer config) refused) (take-nil room)
+text_column-none answer config refused room text none = search (rules, take-nil)
 
 -- it has no more lines than there is room for
 onto_column-short : {N : Type 0} → (held : Result (N × ℕ) LineError) (rest : Column N) (room : ℕ)
@@ -185,19 +143,14 @@ column-short : {N : Type 0}
     → length (column answer refused lines).numbers ≤ length lines
 column-short answer refused [] = omega arith
 column-short answer refused (line ∷ lines) =
-    let rest = column answer refused lines in
-    let short = column-short answer refused lines in
-    onto_column-short (entry refused (answer line)) rest (length lines) short
+    search (rules, onto_column-short, column-short answer refused lines)
 
 pub text_column-short : {N : Type 0}
     → (answer : List ℕ → Result N LineError) (config : LineConfig) (refused : Option N) (room : ℕ)
     (text : List ℕ)
     → length (text_column answer config refused room text).numbers ≤ room
 unfolding text_column
-text_column-short answer config refused room text =
-    let all : List (List ℕ) = whole_lines config.at_end text in
-    let short = column-short (line_answer answer config) refused (take room all) in
-    omega (arith, short, length-take room all)
+text_column-short answer config refused room text = search (rules, column-short, length-take)
 
 -- it has an error for each number
 onto_column-errors : {N : Type 0} → (held : Result (N × ℕ) LineError) (rest : Column N)
@@ -211,8 +164,7 @@ column-errors : {N : Type 0}
     → length (column answer refused lines).errors ≡ length (column answer refused lines).numbers
 column-errors answer refused [] = refl
 column-errors answer refused (line ∷ lines) =
-    let same = column-errors answer refused lines in
-    onto_column-errors (entry refused (answer line)) (column answer refused lines) same
+    search (rules, onto_column-errors, column-errors answer refused lines)
 
 pub text_column-errors : {N : Type 0}
     → (answer : List ℕ → Result N LineError) (config : LineConfig) (refused : Option N) (room : ℕ)
@@ -235,8 +187,7 @@ column-goes_on : {N : Type 0}
     → (column answer (Some number) lines).fault ≡ None
 column-goes_on answer number [] = refl
 column-goes_on answer number (line ∷ lines) =
-    let rest = column answer (Some number) lines in
-    onto_column-goes_on (answer line) number rest (column-goes_on answer number lines)
+    search (rules, onto_column-goes_on, column-goes_on answer number lines)
 
 pub text_column-goes_on : {N : Type 0}
     → (answer : List ℕ → Result N LineError) (config : LineConfig) (number : N) (room : ℕ)
@@ -254,9 +205,7 @@ pub text_column-written : {N : Type 0}
     → overwritten old (text_column answer config refused (length old) text).numbers
     ≡ (text_column answer config refused (length old) text).numbers ++ drop lines old
 text_column-written {N = N} answer config refused old text lines counted =
-    let new : List N = (text_column answer config refused (length old) text).numbers in
-    let short = text_column-short answer config refused (length old) text in
-    overwritten-rest old new short ∙ ap (λ (n : ℕ). new ++ drop n old) (sym counted)
+    search (rules, text_column-short, overwritten-rest)
 
 -- what is left of a text after so many of its whole lines
 pub record IsLeft (at_end : Bool) (text rest : List ℕ) (lines : ℕ) : Type 0 where
@@ -267,14 +216,7 @@ pub record IsLeft (at_end : Bool) (text rest : List ℕ) (lines : ℕ) : Type 0 
       → unfinished_line (drop (length text - length rest) text) ≡ unfinished_line text
 
 pub IsLeft-all : (at_end : Bool) (text : List ℕ) → IsLeft at_end text text 0
-IsLeft-all at_end text =
-    let none : length text - length text ≡ 0 = omega arith in
-    let place : drop (length text - length text) text ≡ text = ap (λ (n : ℕ). drop n text) none in
-    record {
-      place = place;
-      whole = ap (whole_lines at_end) place;
-      unfinished = λ goes_on. ap unfinished_line place;
-    }
+IsLeft-all at_end text = search rules
 
 pub IsLeft-more : (config : LineConfig) (text rest read : List ℕ) (size lines : ℕ)
     → length rest ≤ length text → IsLeft config.at_end text rest lines

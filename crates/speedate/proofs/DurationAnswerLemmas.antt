@@ -7,13 +7,12 @@ use Rattle.speedate_base.specs.Ascii.{capital_p}
 use Rattle.speedate_base.specs.Numbers.{IsSign, has_minus, sign_size}
 use Rattle.speedate_base.specs.Refused.{from_byte, seen_as, without_place}
 use Rattle.speedate_base.specs.declared.refusal.Refused.{Refused}
-use Rattle.speedate_base.specs.Requirement.{fault_alone, first_fault_or, result_and_then, ◌>>=◌}
+use Rattle.speedate_base.specs.Requirement.{fault_alone, first_fault_or, result_and_then}
 use Rattle.speedate_base.proofs.RefusalLemmas.{seen-from, seen-table}
 use Rattle.speedate.specs.Duration.{days_or_clock, duration_answer, iso_after, iso_form}
-use Rattle.speedate.specs.Duration.{signed_answer, unsigned_answer}
-use Rattle.speedate.specs.DurationNumbers.{DurationNumbers, UnsignedDuration, normal_rows}
+use Rattle.speedate.specs.Duration.{unsigned_answer}
+use Rattle.speedate.specs.DurationNumbers.{DurationNumbers, UnsignedDuration}
 use Rattle.speedate.specs.DurationNumbers.{signed_form}
-use Rattle.speedate.specs.DurationPlace.{amount_numbers, amount_place}
 use Rattle.speedate.specs.IsoForm.{Item, item_text, IsoSums, item_at, item_table, no_sums}
 use Rattle.speedate.specs.IsoForm.{with_item}
 use Rattle.speedate.specs.IsoForm.{sums_amount}
@@ -39,12 +38,7 @@ pub fault_after-item : (sums : IsoSums) (byte : ℕ) (rest : List ℕ)
     (fault_after (length (item_text (item_at (byte ∷ rest))) - 1)
     (with_item (item_at (byte ∷ rest)) sums) rest)
 unfolding iso_after
-fault_after-item sums byte rest =
-    let item = item_at (byte ∷ rest) in
-    let table = item_table sums item in
-    let after = iso_after (length (item_text item) - 1) (with_item item sums) rest in
-    seen-table fault_alone table (from_byte 1 after)
-    ∙ ap (first_fault_or table) (seen-from fault_alone 1 after)
+fault_after-item sums byte rest = search (rules, seen-table, seen-from)
 
 pub fault_after-byte : (skipped : ℕ) (sums : IsoSums) (byte : ℕ) (rest : List ℕ)
     → fault_after (suc skipped) sums (byte ∷ rest) ≡ fault_after skipped sums rest
@@ -124,15 +118,7 @@ pub duration_answer-form : (order : IsoOrder) (behavior : Behavior) (text : List
     else without_place (days_or_clock behavior (drop (sign_size text) text)))
 unfolding unsigned_answer
 duration_answer-form order behavior text =
-    let rest = drop (sign_size text) text in
-    let place = amount_place order rest in
-    let positive = not (has_minus text) in
-    let unsigned = unsigned_answer order behavior rest in
-    seen-from fault_alone (sign_size text) (unsigned >>= signed_answer place positive)
-    ∙ then-seen fault_alone (signed_answer place positive) (signed_form positive) unsigned
-    (λ amount. seen-table fault_alone (normal_rows place (amount_numbers amount)) _)
-    ∙ ap (result_and_then (signed_form positive))
-    (unsigned-form order behavior rest (slice_index rest 0 == capital_p))
+    search (rules, seen-from, then-seen, seen-table, unsigned-form)
 
 -- after a sign and a `P` the answer is that of ISO 8601
 pub duration_answer-iso : (order : IsoOrder) (behavior : Behavior) (negative : Bool)

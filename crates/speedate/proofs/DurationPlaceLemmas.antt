@@ -1,5 +1,5 @@
 -- How the items of an ISO 8601 duration follow one another, with the places of what is refused.
-use Rattle.std.proofs.Common.{◌≡◌, ◌≤◌, ◌<◌, ◌+◌, ◌-◌, ◌∙◌, ℕ, zero, suc, Bool, true, false, not, List, [], ◌∷◌, length, drop, slice_index, if◌then◌else◌, Result, Ok, Err, is_ok, refl, sym, ap, arith, lt_irrefl, zero-add}
+use Rattle.std.proofs.Common.{rules, ◌≡◌, ◌≤◌, ◌<◌, ◌+◌, ◌-◌, ◌∙◌, ℕ, zero, suc, Bool, true, false, not, List, [], ◌∷◌, length, drop, slice_index, if◌then◌else◌, Result, Ok, Err, refl, sym, ap, arith, lt_irrefl, zero-add}
 use Rattle.std.proofs.lemmas.Bool.Decides.{nat_tests}
 use Rattle.std.proofs.lemmas.List.{length-drop, take_rest}
 use Rattle.speedate_civil.specs.Base.{Behavior, IsoOrder, ParseError}
@@ -35,11 +35,7 @@ unfolding iso_after
 iso_after-rest zero sums text within = from-front (iso_from sums text)
 iso_after-rest (suc skipped) sums [] within = absurd (omega arith)
 iso_after-rest (suc skipped) sums (byte ∷ rest) within =
-    let one : 1 + skipped ≡ suc skipped = omega arith in
-    let after = iso_from sums (drop skipped rest) in
-    ap (from_byte 1) (iso_after-rest skipped sums rest (omega arith))
-    ∙ seen-part placed 1 skipped after
-    ∙ ap (λ (n : ℕ). from_byte n after) one
+    search (rules, seen-part, iso_after-rest skipped sums rest)
 
 -- an item that is read leads to what follows it
 pub iso_from-read : {E : Type 0} (refuse : ParseError → ℕ → E) (sums next : IsoSums)
@@ -76,14 +72,7 @@ pub iso_from-refused : {E : Type 0} (refuse : ParseError → ℕ → E) (sums : 
 unfolding iso_after
 iso_from-refused refuse sums [] refused some same = absurd (lt_irrefl 0 some)
 iso_from-refused refuse sums (byte ∷ rest) refused some same =
-    let item = item_at (byte ∷ rest) in
-    let table = item_table sums item in
-    let later = with_item item sums in
-    let size = length (item_text item) in
-    let after = from_byte 1 (iso_after (size - 1) later rest) in
-    first_refusal_or-next {A = IsoSums × ℕ} refuse table (later, size) (Err refused)
-    (seen_as refuse after) same
-    ∙ sym (seen-table refuse table after)
+    search (rules, first_refusal_or-next, seen-table)
 
 -- and where nothing is left, so does whether there is a component
 pub iso_from-done : (sums : IsoSums) (text : List ℕ) → length text ≡ 0
@@ -118,14 +107,7 @@ pub iso_from-part : {E : Type 0} (refuse : ParseError → ℕ → E) (end : ℕ)
     → from_byte (length text - length rest) (iso_from next rest) ≡ iso_from sums text
     → seen_as (shifted (end - length rest) refuse) (iso_from next rest)
     ≡ seen_as (shifted (end - length text) refuse) (iso_from sums text)
-iso_from-part refuse end sums next text rest less within same =
-    let start = end - length text in
-    let size = length text - length rest in
-    let there : end - length rest ≡ start + size = omega (arith, less, within) in
-    let after = iso_from next rest in
-    ap (λ (start : ℕ). seen_as (shifted start refuse) after) there
-    ∙ sym (seen-part refuse start size after)
-    ∙ ap (seen_as (shifted start refuse)) same
+iso_from-part refuse end sums next text rest less within same = search (rules, seen-part)
 
 -- where nothing is left, the text is refused at its end, or its sums are the answer
 abbrev ended : IsoSums → Bool → Result UnsignedDuration Refused
@@ -135,11 +117,7 @@ pub iso_from-short : {E : Type 0} (refuse : ParseError → ℕ → E) (sums : Is
     (rest : List ℕ) → length rest ≡ 0 → sums.has_component ≡ false
     → Err (refuse ParseError.TooShort end)
     ≡ seen_as (shifted (end - length rest) refuse) (iso_from sums rest)
-iso_from-short refuse sums end rest none no_component =
-    let there : end ≡ end - length rest + 0 = omega (arith, none) in
-    ap (λ (end : ℕ). Err (refuse ParseError.TooShort end)) there
-    ∙ ap (seen_as (shifted (end - length rest) refuse))
-    (ap (ended sums) (sym no_component) ∙ sym (iso_from-done sums rest none))
+iso_from-short refuse sums end rest none no_component = search (rules, iso_from-done)
 
 pub iso_from-sum : {E : Type 0} (refuse : ParseError → ℕ → E) (sums : IsoSums) (rest : List ℕ)
     → length rest ≡ 0 → sums.has_component ≡ true
@@ -242,8 +220,4 @@ pub iso-read : (start : ℕ) (order : IsoOrder) (behavior : Behavior) (text : Li
     → Ok amount ≡ seen_as (shifted start placed) (unsigned_answer order behavior text)
     → IsIsoRead order text
 unfolding unsigned_answer
-iso-read start order behavior text amount same =
-    let read = seen-read (shifted start placed) (unsigned_answer order behavior text) amount in
-    let form = iso_form order (drop 1 text) in
-    λ iso. ap is_ok (seen-read (shifted 1 placed) form amount
-    (sym (ap (answer_by order behavior text) iso) ∙ read (sym same)))
+iso-read start order behavior text amount same = search (rules, seen-read)

@@ -1,6 +1,6 @@
 -- A fraction of a unit of an ISO 8601 duration: its whole seconds and what is left are the nearest
 -- microseconds, together.
-use Rattle.std.proofs.Common.{rules, arith, ap, ◌∙◌, ◌≡◌, ℕ, ◌+◌, ◌*◌, ◌/◌, ◌<◌, ◌≤◌, List, pos, unsigned_abs, lit<, false}
+use Rattle.std.proofs.Common.{rules, arith, ap, ◌≡◌, ℕ, ◌+◌, ◌*◌, ◌/◌, ◌<◌, ◌≤◌, List, pos, unsigned_abs, false}
 use Rattle.std.proofs.Math.Nat.{div-div-eq-div-mul, mul-div-mul_right}
 use Rattle.speedate_base.specs.Nearest.{nearest}
 use Rattle.speedate_base.proofs.NearestLemmas.{nearest-halved, nearest-is, scale-some}
@@ -10,10 +10,7 @@ use Rattle.speedate.specs.IsoAmount.{IsFractionOf}
 -- the whole seconds of a fraction, from twice its microseconds
 pub whole-seconds : (value second scale : ℕ)
     → 2 * (value * (1000000 * second)) / scale / 2000000 ≡ value * second / scale
-whole-seconds value second scale =
-    div-div-eq-div-mul (2 * (value * (1000000 * second))) scale 2000000
-    ∙ ap (λ (n : ℕ). n / (scale * 2000000)) (grind arith)
-    ∙ mul-div-mul_right (value * second) scale (lit< tt)
+whole-seconds value second scale = search (rules, div-div-eq-div-mul, mul-div-mul_right)
 
 -- a number that is nearest to a fraction that is not negative is not negative either
 nearest-size : (size scale : ℕ) → 0 < scale

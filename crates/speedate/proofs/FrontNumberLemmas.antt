@@ -1,9 +1,9 @@
 -- What the front of a text tells of the number of a line.
-use Rattle.std.proofs.Common.{◌≡◌, ◌∙◌, ap, refl, option_map, ℤ, ℕ, zero, suc, ◌<◌, List, [], take, Result, Ok, Err, arith}
+use Rattle.std.proofs.Common.{rules, ◌≡◌, ◌∙◌, ap, refl, option_map, ℤ, ℕ, zero, suc, ◌<◌, List, [], take, Result, Ok, Err, arith}
 use Rattle.std.specs.Result.{result_and}
 use Rattle.speedate_civil.specs.Base.{Behavior, ParseError}
 use Rattle.speedate_base.specs.Ascii.{HasNoControl}
-use Rattle.speedate_base.specs.Numbers.{number_answer, whole_number}
+use Rattle.speedate_base.specs.Numbers.{number_answer}
 use Rattle.speedate_base.specs.Requirement.{fault_alone, first_fault_or, or_number}
 use Rattle.speedate_base.specs.Requirement.{result_and_then, result_map}
 use Rattle.speedate_base.specs.Refused.{first_refused_or, without_place}
@@ -11,7 +11,7 @@ use Rattle.speedate_base.specs.declared.refusal.Refused.{Refused}
 use Rattle.speedate_base.proofs.RefusalLemmas.{first_refusal_or-chain, refusal-all, refusal-ok}
 use Rattle.speedate_base.proofs.RefusalLemmas.{seen-table, seen_number}
 use Rattle.speedate_civil.specs.Calendar.{Ymd, days_between}
-use Rattle.speedate_civil.specs.Date.{date_answer, date_number_answer}
+use Rattle.speedate_civil.specs.Date.{date_answer}
 use Rattle.speedate_civil.specs.DateTime.{DateAndTime, IsUtcFront, date_time_answer}
 use Rattle.speedate_civil.specs.DateTime.{date_time_at, number_instant}
 use Rattle.speedate_civil.specs.Strict.{strict_date_time, strict_date_time_answer}
@@ -36,12 +36,7 @@ pub HasNoEnd-read : {A E : Type 0} (answer : List ℕ → Result A E) (text : Li
     → answer [] ≡ Err fault → answer (take size text) ≡ Ok value
     → HasNoControl size text → HasNoEnd text size
 HasNoEnd-read answer text value size fault empty read printed =
-    let some : 0 < size = some-read answer text value size fault empty read in
-    record {
-      there = some;
-      one_line = IsOneLine-printed text size printed;
-      no_return = no_return-printed text size printed some;
-    }
+    search (rules, some-read, IsOneLine-printed, no_return-printed)
 
 -- Dates.
 
@@ -50,10 +45,7 @@ pub date_number-of_date : (reader : DateReader) (line : List ℕ) (date : Ymd)
     → date_answer line ≡ Ok date → date_number reader line ≡ Ok (days_between epoch date)
 date_number-of_date DateReader.Text line date read =
     ap (λ (answer : Result Ymd Refused). as_number (days_between epoch) (without_place answer)) read
-date_number-of_date (DateReader.OrTimestamp config) line date read =
-    let number = date_number_answer config.timestamp_unit (whole_number line) in
-    let counted = as_number (days_between epoch) in
-    ap (λ (answer : Result Ymd Refused). counted (without_place (or_number number answer))) read
+date_number-of_date (DateReader.OrTimestamp config) line date read = search rules
 
 -- Date-times.
 

@@ -69,8 +69,7 @@ iso-both zero sums (byte ∷ rest) =
     rw (fault_after-item (as_lax sums) byte rest, fault_after-item sums byte rest)
     (table-both sums item _ _ both)
 iso-both (suc skipped) sums (byte ∷ rest) =
-    rw (fault_after-byte skipped (as_lax sums) byte rest, fault_after-byte skipped sums byte rest)
-    (iso-both skipped sums rest)
+    search (rules, fault_after-byte, iso-both skipped sums rest)
 
 both-signed : (positive : Bool) (lax answer : Answer) → IsLaxOrRefused lax answer
     → IsLaxOrRefused (result_and_then (signed_form positive) lax)
@@ -88,12 +87,7 @@ unsigned-both asked behavior text iso = search (rules, iso-both)
 pub duration-both : (asked : IsoOrder) (behavior : Behavior) (text : List ℕ)
     → IsLaxOrRefused (duration_fault IsoOrder.Lax behavior text)
     (duration_fault asked behavior text)
-duration-both asked behavior text =
-    let rest = drop (sign_size text) text in
-    let lax_form = duration_answer-form IsoOrder.Lax behavior text in
-    let asked_form = duration_answer-form asked behavior text in
-    let unsigned = unsigned-both asked behavior rest (slice_index rest 0 == capital_p) in
-    rw (lax_form, asked_form) (both-signed (not (has_minus text)) _ _ unsigned)
+duration-both asked behavior text = search (rules, duration_answer-form, unsigned-both, both-signed)
 
 -- the unit of a designator has that designator
 unit-designator : (units : List IsoUnit) (designator : ℕ) (unit : IsoUnit)
@@ -206,10 +200,7 @@ answer-strict asked behavior text items strict is =
 -- a clock and days are not asked for an order
 answer-no_iso : (asked : IsoOrder) (behavior : Behavior) (text : List ℕ) → is_iso text ≡ false
     → duration_fault asked behavior text ≡ duration_fault IsoOrder.Lax behavior text
-answer-no_iso asked behavior text other =
-    let lax_form = duration_answer-form IsoOrder.Lax behavior text in
-    let asked_form = duration_answer-form asked behavior text in
-    rw (lax_form, asked_form, other) refl
+answer-no_iso asked behavior text other = search (rules, duration_answer-form)
 
 -- an ISO 8601 duration begins with a `P` after its sign
 first-byte : (text : List ℕ) → (slice_index text 0 == capital_p) ≡ true

@@ -140,9 +140,7 @@ from-step sums byte rest (Err fault) next met from = (
 -- so every text has an answer, which the function gives
 pub iso_after-is : (skipped : ℕ) (sums : IsoSums) (text : List ℕ)
     → IsAnswerFrom sums (drop skipped text) (fault_after skipped sums text)
-iso_after-is skipped sums [] =
-    let end = fault_after-end skipped sums in
-    rw (drop-nil {A = ℕ} skipped) ([], [], record { is_text = refl; are_good = tt; ends = end })
+iso_after-is skipped sums [] = search (rules, fault_after-end, drop-nil)
 iso_after-is zero sums (byte ∷ rest) =
     let item = item_at (byte ∷ rest) in
     let size = length (item_text item) - 1 in
@@ -150,8 +148,7 @@ iso_after-is zero sums (byte ∷ rest) =
     subst (IsAnswerFrom sums (byte ∷ rest)) (sym (fault_after-item sums byte rest))
     (from-step sums byte rest _ _ refl next)
 iso_after-is (suc skipped) sums (byte ∷ rest) =
-    subst (IsAnswerFrom sums (drop skipped rest)) (sym (fault_after-byte skipped sums byte rest))
-    (iso_after-is skipped sums rest)
+    search (rules, fault_after-byte, iso_after-is skipped sums rest)
 
 form-is : (order : IsoOrder) (behavior : Behavior) (text : List ℕ) (iso : Bool)
     → MatchBool iso

@@ -40,9 +40,7 @@ digits_test : IsDigitsTest AreDigits
 digits_test = search rules
 
 digits_model : IsNumeralModel AreDigits digits_value
-digits_model =
-    numerals_by_weight AreDigits digits_test digits_value
-    (record { empty = refl; more = λ c cs range. refl })
+digits_model = search (rules, numerals_by_weight, digits_test)
 
 -- no fraction is no seconds and no microseconds
 no-seconds : (unit : IsoUnit) → fraction_seconds unit [] ≡ 0
@@ -115,11 +113,7 @@ counted-leads : (next : List IsoUnit) (is_time some none : Bool) (unit : IsoUnit
     (if none then some else true) (day + number * unit.day) (second + number * unit.second))
     rest
 counted-leads next is_time some true unit number day second rest none found comes few few_days
-    few_seconds =
-    let zero_is = eqb-true number 0 none in
-    let days : day ≡ day + number * unit.day = grind (arith, zero_is) in
-    let seconds : second ≡ second + number * unit.second = grind (arith, zero_is) in
-    λ i. fault_from (at next is_time some (days i) (seconds i)) rest
+    few_seconds = search (rules, eqb-true)
 counted-leads next is_time some false unit number day second rest other found comes few few_days
     few_seconds =
     let sums = at next is_time some day second in
@@ -270,14 +264,7 @@ rest-read : (next : List IsoUnit) (numbers : DurationNumbers) (whole none : Bool
     → fault_from (at next false (not none) numbers.day 0)
     (if whole then (if none then codes "T0S" else []) else capital_t ∷ hours_text numbers)
     ≡ Ok (amount_of numbers)
-rest-read next numbers true none valid whole =
-    let tests = and_parts (numbers.second == 0) (numbers.microsecond == 0) whole in
-    whole-read next numbers.day none (omega (arith, valid.day))
-    ∙ (λ i. Ok (record {
-      day = numbers.day;
-      second = sym (eqb-true numbers.second 0 tests.0) i;
-      microsecond = sym (eqb-true numbers.microsecond 0 tests.1) i;
-    }))
+rest-read next numbers true none valid whole = search (rules, and_parts, whole-read, eqb-true)
 rest-read next numbers false none valid other =
     iso_from-item (at next false (not none) numbers.day 0) TimeDesignator (hours_text numbers) refl
     ∙ hours-read numbers (not none) valid other

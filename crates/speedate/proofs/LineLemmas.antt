@@ -61,9 +61,7 @@ first-free byte test lines last is free = search (rules, All-cons, eqb-false)
 
 pub unfinished-free : (text : List ℕ) → IsFree (unfinished_line text)
 unfinished-free [] = All-nil EndsNoLine
-unfinished-free (byte ∷ bytes) =
-    let free = unfinished-free bytes in
-    first-free byte (byte == line_feed) (complete_lines bytes) (unfinished_line bytes) refl free
+unfinished-free (byte ∷ bytes) = search (rules, first-free, unfinished-free bytes)
 
 -- the pieces of a text after the pieces of what stands before it
 abbrev after : List (List ℕ) → Pieces → Pieces
@@ -80,10 +78,7 @@ first-after byte test lines last more is = search rules
 pub pieces-append : (text more : List ℕ)
     → pieces (text ++ more) ≡ after (complete_lines text) (pieces (unfinished_line text ++ more))
 pieces-append [] more = refl
-pieces-append (byte ∷ bytes) more =
-    let lines = complete_lines bytes in
-    let last = unfinished_line bytes in
-    rw (pieces-append bytes more) (first-after byte (byte == line_feed) lines last more refl)
+pieces-append (byte ∷ bytes) more = search (rules, first-after, pieces-append bytes more)
 
 -- a part of a text without line feed, by its places
 pub part-free : (text : List ℕ) (from to : ℕ) → to ≤ length text → IsOneLine text from to

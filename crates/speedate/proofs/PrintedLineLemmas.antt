@@ -1,6 +1,6 @@
 -- The lines of numbers: that they hold no control character, and are read as their numbers.
-use Rattle.std.proofs.Common.{rules, codes, negsuc, of_z, SFits, w64, ◌&&◌, inl, inr, All, decimal, ◌%◌, ◌/◌, ◌==◌, ◌+ℤ◌, ◌-ℤ◌, ◌*ℤ◌, Bool, true, false, ◌≡◌, ◌≢◌, ◌∙◌, ap, sym}
-use Rattle.std.proofs.Common.{subst, refl, ℕ, ◌+◌, ◌<◌, ◌≤◌, ◌^◌, List, [], ◌∷◌, ◌++◌, length, append-nil, arith, Option, Some, None, Result, Ok, Err, ℤ, pos, unwrap_or, IfErr, IfOk, if◌then◌else◌}
+use Rattle.std.proofs.Common.{rules, negsuc, of_z, SFits, w64, inl, inr, All, decimal, ◌%◌, ◌/◌, ◌==◌, Bool, true, false, ◌≡◌, ◌≢◌, ◌∙◌, ap, sym}
+use Rattle.std.proofs.Common.{subst, refl, ℕ, ◌+◌, ◌<◌, ◌≤◌, ◌^◌, List, [], ◌∷◌, ◌++◌, length, append-nil, arith, Option, Some, None, Result, Ok, Err, ℤ, pos, IfErr, IfOk, if◌then◌else◌}
 use Rattle.std.proofs.lemmas.Int.{ints}
 use Rattle.speedate_civil.specs.Base.{Behavior, ParseError}
 use Rattle.std.proofs.lemmas.Fmt.{decimal_by_steps}
@@ -9,12 +9,11 @@ use Rattle.std.proofs.lemmas.Bool.Decides.{nat_tests}
 use Rattle.speedate_base.specs.Ascii.{HasNoControl, space}
 use Rattle.speedate_base.specs.Refused.{without_place}
 use Rattle.speedate_base.specs.declared.refusal.Refused.{Refused}
-use Rattle.speedate_base.specs.Requirement.{result_and_then}
 use Rattle.speedate_base.specs.Offset.{IsWholeMinutes}
 use Rattle.speedate_civil.specs.Calendar.{Ymd, IsDate, days_between}
 use Rattle.speedate_civil.specs.Date.{date_text}
 use Rattle.speedate_civil.specs.DateTime.{DateAndTime, IsDateAndTime, date_time_front}
-use Rattle.speedate_civil.specs.DateTime.{date_time_text, local_microsecond, local_second}
+use Rattle.speedate_civil.specs.DateTime.{date_time_text, local_microsecond}
 use Rattle.speedate_civil.specs.DateTime.{utc_microsecond}
 use Rattle.speedate_civil.specs.Time.{IsTime, TimeOfDay, microsecond_of_day, time_text}
 use Rattle.speedate_civil.specs.Time.{timestamp_answer}
@@ -23,20 +22,19 @@ use Rattle.speedate_civil.proofs.DateTimeLemmas.{date_time_text-front, date_time
 use Rattle.speedate_civil.proofs.NoControlLemmas.{date_time_front-no_control}
 use Rattle.speedate_civil.proofs.TimeLemmas.{nothing-after, time_text-reads}
 use Rattle.speedate.specs.declared.column.date_time.DateTimeParser.{DateTimeParser}
-use Rattle.speedate.specs.Column.{LineError, as_number, clock_number}
-use Rattle.speedate.specs.Column.{date_time_number, date_time_of_line, epoch, taken_answer}
-use Rattle.speedate.specs.Column.{text_behavior}
+use Rattle.speedate.specs.Column.{LineError}
+use Rattle.speedate.specs.Column.{date_time_of_line, epoch, taken_answer}
 use Rattle.speedate.specs.Column.{with_offset}
 use Rattle.speedate.specs.ColumnText.{IsRelaxed, IsShownLine, ReadsClocks, ReadsDates}
 use Rattle.speedate.specs.ColumnText.{ReadsDateTimes, ReadsTimes}
 use Rattle.speedate.specs.ColumnText.{least_of_64_bits, number_or}
-use Rattle.speedate_base.specs.Ascii.{capital_d, capital_h, capital_m, capital_p, capital_s}
-use Rattle.speedate_base.specs.Ascii.{capital_t, capital_y, digit_zero, full_stop, hyphen}
+use Rattle.speedate_base.specs.Ascii.{capital_d, capital_p}
+use Rattle.speedate_base.specs.Ascii.{capital_y, digit_zero, full_stop, hyphen}
 use Rattle.speedate_base.specs.Digits.{six_digit_text, two_digit_text}
-use Rattle.speedate.specs.Column.{number_of_amount, number_of_duration}
+use Rattle.speedate.specs.Column.{number_of_amount}
 use Rattle.speedate.specs.ColumnText.{ReadsDurations}
 use Rattle.speedate.specs.Duration.{counted_text, days_text, duration_of_amount, duration_text}
-use Rattle.speedate.specs.Duration.{hours_text, is_whole_days, kept_digit, rest_text}
+use Rattle.speedate.specs.Duration.{hours_text, kept_digit, rest_text}
 use Rattle.speedate.specs.Duration.{days_or_clock, seconds_text, short_fraction_text, start_text}
 use Rattle.speedate.specs.Duration.{unsigned_answer, without_last_zeros}
 use Rattle.speedate.specs.DurationNumbers.{DurationNumbers, IsDuration}
@@ -48,9 +46,7 @@ use Rattle.speedate.proofs.FrontNumberLemmas.{date_number-of_date, date_time_of_
 whole-no_control : {A : Type 0} (answer : Result (A × ℕ) Refused) (text : List ℕ) (value : A)
     → answer ≡ Ok (value, length text)
     → IfOk answer (λ front. HasNoControl front.1 text) → HasNoControl (length text) text
-whole-no_control {A = A} answer text value is printed =
-    subst (λ (read : Result (A × ℕ) Refused). IfOk read (λ front. HasNoControl front.1 text)) is
-    printed
+whole-no_control {A = A} answer text value is printed = search rules
 
 -- Dates.
 
@@ -58,12 +54,7 @@ pub date-reads : (answer : List ℕ → Result ℤ LineError) (refused number : 
     → ReadsDates answer refused → IsDate date → days_between epoch date ≡ number
     → number_or refused (answer (date_text date)) ≡ number
 date-reads answer refused number date reads valid counted =
-    let reader = reads.0 in
-    let line = date_text date in
-    ap (λ (answer : List ℕ → Result ℤ LineError). number_or refused (answer line)) reads.1
-    ∙ ap (number_or refused)
-    (date_number-of_date reader line date (date_text-reads date valid))
-    ∙ counted
+    search (rules, date_number-of_date, date_text-reads)
 
 -- Date-times.
 
@@ -110,18 +101,12 @@ date_time_of_line-shown : (parser : DateTimeParser) (value : DateAndTime) → Is
     → IsDateAndTime value → IsWholeMinutes value.time.offset
     → without_place (date_time_of_line parser (date_time_text value)) ≡ Ok value
 date_time_of_line-shown parser value relaxed valid whole =
-    let line = date_time_text value in
-    date_time_of_line-read parser line value
-    (ap without_place (date_time_text-reads (text_behavior parser) value valid whole))
-    (relaxed-taken parser line relaxed)
+    search (rules, date_time_of_line-read, date_time_text-reads, relaxed-taken)
 
 -- in UTC an instant is what the clock shows
 utc-local : (value : DateAndTime) → value.time.offset ≡ Some (pos 0)
     → utc_microsecond value ≡ local_microsecond value
-utc-local value utc =
-    ap (λ (offset : Option ℤ). pos 1000000
-    *ℤ (local_second value -ℤ unwrap_or offset (pos 0)) +ℤ pos value.time.microsecond) utc
-    ∙ omega (arith, ints)
+utc-local value utc = search rules
 
 offset-there : (assumes : Bool) (value : DateAndTime) → value.time.offset ≡ Some (pos 0)
     → with_offset assumes value ≡ Ok value
@@ -132,53 +117,13 @@ pub date_time-reads : (answer : List ℕ → Result ℤ LineError) (refused numb
     → ReadsDateTimes answer refused → IsShownLine (Some (pos 0)) number line
     → number_or refused (answer line) ≡ number
 date_time-reads answer refused number line reads shown =
-    let reader = reads.0 in
-    let relaxed = reads.1 in
-    let held = number_or refused in
-    let count = as_number utc_microsecond in
-    ap (λ (answer : List ℕ → Result ℤ LineError). held (answer line)) reads.2
-    ∙ elim shown [
-      | inl empty ↦ ap (λ (line : List ℕ). held (date_time_number reader line)) empty.1
-          ∙ ap (λ (read : Result DateAndTime ParseError). held
-          (count (result_and_then (with_offset reader.assumes_utc) read)))
-          (no_date_time reader.parser relaxed)
-          ∙ reads.3 ∙ sym empty.0
-      | inr some ↦
-          let value = some.0 in
-          let utc = some.2 in
-          let whole = subst IsWholeMinutes (sym utc) utc-whole in
-          ap (λ (line : List ℕ). held (date_time_number reader line)) some.4
-          ∙ ap (λ (read : Result DateAndTime ParseError). held
-          (count (result_and_then (with_offset reader.assumes_utc) read)))
-          (date_time_of_line-shown reader.parser value relaxed some.1 whole)
-          ∙ ap (λ (read : Result DateAndTime ParseError). held (count read))
-          (offset-there reader.assumes_utc value utc)
-          ∙ utc-local value utc
-          ∙ some.3
-    ]
+    search (rules, no_date_time, utc-whole, date_time_of_line-shown, offset-there, utc-local)
 
 pub clock-reads : (answer : List ℕ → Result ℤ LineError) (refused number : ℤ) (line : List ℕ)
     → ReadsClocks answer refused → IsShownLine None number line
     → number_or refused (answer line) ≡ number
 clock-reads answer refused number line reads shown =
-    let reader = reads.0 in
-    let relaxed = reads.1 in
-    let held = number_or refused in
-    let count = as_number local_microsecond in
-    ap (λ (answer : List ℕ → Result ℤ LineError). held (answer line)) reads.2
-    ∙ elim shown [
-      | inl empty ↦ ap (λ (line : List ℕ). held (clock_number reader line)) empty.1
-          ∙ ap (λ (read : Result DateAndTime ParseError). held (count read))
-          (no_date_time reader.parser relaxed)
-          ∙ reads.3 ∙ sym empty.0
-      | inr some ↦
-          let value = some.0 in
-          let whole = subst IsWholeMinutes (sym some.2) none-whole in
-          ap (λ (line : List ℕ). held (clock_number reader line)) some.4
-          ∙ ap (λ (read : Result DateAndTime ParseError). held (count read))
-          (date_time_of_line-shown reader.parser value relaxed some.1 whole)
-          ∙ some.3
-    ]
+    search (rules, no_date_time, none-whole, date_time_of_line-shown)
 
 -- Times.
 
@@ -186,14 +131,7 @@ pub time-reads : (answer : List ℕ → Result ℤ LineError) (refused number : 
     → ReadsTimes answer refused → IsTime time → IsWholeMinutes time.offset
     → pos (microsecond_of_day time) ≡ number
     → number_or refused (answer (time_text time)) ≡ number
-time-reads answer refused number time reads valid whole counted =
-    let behavior = reads.0.microseconds_precision_overflow_behavior in
-    ap (λ (answer : List ℕ → Result ℤ LineError). number_or refused (answer (time_text time)))
-    reads.1
-    ∙ ap (λ (read : Result TimeOfDay Refused). number_or refused
-    (as_number (λ time. pos (microsecond_of_day time)) (without_place read)))
-    (time_text-reads behavior time valid whole)
-    ∙ counted
+time-reads answer refused number time reads valid whole counted = search (rules, time_text-reads)
 
 -- Durations.
 
@@ -205,9 +143,7 @@ printed-no_control : (text : List ℕ) → IsPrinted text → HasNoControl (leng
 printed-no_control text all k below = All-get_or (λ (byte : ℕ). space ≤ byte) text k 0 below all
 
 one : (byte : ℕ) → space ≤ byte → IsPrinted (byte ∷ [])
-one byte is =
-    let Is = λ (byte : ℕ). space ≤ byte in
-    All-cons Is byte [] is (All-nil Is)
+one byte is = search (rules, All-cons, All-nil)
 
 both : (first second : List ℕ) → IsPrinted first → IsPrinted second → IsPrinted (first ++ second)
 both first second one two = All-append (λ (byte : ℕ). space ≤ byte) first second one two
@@ -240,21 +176,13 @@ kept-printed digit (next ∷ rest) is all = both (digit ∷ []) (next ∷ rest) 
 without-printed : (digits : List ℕ) → IsPrinted digits → IsPrinted (without_last_zeros digits)
 without-printed [] all = nothing
 without-printed (digit ∷ digits) all =
-    kept-printed digit (without_last_zeros digits)
-    (All-head (λ (byte : ℕ). space ≤ byte) digit digits all)
-    (without-printed digits (All-tail (λ (byte : ℕ). space ≤ byte) digit digits all))
+    search (rules, kept-printed, All-head, All-tail, without-printed digits)
 
 two-printed : (number : ℕ) → IsPrinted (two_digit_text number)
-two-printed number =
-    both ((48 + number / 10) ∷ []) ((48 + number % 10) ∷ []) (one _ (omega arith))
-    (one _ (omega arith))
+two-printed number = search (rules, both, one)
 
 six-printed : (number : ℕ) → IsPrinted (six_digit_text number)
-six-printed number =
-    let second = two_digit_text (number % 10000 / 100) in
-    let third = two_digit_text (number % 10000 % 100) in
-    both (two_digit_text (number / 10000)) (second ++ third) (two-printed (number / 10000))
-    (both second third (two-printed (number % 10000 / 100)) (two-printed (number % 10000 % 100)))
+six-printed number = search (rules, both, two-printed)
 
 fraction-printed : (microsecond : ℕ) → IsPrinted (short_fraction_text microsecond)
 fraction-printed microsecond =
@@ -265,31 +193,15 @@ fraction-printed microsecond =
 seconds-printed : (second microsecond : ℕ) → second < 60
     → IsPrinted (seconds_text second microsecond)
 seconds-printed second microsecond small =
-    chosen-printed ((second == 0) && (microsecond == 0)) [] _ nothing
-    (both (decimal second ++ short_fraction_text microsecond) _
-    (both (decimal second) _ (decimal-printed second (omega (arith, small)))
-    (fraction-printed microsecond))
-    (one capital_s (omega arith)))
+    search (rules, chosen-printed, nothing, both, decimal-printed, fraction-printed, one)
 
 hours-printed : (numbers : DurationNumbers) → numbers.second < 86400
     → IsPrinted (hours_text numbers)
-hours-printed numbers small =
-    let hours = counted_text (numbers.second / 3600) capital_h in
-    let minutes = counted_text (numbers.second / 60 % 60) capital_m in
-    both (hours ++ minutes) _
-    (both hours minutes (counted-printed _ capital_h (omega (arith, small)) (omega arith))
-    (counted-printed _ capital_m (omega arith) (omega arith)))
-    (seconds-printed (numbers.second % 60) numbers.microsecond (omega arith))
+hours-printed numbers small = search (rules, both, counted-printed, seconds-printed)
 
 rest-printed : (numbers : DurationNumbers) → numbers.second < 86400
     → IsPrinted (rest_text numbers)
-rest-printed numbers small =
-    chosen-printed (is_whole_days numbers) _ _
-    (chosen-printed (numbers.day == 0) (codes "T0S") [] (both (capital_t ∷ []) (48 ∷ 83 ∷ [])
-    (one capital_t (omega arith)) (both (48 ∷ []) (83 ∷ []) (one 48 (omega arith))
-    (one 83 (omega arith)))) nothing)
-    (both (capital_t ∷ []) (hours_text numbers) (one capital_t (omega arith))
-    (hours-printed numbers small))
+rest-printed numbers small = search (rules, chosen-printed, both, one, nothing, hours-printed)
 
 start-printed : (positive : Bool) → IsPrinted (start_text positive)
 start-printed true = one capital_p (omega arith)
@@ -318,25 +230,13 @@ pub duration-reads : (answer : List ℕ → Result ℤ LineError) (refused numbe
     → IsDuration (duration_of_amount number)
     → number_or refused (answer (duration_text (duration_of_amount number))) ≡ number
 duration-reads answer refused number reads fits other valid =
-    let config = reads.0.config in
-    let behavior = config.microseconds_precision_overflow_behavior in
-    let numbers = duration_of_amount number in
-    let line = duration_text numbers in
-    ap (λ (answer : List ℕ → Result ℤ LineError). number_or refused (answer line)) reads.1
-    ∙ ap (λ (read : Result DurationNumbers Refused). number_or refused
-    (number_of_duration (without_place read)))
-    (duration_text-reads config.iso_order behavior numbers valid)
-    ∙ ap (λ (amount : ℤ). number_or refused (number_of_amount amount))
-    (signed_amount-kept number)
-    ∙ ap (number_or refused) (amount-kept number fits other)
+    search (rules, duration_text-reads, signed_amount-kept, amount-kept)
 
 pub no_duration-reads : (answer : List ℕ → Result ℤ LineError) (refused number : ℤ)
     → ReadsDurations answer refused → number ≡ least_of_64_bits
     → number_or refused (answer []) ≡ number
 unfolding unsigned_answer days_or_clock
-no_duration-reads answer refused number reads least =
-    ap (λ (answer : List ℕ → Result ℤ LineError). number_or refused (answer [])) reads.1
-    ∙ reads.2 ∙ sym least
+no_duration-reads answer refused number reads least = search rules
 
 -- what a printer of a date-time leaves holds no control character
 pub line-no_control : {A : Type 0} (result : Result A LineError) (offset : Option ℤ) (number : ℤ)
@@ -363,6 +263,4 @@ timestamp-offset second microsecond time is = search rules
 pub least-is : (number : ℤ) → SFits w64 number → of_z w64 number ≡ 9223372036854775808
     → number ≡ least_of_64_bits
 least-is (pos size) fits is = absurd (omega (arith, fits.sfits, is))
-least-is (negsuc below) fits is =
-    let same : below ≡ 9223372036854775807 = omega (arith, fits.sfits, is) in
-    ap negsuc same
+least-is (negsuc below) fits is = search rules

@@ -1,5 +1,5 @@
 -- Texts that offsets cut out of bytes, and the column of them, text by text.
-use Rattle.std.proofs.Common.{Bool, true, ◌&&◌, ◌≡◌, ◌∙◌, ap, sym, refl, ℕ, zero, suc, ◌+◌, ◌-◌, ◌<◌, List, [], ◌∷◌, length, get_or, take, drop, add-one, ℤ, pos, ◌≤ℤ◌, int_le, arith, Option, None, Result}
+use Rattle.std.proofs.Common.{rules, true, ◌≡◌, ◌∙◌, ap, refl, ℕ, zero, suc, ◌+◌, ◌-◌, ◌<◌, List, [], ◌∷◌, length, get_or, take, drop, add-one, ℤ, pos, ◌≤ℤ◌, int_le, arith, Option, None, Result}
 use Rattle.std.proofs.lemmas.Bool.{and_parts}
 use Rattle.std.proofs.lemmas.Bool.Decides.{nat_tests}
 use Rattle.std.proofs.lemmas.Int.{ints}
@@ -17,15 +17,7 @@ record IsFirst (least : ℤ) (size : ℕ) (offset : ℤ) (offsets : List ℤ) : 
 
 first-is : (least : ℤ) (size : ℕ) (offset : ℤ) (offsets : List ℤ)
     → rise_within least size (offset ∷ offsets) ≡ true → IsFirst least size offset offsets
-first-is least size offset offsets rise =
-    let rest : Bool = int_le offset (pos size) && rise_within offset size offsets in
-    let parts = and_parts (int_le least offset) rest rise in
-    let more = and_parts (int_le offset (pos size)) (rise_within offset size offsets) parts.1 in
-    record {
-      after = at-most least offset parts.0;
-      within = at-most offset (pos size) more.0;
-      rise = more.1;
-    }
+first-is least size offset offsets rise = search (rules, and_parts, at-most)
 
 -- an offset from a least one on, and within so many bytes
 pub record IsOffset (least : ℤ) (size : ℕ) (offset : ℤ) : Type 0 where
@@ -36,9 +28,7 @@ pub IsOffset-at : (least : ℤ) (size : ℕ) (offsets : List ℤ) (place : ℕ)
     → rise_within least size offsets ≡ true → place < length offsets
     → IsOffset least size (get_or offsets place (pos 0))
 IsOffset-at least size [] place rise within = absurd (omega (arith, within))
-IsOffset-at least size (offset ∷ offsets) zero rise within =
-    let first = first-is least size offset offsets rise in
-    record { after = first.after; within = first.within }
+IsOffset-at least size (offset ∷ offsets) zero rise within = search (rules, first-is)
 IsOffset-at least size (offset ∷ offsets) (suc place) rise within =
     let first = first-is least size offset offsets rise in
     let next = IsOffset-at offset size offsets place first.rise (omega (arith, within)) in
@@ -48,9 +38,7 @@ IsOffset-at least size (offset ∷ offsets) (suc place) rise within =
 pub offset-positive : (least : ℤ) (size : ℕ) (offsets : List ℤ) (place : ℕ) → pos 0 ≤ℤ least
     → rise_within least size offsets ≡ true → pos 0 ≤ℤ get_or offsets place (pos 0)
 offset-positive least size [] place positive rise = omega (arith, ints)
-offset-positive least size (offset ∷ offsets) zero positive rise =
-    let first = first-is least size offset offsets rise in
-    omega (arith, ints, positive, first.after)
+offset-positive least size (offset ∷ offsets) zero positive rise = search (rules, first-is)
 offset-positive least size (offset ∷ offsets) (suc place) positive rise =
     let first = first-is least size offset offsets rise in
     let next : pos 0 ≤ℤ offset = omega (arith, ints, positive, first.after) in
@@ -131,11 +119,7 @@ pub column-next : {N : Type 0} → (answer : List ℕ → Result N LineError) (r
     → held ≡ entry refused given
     → column answer refused (drop place texts)
     ≡ onto_column held (column answer refused (drop (place + 1) texts))
-column-next {N = N} answer refused texts place text given held next answered is =
-    let rest = column answer refused (drop (place + 1) texts) in
-    ap (column answer refused) next
-    ∙ ap (λ (given : Result N LineError). onto_column (entry refused given) rest) (sym answered)
-    ∙ ap (λ (held : Result (N × ℕ) LineError). onto_column held rest) (sym is)
+column-next {N = N} answer refused texts place text given held next answered is = search rules
 
 pub column-end : {N : Type 0} → (answer : List ℕ → Result N LineError) (refused : Option N)
     (texts : List (List ℕ)) (count : ℕ)

@@ -1,5 +1,5 @@
 -- The first whole line of a text, and what is left after it.
-use Rattle.std.proofs.Common.{rules, ◌≡◌, ◌≢◌, ◌∙◌, ap, sym, subst, refl, ℕ, ◌+◌, ◌-◌, ◌<◌, ◌≤◌, Bool, true, false, ◌&&◌, ◌==◌, slice_index, List, [], ◌∷◌, ◌++◌, length, take, drop, get_or, if◌then◌else◌, arith}
+use Rattle.std.proofs.Common.{rules, ◌≡◌, ◌≢◌, ◌∙◌, ap, sym, subst, refl, ℕ, ◌+◌, ◌-◌, ◌<◌, ◌≤◌, Bool, true, false, List, [], ◌∷◌, ◌++◌, length, take, drop, get_or, if◌then◌else◌, arith}
 use Rattle.std.proofs.lemmas.Bool.{cases_lt, ne_eqb, false≢true}
 use Rattle.std.proofs.lemmas.List.{length-take, length-take-le, get_or-take, get_or_past, take-take, take_all, drop_all}
 use Rattle.speedate_base.specs.Ascii.{carriage_return, line_feed}
@@ -82,24 +82,14 @@ front-cut : (drops : Bool) (text : List ℕ) (size last : ℕ) → last ≤ size
     → (take (length (if drops then take last (take size text) else take size text)) text
     ≡ (if drops then take last (take size text) else take size text))
     × (length (if drops then take last (take size text) else take size text) ≤ length text)
-front-cut true text size last before inside =
-    let is : take last (take size text) ≡ take last text = take-take last size text before in
-    let last_is = length-take-le last text (omega (arith, before, inside)) in
-    let long : length (take last (take size text)) ≡ last = ap length is ∙ last_is in
-    (ap (λ (n : ℕ). take n text) long ∙ sym is, omega (arith, long, before, inside))
-front-cut false text size last before inside =
-    let long : length (take size text) ≡ size = length-take-le size text inside in
-    (ap (λ (n : ℕ). take n text) long, omega (arith, long, inside))
+front-cut true text size last before inside = search (rules, take-take, length-take-le)
+front-cut false text size last before inside = search (rules, length-take-le)
 
 pub without_return-front : (drops : Bool) (text : List ℕ) (size : ℕ) → size ≤ length text
     → (take (length (without_return drops (take size text))) text
     ≡ without_return drops (take size text))
     × (length (without_return drops (take size text)) ≤ length text)
-without_return-front drops text size inside =
-    let line = take size text in
-    let last : ℕ = length line - 1 in
-    let before : last ≤ size = omega (arith, length-take size text) in
-    front-cut (drops && (slice_index line last == carriage_return)) text size last before inside
+without_return-front drops text size inside = search (rules, length-take, front-cut)
 
 -- a text begins with a line, without its return
 abbrev BeginsWith : Bool → List ℕ → List ℕ → Type 0
@@ -110,9 +100,7 @@ BeginsWith drops text line =
 pub without_return-whole : (drops : Bool) (text : List ℕ)
     → (take (length (without_return drops text)) text ≡ without_return drops text)
     × (length (without_return drops text) ≤ length text)
-without_return-whole drops text =
-    let front = without_return-front drops text (length text) (omega arith) in
-    subst (BeginsWith drops text) (take_all (length text) text (omega arith)) front
+without_return-whole drops text = search (rules, without_return-front, take_all)
 
 -- The first whole line of a text, whose bytes up to a place are no line feed and end with no
 -- carriage return.
@@ -165,10 +153,7 @@ feed-within text place is = grind (arith, cases_lt, get_or_past)
 -- a carriage return is no line feed
 return-line : (text : List ℕ) (place : ℕ) → get_or text place 0 ≡ carriage_return
     → IsOneLine text place (place + 1)
-return-line text place return k after below same =
-    let here : k ≡ place = omega (arith, after, below) in
-    let byte = sym return ∙ ap (λ (n : ℕ). get_or text n 0) (sym here) ∙ same in
-    absurd (omega (arith, byte))
+return-line text place return k after below same = search rules
 
 -- a carriage return follows, which is dropped, and then a line feed
 pub IsFirstLineOf-return : (config : LineConfig) (text : List ℕ) (size : ℕ)
