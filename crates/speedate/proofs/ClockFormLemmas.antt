@@ -30,33 +30,21 @@ use Rattle.speedate.specs.DayForm.{is_day_letter}
 use Rattle.speedate.specs.Duration.{has_days}
 use Rattle.speedate.specs.DurationNumbers.{UnsignedDuration}
 
-digit-no_colon : (byte : ℕ) → is_ascii_digit byte ≡ true → (byte == colon) ≡ false
-digit-no_colon byte digit = grind (arith, nat_tests)
-
-colon-no_digit : (byte : ℕ) → (byte == colon) ≡ true → is_ascii_digit byte ≡ false
-colon-no_digit byte same = grind (arith, nat_tests)
-
 -- where `:` follows the digits at the front, they are the hours
 pub colon_place-run : (text : List ℕ) → get_or text (run_length text 0) 0 ≡ colon
     → (run_length text 0 < length text) × (colon_place text ≡ run_length text 0)
-colon_place-run text ends =
-    search (rules, get_or_past, position_or_len_is, digit-no_colon, prefix_len_passes)
+colon_place-run text ends = search (rules, get_or_past, position_or_len_is, prefix_len_passes)
 
 -- where there is a `:`, the hours are digits if and only if the first digits end there
 pub hours-run : (text : List ℕ) → nat_lt (colon_place text) (length text) ≡ true
     → list_all is_ascii_digit (hours text) ≡ true → run_length text 0 ≡ colon_place text
-hours-run text some digits = search (rules, run_length-ended, colon-no_digit, passes_at_first)
-
-pub hours-are_run : (text : List ℕ) → run_length text 0 ≡ colon_place text
-    → list_all is_ascii_digit (hours text) ≡ true
-hours-are_run text same =
-    ap (λ (n : ℕ). list_all is_ascii_digit (take n text)) (sym same) ∙ run-digits text
+hours-run text some digits = search (rules, run_length-ended, passes_at_first)
 
 -- so hours begin a text where `:` follows its first digits, and these are at most ten
 has_hours-of : (text : List ℕ) (ends : Bool) → (get_or text (run_length text 0) 0 == colon) ≡ ends
     → has_hours text ≡ (ends && nat_le (run_length text 0) 10)
 has_hours-of text ends other =
-    search (rules, hours-run, passes_at_first, colon_place-run, eqb-true, hours-are_run)
+    search (rules, hours-run, passes_at_first, colon_place-run, eqb-true, run-digits)
 
 pub has_hours-run : (text : List ℕ)
     → has_hours text
@@ -112,23 +100,15 @@ pub clock-rest : {E : Type 0} (refuse : ParseError → ℕ → E) (behavior : Be
 clock-rest refuse behavior text colon count read same few =
     let all = digits_value (hours text) in
     let held = refusal-value refuse (hours_table text) (colon_place text) colon (sym read) in
-    let hours_there = hours-count text held.0 in
-    let range : nat_le all 2400000000 ≡ true = grind (
+    let last = hours_rest refuse behavior text (colon_place text) all in
+    grind (
       arith,
       nat_tests,
-      same,
-      few,
-      hours_there,
-    ) in
-    let counted : count ≡ all = omega (arith, same, few, hours_there) in
-    let rest = hours_rest refuse behavior text in
-    let last = rest (colon_place text) all in
-    let ranged = first_refusal_or refuse (hours_range all) last in
-    let too_large = refuse ParseError.DurationHourValueTooLarge 0 in
-    let whole = clock_form-seen refuse behavior text
-    ∙ refusal-all refuse (hours_table text) ranged held.0
-    ∙ ap (λ (holds : Bool). if holds then last else Err too_large) range in
-    ap (rest colon) counted ∙ ap (λ (place : ℕ). rest place all) (sym held.1) ∙ sym whole
+      held.1,
+      hours-count text held.0,
+      clock_form-seen refuse behavior text,
+      refusal-all refuse (hours_table text) (first_refusal_or refuse (hours_range all) last) held.0,
+    )
 
 digits-no_letter : (text : List ℕ) → list_all is_ascii_digit text ≡ true
     → list_any is_day_letter text ≡ false
@@ -140,11 +120,11 @@ pub letter-after_digits : (text : List ℕ)
     → list_any is_day_letter (drop (run_length text 0) text) ≡ list_any is_day_letter text
 letter-after_digits text =
     let front : List ℕ = take (run_length text 0) text in
-    let rest : List ℕ = drop (run_length text 0) text in
-    let none = digits-no_letter front (run-digits text) in
-    sym (ap (λ (one : Bool). one || list_any is_day_letter rest) none)
-    ∙ sym (list_any-append is_day_letter front rest)
-    ∙ ap (list_any is_day_letter) (take-append-drop (run_length text 0) text)
+    cc (
+      digits-no_letter front (run-digits text),
+      list_any-append is_day_letter front (drop (run_length text 0) text),
+      take-append-drop (run_length text 0) text,
+    )
 
 -- what the search for the letter cites
 pub ruleset letter_rules = (nat_tests, take_rest, letter-after_digits)

@@ -1,5 +1,5 @@
 -- A column, line by line.
-use Rattle.std.proofs.Common.{rules, Bool, false, ◌≡◌, ◌∙◌, ap, sym, refl, ℕ, zero, suc, ◌+◌, ◌-◌, ◌≤◌, List, [], ◌∷◌, ◌++◌, length, take, drop, set, add-one, append_assoc, arith, Option, Some, None, Result, Ok, Err}
+use Rattle.std.proofs.Common.{rules, Bool, false, ◌≡◌, ap, refl, ℕ, zero, suc, ◌+◌, ◌-◌, ◌≤◌, List, [], ◌∷◌, ◌++◌, length, take, drop, set, add-one, append_assoc, arith, Option, Some, None, Result, Ok}
 use Rattle.std.proofs.Math.Seq.{take-nil}
 use Rattle.std.proofs.lemmas.List.{take-append-drop, drop-drop, drop-take, length-drop, length-take, length-take-le}
 use Rattle.speedate.specs.declared.column.Line.{Line}
@@ -37,22 +37,18 @@ pub overwritten-front : {N : Type 0} → (old new all : List N) (room lines : �
     → all ≡ overwritten (take room old) new → all ++ drop room old ≡ new ++ drop lines old
 overwritten-front {N = N} old new all room lines within few counted is =
     let cut : List N = take room old in
-    let long : length cut ≡ room = length-take-le room old within in
-    let fits : length new ≤ length cut = omega (arith, long, few, counted) in
+    let fits : length new ≤ length cut =
+    omega (arith, length-take-le room old within, few, counted) in
     let more = room - lines in
-    let left : lines + more ≡ room = omega (arith, few) in
     let after : List N = drop lines old in
-    let kept : List N = take more after in
-    let written = is
-    ∙ overwritten-rest cut new fits
-    ∙ ap (λ (n : ℕ). new ++ drop n cut) (sym counted)
-    ∙ ap (λ (n : ℕ). new ++ drop lines (take n old)) (sym left)
-    ∙ ap (λ (list : List N). new ++ list) (drop-take lines more old) in
-    ap (λ (list : List N). list ++ drop room old) written
-    ∙ append_assoc new kept (drop room old)
-    ∙ ap (λ (n : ℕ). new ++ (kept ++ drop n old)) (sym left)
-    ∙ ap (λ (list : List N). new ++ (kept ++ list)) (sym (drop-drop more lines old))
-    ∙ ap (λ (list : List N). new ++ list) (take-append-drop more after)
+    search (
+      rules,
+      overwritten-rest cut new fits,
+      append_assoc new (take more after) (drop room old),
+      drop-take lines more old,
+      drop-drop more lines old,
+      take-append-drop more after,
+    )
 
 -- what a column holds after some lines: the whole column, by what is written and by the column of
 -- what is left
@@ -135,8 +131,7 @@ text_column-none answer config refused room text none = search (rules, take-nil)
 -- it has no more lines than there is room for
 onto_column-short : {N : Type 0} → (held : Result (N × ℕ) LineError) (rest : Column N) (room : ℕ)
     → length rest.numbers ≤ room → length (onto_column held rest).numbers ≤ suc room
-onto_column-short (Ok held) rest room short = omega (arith, short)
-onto_column-short (Err fault) rest room short = omega arith
+onto_column-short held rest room short = search rules
 
 column-short : {N : Type 0}
     → (answer : List ℕ → Result N LineError) (refused : Option N) (lines : List (List ℕ))
@@ -156,8 +151,7 @@ text_column-short answer config refused room text = search (rules, column-short,
 onto_column-errors : {N : Type 0} → (held : Result (N × ℕ) LineError) (rest : Column N)
     → length rest.errors ≡ length rest.numbers
     → length (onto_column held rest).errors ≡ length (onto_column held rest).numbers
-onto_column-errors (Ok held) rest same = ap suc same
-onto_column-errors (Err fault) rest same = refl
+onto_column-errors held rest same = search rules
 
 column-errors : {N : Type 0}
     → (answer : List ℕ → Result N LineError) (refused : Option N) (lines : List (List ℕ))
@@ -179,8 +173,7 @@ text_column-errors answer config refused room text =
 onto_column-goes_on : {N : Type 0} → (given : Result N LineError) (number : N) (rest : Column N)
     → rest.fault ≡ None
     → (onto_column (entry (Some number) given) rest).fault ≡ None
-onto_column-goes_on (Ok value) number rest none = none
-onto_column-goes_on (Err fault) number rest none = none
+onto_column-goes_on given number rest none = search rules
 
 column-goes_on : {N : Type 0}
     → (answer : List ℕ → Result N LineError) (number : N) (lines : List (List ℕ))
@@ -228,15 +221,5 @@ IsLeft-more config text rest read size lines within before found =
     let cut : length text - length after ≡ bytes + size =
     omega (arith, length-drop size rest, within, found.within) in
     let place : drop (length text - length after) text ≡ after =
-    ap (λ (n : ℕ). drop n text) cut
-    ∙ sym (drop-drop size bytes text)
-    ∙ ap (drop size) before.place in
-    let all = ap (whole_lines config.at_end) (sym before.place) ∙ before.whole in
-    record {
-      place = place;
-      whole = ap (whole_lines config.at_end) place
-          ∙ ap (λ (list : List (List ℕ)). drop 1 list) (sym found.lines ∙ all)
-          ∙ drop-drop 1 lines (whole_lines config.at_end text);
-      unfinished = λ goes_on. ap unfinished_line place ∙ found.unfinished goes_on
-          ∙ ap unfinished_line (sym before.place) ∙ before.unfinished goes_on;
-    }
+    cc (cut, before.place, drop-drop size bytes text) in
+    search (rules, place, before.place, drop-drop 1 lines (whole_lines config.at_end text))

@@ -1,5 +1,5 @@
 -- The text of a column, line by line.
-use Rattle.std.proofs.Common.{Bool, true, false, ◌≡◌, ◌≢◌, ◌∙◌, ap, sym, refl, ℕ, ◌+◌, ◌-◌, ◌<◌, ◌≤◌, List, [], ◌∷◌, ◌++◌, length, take, drop, get_or, map, append_assoc, append-nil, arith, Some, Result, Ok, Err}
+use Rattle.std.proofs.Common.{rules, Bool, ◌≡◌, ◌≢◌, ◌∙◌, ap, refl, ℕ, ◌+◌, ◌-◌, ◌<◌, ◌≤◌, List, [], ◌∷◌, ◌++◌, length, take, drop, get_or, map, append_assoc, append-nil, arith, Some, Result, Ok}
 use Rattle.std.proofs.Math.Seq.{take-append_seam, drop-append_seam}
 use Rattle.std.proofs.lemmas.List.{length-append, length-take-le, map-append, take_all, drop-drop}
 use Rattle.std.proofs.lemmas.Bool.{lt-ltb}
@@ -8,7 +8,7 @@ use Rattle.speedate_base.specs.Ascii.{HasNoControl, carriage_return, line_feed}
 use Rattle.speedate.specs.Column.{Column, LineConfig, LineError, column, entry, line_answer}
 use Rattle.speedate.specs.Column.{onto_column, text_column}
 use Rattle.speedate.specs.ColumnText.{ColumnText, column_text, number_or, onto_lines}
-use Rattle.speedate.specs.Lines.{Pieces, complete_lines, last_line, lines, pieces}
+use Rattle.speedate.specs.Lines.{complete_lines, lines}
 use Rattle.speedate.specs.Lines.{unfinished_line, whole_lines}
 use Rattle.speedate.proofs.LineLemmas.{EndsNoLine, IsFree, pieces-append, pieces-line}
 use Rattle.speedate.proofs.LineLemmas.{no_return-printed}
@@ -37,8 +37,7 @@ pub record IsReadSoFar {N : Type 0}
 onto-map : {N : Type 0} → (refused : N) (answer : Result N LineError) (rest : Column N)
     → (onto_column (entry (Some refused) answer) rest).numbers
     ≡ number_or refused answer ∷ rest.numbers
-onto-map refused (Ok number) rest = refl
-onto-map refused (Err fault) rest = refl
+onto-map refused answer rest = search rules
 
 column-map : {N : Type 0} → (answer : List ℕ → Result N LineError) (refused : N)
     (all : List (List ℕ))
@@ -52,10 +51,7 @@ column-map {N = N} answer refused (line ∷ all) =
 -- the lines of a text that ends with a line feed are whole
 whole_lines-whole : (at_end : Bool) (text : List ℕ) → unfinished_line text ≡ []
     → whole_lines at_end text ≡ complete_lines text
-whole_lines-whole true text whole =
-    ap (λ (last : List ℕ). complete_lines text ++ last_line last) whole
-    ∙ append-nil (complete_lines text)
-whole_lines-whole false text whole = refl
+whole_lines-whole at_end text whole = search (rules, append-nil)
 
 -- the column of such a text
 pub text_column-read : {N : Type 0}
@@ -67,12 +63,12 @@ pub text_column-read : {N : Type 0}
 unfolding text_column
 text_column-read {N = N} LeadsBack text numbers read answer refused config room enough back =
     let all = complete_lines text in
-    let cut = ap (take room) (whole_lines-whole config.at_end text read.whole)
-    ∙ take_all room all (omega (arith, read.count, enough)) in
-    let line = line_answer answer config in
-    ap (λ (all : List (List ℕ)). (column line (Some refused) all).numbers) cut
-    ∙ column-map line refused all
-    ∙ read.reads answer refused config back
+    cc (
+      whole_lines-whole config.at_end text read.whole,
+      take_all room all (omega (arith, read.count, enough)),
+      column-map (line_answer answer config) refused all,
+      read.reads answer refused config back,
+    )
 
 -- after one more line
 pub IsPrintedSoFar-more : (whole left rest : ColumnText) (lines next_line bytes next : ℕ)
@@ -91,37 +87,13 @@ IsPrintedSoFar-more whole left rest lines next_line bytes next out_old out out_n
     let long : length front ≡ bytes = length-take-le bytes out (omega (arith, within)) in
     let size : length (front ++ ended) ≡ next =
     omega (arith, there, long, length-append front ended, length-append line (line_feed ∷ [])) in
-    let parts : out_new ≡ (front ++ ended) ++ tail =
-    put
-    ∙ ap (λ (list : List ℕ). front ++ list) (sym (append_assoc line (line_feed ∷ []) tail))
-    ∙ sym (append_assoc front ended tail) in
-    let taken : take next out_new ≡ front ++ ended =
-    ap (take next) parts
-    ∙ ap (λ (n : ℕ). take n ((front ++ ended) ++ tail)) (sym size)
-    ∙ take-append_seam (front ++ ended) tail in
-    let dropped : drop next out_new ≡ tail =
-    ap (drop next) parts
-    ∙ ap (λ (n : ℕ). drop n ((front ++ ended) ++ tail)) (sym size)
-    ∙ drop-append_seam (front ++ ended) tail in
-    let after : bytes + length line + 1 ≡ bytes + (length line + 1) = omega arith in
-    let cut : tail ≡ drop next out_old =
-    ap (λ (n : ℕ). drop n out) after
-    ∙ sym (drop-drop (length line + 1) bytes out)
-    ∙ ap (drop (length line + 1)) before.kept
-    ∙ drop-drop (length line + 1) bytes out_old
-    ∙ ap (λ (n : ℕ). drop n out_old) (sym there) in (
-      record {
-        count = omega (arith, before.count, one_more, ap (λ (all : ColumnText). all.lines) is);
-        fault = before.fault ∙ ap (λ (all : ColumnText). all.fault) is;
-        text = before.text
-            ∙ ap (λ (all : ColumnText). front ++ all.text) is
-            ∙ ap (λ (list : List ℕ). front ++ list)
-            (sym (append_assoc line (line_feed ∷ []) rest.text))
-            ∙ sym (append_assoc front ended rest.text)
-            ∙ ap (λ (list : List ℕ). list ++ rest.text) (sym taken);
-        kept = dropped ∙ cut;
-      },
-      taken,
+    search (
+      rules,
+      append_assoc,
+      take-append_seam (front ++ ended) tail,
+      drop-append_seam (front ++ ended) tail,
+      drop-drop (length line + 1) bytes out,
+      drop-drop (length line + 1) bytes out_old,
     )
 
 -- a line without control characters holds no line feed, and ends with no carriage return
@@ -145,41 +117,15 @@ pub IsReadSoFar-more : {N : Type 0}
     → number_or refused (answer line) ≡ number)
     → IsReadSoFar LeadsBack (text ++ (line ++ line_feed ∷ [])) (numbers ++ number ∷ [])
 IsReadSoFar-more {N = N} LeadsBack text line numbers number before printed back =
-    let ended : List ℕ = line ++ line_feed ∷ [] in
-    let all = complete_lines text in
-    let is : pieces (text ++ ended) ≡ record { complete = all ++ line ∷ []; unfinished = [] } =
-    pieces-append text ended
-    ∙ ap (λ (last : List ℕ). record {
-      complete = all ++ complete_lines (last ++ ended);
-      unfinished = unfinished_line (last ++ ended);
-    }) before.whole
-    ∙ ap (λ (rest : Pieces). record {
-      complete = all ++ rest.complete;
-      unfinished = rest.unfinished;
-    }) (pieces-line line [] (free line printed)) in
-    let complete : complete_lines (text ++ ended) ≡ all ++ line ∷ [] =
-    ap (λ (rest : Pieces). rest.complete) is in
-    record {
-      whole = ap (λ (rest : Pieces). rest.unfinished) is;
-      count =
-          ap length complete
-          ∙ omega (
-            arith,
-            before.count,
-            length-append all (line ∷ []),
-            length-append numbers (number ∷ []),
-          );
-      reads = λ answer refused config leads.
-          let of_line = λ (line : List ℕ). number_or refused (line_answer answer config line) in
-          let kept = without_return-kept config.drops_returns line (no_return line printed) in
-          let last = ap (λ (line : List ℕ). number_or refused (answer line)) kept
-          ∙ back answer refused leads in
-          ap (map of_line) complete
-          ∙ map-append of_line all (line ∷ [])
-          ∙ ap (λ (front : List N). front ++ of_line line ∷ [])
-          (before.reads answer refused config leads)
-          ∙ ap (λ (one : N). numbers ++ one ∷ []) last;
-    }
+    search (
+      rules,
+      pieces-append text (line ++ line_feed ∷ []),
+      pieces-line line [] (free line printed),
+      length-append,
+      map-append,
+      without_return-kept,
+      no_return,
+    )
 
 -- the text of numbers by that of the first
 pub column_text-more : {N : Type 0} → (line_of : N → Result (List ℕ) LineError) (room : ℕ)

@@ -5,11 +5,11 @@ use Rattle.std.proofs.Math.Seq.{drop-append_seam}
 use Rattle.std.proofs.lemmas.List.{length-append}
 use Rattle.speedate_base.specs.Ascii.{capital_p}
 use Rattle.speedate_base.specs.Numbers.{IsSign, has_minus, sign_size}
-use Rattle.speedate_base.specs.Refused.{from_byte, seen_as, without_place}
+use Rattle.speedate_base.specs.Refused.{seen_as, without_place}
 use Rattle.speedate_base.specs.declared.refusal.Refused.{Refused}
 use Rattle.speedate_base.specs.Requirement.{fault_alone, first_fault_or, result_and_then}
 use Rattle.speedate_base.proofs.RefusalLemmas.{seen-from, seen-table}
-use Rattle.speedate.specs.Duration.{days_or_clock, duration_answer, iso_after, iso_form}
+use Rattle.speedate.specs.Duration.{days_or_clock, duration_answer, iso_after}
 use Rattle.speedate.specs.Duration.{unsigned_answer}
 use Rattle.speedate.specs.DurationNumbers.{DurationNumbers, UnsignedDuration}
 use Rattle.speedate.specs.DurationNumbers.{signed_form}
@@ -100,16 +100,9 @@ pub then-seen : {A B E : Type 0} (refuse : ParseError → ℕ → E) (step : A �
     (seen : A → Result B E) (answer : Result A Refused)
     → ((value : A) → seen_as refuse (step value) ≡ seen value)
     → seen_as refuse (result_and_then step answer) ≡ result_and_then seen (seen_as refuse answer)
-then-seen refuse step seen (Ok value) same = same value
-then-seen refuse step seen (Err refused) same = refl
+then-seen refuse step seen answer same = search rules
 
 -- the answer by the form of the text
-unsigned-form : (order : IsoOrder) (behavior : Behavior) (text : List ℕ) (iso : Bool)
-    → without_place (if iso then from_byte 1 (iso_form order (drop 1 text))
-    else days_or_clock behavior text)
-    ≡ (if iso then fault_form order (drop 1 text) else without_place (days_or_clock behavior text))
-unsigned-form order behavior text iso = search (rules, seen-from)
-
 pub duration_answer-form : (order : IsoOrder) (behavior : Behavior) (text : List ℕ)
     → duration_fault order behavior text
     ≡ result_and_then (signed_form (not (has_minus text)))
@@ -117,8 +110,7 @@ pub duration_answer-form : (order : IsoOrder) (behavior : Behavior) (text : List
     then fault_form order (drop 1 (drop (sign_size text) text))
     else without_place (days_or_clock behavior (drop (sign_size text) text)))
 unfolding unsigned_answer
-duration_answer-form order behavior text =
-    search (rules, seen-from, then-seen, seen-table, unsigned-form)
+duration_answer-form order behavior text = search (rules, seen-from, then-seen, seen-table)
 
 -- after a sign and a `P` the answer is that of ISO 8601
 pub duration_answer-iso : (order : IsoOrder) (behavior : Behavior) (negative : Bool)

@@ -1,6 +1,6 @@
 -- Durations by their amounts: their one normal form, amounts with their sign, the duration between
 -- two values, and the value a duration after another.
-use Rattle.std.proofs.Common.{rules, arith, ◌∙◌, ap, sym, subst, ◌≡◌, ℕ, ◌<◌, ◌≤◌, Bool, true, false, not, ◌||◌, ◌==◌, ℤ, pos, neg_ℤ, ◌+ℤ◌, ◌-ℤ◌, ◌*ℤ◌, ◌≤ℤ◌, Option, Some, None, Ordering, IfSome, Result, Ok, Err, IfOk, unsigned_abs, refl, [], ◌∷◌, if◌then◌else◌, ok_or, unwrap_or, int_cmp}
+use Rattle.std.proofs.Common.{rules, arith, ◌∙◌, ap, sym, ◌≡◌, ℕ, ◌<◌, ◌≤◌, Bool, true, false, not, ℤ, pos, neg_ℤ, ◌+ℤ◌, ◌-ℤ◌, ◌*ℤ◌, ◌≤ℤ◌, Option, Ordering, IfSome, Result, Ok, Err, IfOk, unsigned_abs, refl, [], ◌∷◌, ok_or, unwrap_or, int_cmp}
 use Rattle.speedate_civil.specs.Base.{ParseError}
 use Rattle.std.proofs.lemmas.Int.{ints}
 use Rattle.std.proofs.lemmas.Result.{IfOk-weaker}
@@ -11,28 +11,23 @@ use Rattle.speedate_base.proofs.TimestampLemmas.{instant_at-microsecond, instant
 use Rattle.speedate_civil.specs.declared.datetime.DateTime.{DateTime}
 use Rattle.speedate_civil.specs.DateTime.{DateAndTime, IsDateAndTime, local_second}
 use Rattle.speedate_civil.specs.DateTime.{local_microsecond, utc_microsecond, date_and_time}
-use Rattle.speedate_civil.specs.DateTime.{IsShownAt, instant_date_time}
+use Rattle.speedate_civil.specs.DateTime.{IsShownAt}
 use Rattle.speedate_civil.proofs.DateTimeInstantLemmas.{instant_date_time-shown}
 use Rattle.speedate_civil.proofs.DateTimeTimestampLemmas.{instant_date_time-local}
 use Rattle.speedate.specs.Duration.{duration_numbers, Duration, signed_amount, duration_of_amount}
 use Rattle.speedate.specs.Duration.{amount_answer, with_positive_zero, duration_between}
 use Rattle.speedate.specs.Duration.{date_time_later, negated, date_later, is_whole_days}
-use Rattle.speedate.specs.DurationNumbers.{DurationNumbers, IsDuration, amount_microseconds}
-use Rattle.speedate.specs.DurationNumbers.{of_amount, normal_form, signed_day, signed_seconds}
+use Rattle.speedate.specs.DurationNumbers.{DurationNumbers, IsDuration}
+use Rattle.speedate.specs.DurationNumbers.{normal_form, signed_day, signed_seconds}
 use Rattle.speedate.specs.DurationNumbers.{signed_microsecond}
 use Rattle.speedate_base.specs.Requirement.{fault_alone, ◌else_fault◌, first_fault_or, result_map}
 use Rattle.speedate_civil.specs.declared.date.Date.{Date}
-use Rattle.speedate_civil.specs.Calendar.{Ymd, day_number, date_counted, date_order, days_between}
+use Rattle.speedate_civil.specs.Calendar.{Ymd, day_number, date_order, days_between}
 use Rattle.speedate_civil.specs.Date.{ymd}
 use Rattle.speedate_civil.proofs.DateOrderLemmas.{counted-order, date_numbered-is}
 use Rattle.speedate_base.proofs.RefusalLemmas.{refusal-all}
 use Rattle.speedate_civil.proofs.ValueLemmas.{is_day, is_date_and_time, offset-small}
 use Rattle.speedate_civil.proofs.ValueLemmas.{local_second-late, local_second-early}
-
--- numbers in their ranges are those of their amount
-pub of_amount-only : (numbers : DurationNumbers) → IsDuration numbers
-    → of_amount numbers.positive (amount_microseconds numbers) ≡ numbers
-of_amount-only numbers valid = search rules
 
 -- the normal form of a duration is itself
 pub normal_form-same : (numbers : DurationNumbers) → IsDuration numbers
@@ -51,15 +46,10 @@ signed_amount-joined numbers = search rules
 pub signed_amount-kept : (amount : ℤ) → signed_amount (duration_of_amount amount) ≡ amount
 signed_amount-kept amount = search rules
 
--- the duration of an amount with its sign: none has the positive one
-signed-kept : (positive : Bool) (size : ℕ)
-    → duration_of_amount (with_sign (not positive) size) ≡ of_amount (positive || (size == 0)) size
-signed-kept positive size = search rules
-
 -- a duration comes back from its amount, but positive zero for negative zero
 amount-back : (numbers : DurationNumbers) → IsDuration numbers
     → duration_of_amount (signed_amount numbers) ≡ with_positive_zero numbers
-amount-back numbers valid = search (rules, signed-kept, of_amount-only)
+amount-back numbers valid = search rules
 
 pub amount_answer-back : (numbers : DurationNumbers) → IsDuration numbers
     → amount_answer (signed_amount numbers) ≡ Ok (with_positive_zero numbers)
@@ -123,20 +113,18 @@ pub date_time_later-exact : (amount : ℤ) (start end : DateAndTime) → IsDateA
     → end.time.offset ≡ start.time.offset
     → utc_microsecond end ≡ utc_microsecond start +ℤ amount → date_time_later amount start ≡ Ok end
 date_time_later-exact amount start end valid attached same =
-    let offset = start.time.offset in
     let second = local_second end in
     let own = end.time.microsecond in
     let instant : Instant = record { second = second; microsecond = own } in
-    let given = unwrap_or offset (pos 0) in
+    let given = unwrap_or start.time.offset (pos 0) in
     let local = λ (one : Option ℤ). second -ℤ unwrap_or one (pos 0) in
     let at_offset = λ (one : Option ℤ). pos 1000000 *ℤ local one +ℤ pos own in
     let later = ap at_offset (sym attached) ∙ same in
-    let moved_by = unmoved second (local_second start) given amount own start.time.microsecond in
-    ap (λ (n : ℤ). instant_date_time offset (instant_at n)) (moved_by later)
-    ∙ ap (instant_date_time offset)
-    (instant_at-is (local_microsecond end) instant valid.time.microsecond refl)
-    ∙ ap (λ (one : Option ℤ). instant_date_time one instant) (sym attached)
-    ∙ instant_date_time-local end valid
+    cc (
+      unmoved second (local_second start) given amount own start.time.microsecond later,
+      instant_at-is (local_microsecond end) instant valid.time.microsecond refl,
+      instant_date_time-local end valid,
+    )
 
 -- what lies as far apart is in the same order
 apart-order : (first second one two : ℤ) → first -ℤ second ≡ one -ℤ two
@@ -215,14 +203,12 @@ pub date-back : (numbers : DurationNumbers) (start : Date) (end : Ymd)
 date-back numbers start end whole moved =
     let date = ymd start in
     let first = day_number date in
-    let later = not numbers.positive in
-    let outside = if later then ParseError.DateTooLarge else ParseError.DateTooSmall in
     let table = (is_whole_days numbers else_fault ParseError.DateNotExact) ∷ [] in
-    let back = days-back numbers.positive numbers.day first (day_number end) moved in
-    let numbered = date_numbered-is first date (is_day start) start.year_in_range refl in
-    refusal-all fault_alone table _ (whole, tt)
-    ∙ ap (λ (n : ℤ). ok_or (date_counted n) outside) back
-    ∙ ap (λ (date : Option Ymd). ok_or date outside) numbered
+    cc (
+      refusal-all fault_alone table _ (whole, tt),
+      days-back numbers.positive numbers.day first (day_number end) moved,
+      date_numbered-is first date (is_day start) start.year_in_range refl,
+    )
 
 -- days the other way are the negative ones
 pub turned : (positive : Bool) (day start end : ℕ)
@@ -237,11 +223,7 @@ later-order : (one two : Bool) (date other : Option Ymd) (fault next : ParseErro
     → IfOk (first_fault_or ((one else_fault ParseError.DateNotExact) ∷ []) (ok_or date fault))
     (λ end. IfOk (first_fault_or ((two else_fault ParseError.DateNotExact) ∷ []) (ok_or other next))
     (λ last. date_order end last ≡ amounts))
-later-order true true (Some end) (Some last) fault next order amounts same is = is ∙ same
-later-order true true (Some end) None fault next order amounts same is = tt
-later-order true false (Some end) other fault next order amounts same is = tt
-later-order true two None other fault next order amounts same is = tt
-later-order false two date other fault next order amounts same is = tt
+later-order one two date other fault next order amounts same is = search rules
 
 -- so the dates after two durations of days are in the order of the days
 pub date_later-order : (one two : DurationNumbers) (start : Ymd)
@@ -281,5 +263,4 @@ date_earlier-order one two start =
 pub of-date : (result : Result Date ParseError) (answer : Result Ymd ParseError)
     (P : Ymd → Type 0) → result_map ymd result ≡ answer → IfOk answer P
     → IfOk result (λ date. P (ymd date))
-of-date (Ok date) answer P same is = subst (λ read. IfOk read P) (sym same) is
-of-date (Err fault) answer P same is = tt
+of-date result answer P same is = search rules

@@ -24,9 +24,7 @@ pub ruleset part_rules = (seen_then, seen-part, take_rest)
 
 -- a part that begins at the front is the whole
 from-front : {A : Type 0} (answer : Result A Refused) → answer ≡ from_byte 0 answer
-from-front (Ok value) = refl
-from-front (Err refused) =
-    ap (λ (place : ℕ). Err (placed refused.fault place)) (sym (zero-add refused.place))
+from-front answer = search (rules, zero-add)
 
 -- what follows the bytes of an item
 iso_after-rest : (skipped : ℕ) (sums : IsoSums) (text : List ℕ) → skipped ≤ length text
@@ -92,14 +90,13 @@ pub iso_from-next : {E D : Type 0} (refuse : ParseError → ℕ → E) (other : 
     ≡ seen_as (shifted (end - length (drop size rest)) refuse) (iso_from next (drop size rest))
 iso_from-next refuse other sums next end rest size some within small read =
     let start = end - length rest in
-    let after = iso_from next (drop size rest) in
-    let left : length (drop size rest) ≡ length rest - size = length-drop size rest in
-    let there : start + size ≡ end - length (drop size rest) = omega (arith, left, within, small) in
     let has_bytes : 0 < length rest = omega (arith, some, within) in
-    ap (seen_as (shifted start refuse))
-    (iso_from-read other sums next rest size has_bytes within read)
-    ∙ seen-part refuse start size after
-    ∙ ap (λ (start : ℕ). seen_as (shifted start refuse) after) there
+    search (
+      rules,
+      length-drop size rest,
+      seen-part refuse start size (iso_from next (drop size rest)),
+      iso_from-read other sums next rest size has_bytes within read,
+    )
 
 -- what was read of a part is read of the whole
 pub iso_from-part : {E : Type 0} (refuse : ParseError → ℕ → E) (end : ℕ) (sums next : IsoSums)
@@ -148,13 +145,12 @@ pub iso_from-time_part : (sums next : IsoSums) (text rest : List ℕ) → 0 < le
     → from_byte (length text - length rest) (iso_from next rest) ≡ iso_from sums text
 iso_from-time_part sums next text rest some first none less same =
     let after = drop 1 text in
-    let size = length after - length rest in
-    let left : length after ≡ length text - 1 = length-drop 1 text in
-    let there : length text - length rest ≡ 1 + size = omega (arith, left, some, less) in
-    ap (λ (start : ℕ). from_byte start (iso_from next rest)) there
-    ∙ sym (seen-part placed 1 size (iso_from next rest))
-    ∙ ap (from_byte 1) same
-    ∙ sym (iso_from-after_time sums text some first none)
+    search (
+      rules,
+      length-drop 1 text,
+      seen-part placed 1 (length after - length rest) (iso_from next rest),
+      iso_from-after_time sums text some first none,
+    )
 
 -- The first item after which a test of the sums does not hold.
 

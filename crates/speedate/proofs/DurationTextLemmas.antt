@@ -39,14 +39,9 @@ pub ruleset printed_digits = (
 )
 
 -- a number and its unit
-chosen-length : (none : Bool) (text : List ℕ) (most : ℕ) → length text ≤ most
-    → length (if none then [] else text) ≤ most
-chosen-length none text most fits = search (rules)
-
 counted-length : (places number unit : ℕ) → 0 < places → number < 10 ^ places → number < 2 ^ 32
     → length (counted_text number unit) ≤ places + 1
-counted-length places number unit some small fits =
-    search (rules, chosen-length, length-append, length-decimal-le)
+counted-length places number unit some small fits = search (rules, length-append, length-decimal-le)
 
 pub years-length : (day : ℕ) → day ≤ 999999999 → length (counted_text (day / 365) capital_y) ≤ 8
 years-length day few =

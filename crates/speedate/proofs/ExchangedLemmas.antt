@@ -2,7 +2,6 @@
 -- neighbouring components of one side.
 use Rattle.std.proofs.Common.{rules, arith, ap, sym, ◌∙◌, append_assoc, ◌≡◌, ℕ, ◌≤◌, Bool, not, ◌&&◌, List, [], ◌∷◌, ◌++◌, nat_le, if◌then◌else◌, Option, Result, Err, refl, flat_map}
 use Rattle.speedate_civil.specs.Base.{Behavior, IsoOrder, ParseError}
-use Rattle.std.proofs.lemmas.Int.{ints}
 use Rattle.std.proofs.lemmas.Bool.Decides.{nat_tests}
 use Rattle.speedate_base.specs.Digits.{digits_value}
 use Rattle.speedate_base.specs.Requirement.{first_fault_or, result_and_then}
@@ -25,12 +24,8 @@ abbrev IsFree : IsoSums → Type 0
 IsFree sums = (sums.order ≡ IsoOrder.Lax) × (sums.next_units ≡ units sums.is_time)
 
 -- in the lax order those after an item are such sums again
-component-free : (unit : Option IsoUnit) (component : ComponentText) (sums : IsoSums)
-    → IsFree sums → IsFree (with_component unit component sums)
-component-free unit component sums free = search rules
-
 item-free : (item : Item) (sums : IsoSums) → IsFree sums → IsFree (with_item item sums)
-item-free item sums free = search (rules, component-free)
+item-free item sums free = search rules
 
 -- whether its number and the sums with it are counted in 32 bits
 abbrev fits : IsoSums → ComponentText → Bool
@@ -69,13 +64,6 @@ plain-next : (sums : IsoSums) (first second : ComponentText) → IsPlain sums fi
     → IsPlain sums second → IsPlain (with_item (Component first) sums) second
 plain-next sums first second one two = search rules
 
--- where both fit in one order, they fit in the other
-fits-exchanged : (sums : IsoSums) (first second : ComponentText) → IsFree sums
-    → (fits sums first && fits (with_item (Component first) sums) second)
-    ≡ (fits sums second && fits (with_item (Component second) sums) first)
-fits-exchanged sums first second free =
-    grind (arith, ints, nat_tests, sums-exchanged, component-grows)
-
 -- an answer, or that a number is too large
 abbrev fitting_or : Bool → Result UnsignedDuration ParseError → Result UnsignedDuration ParseError
 fitting_or fit answer = if fit then answer else Err ParseError.DurationValueTooLarge
@@ -92,28 +80,26 @@ pair-answer : (sums : IsoSums) (first second : ComponentText) (rest : List ℕ) 
     ≡ fitting_or (fits sums first && fits (with_item (Component first) sums) second)
     (fault_from (with_item (Component second) (with_item (Component first) sums)) rest)
 pair-answer sums first second rest free one two =
-    let first_item = Component first in
-    let second_item = Component second in
-    let next = with_item first_item sums in
-    let last = fault_from (with_item second_item next) rest in
+    let item = Component first in
+    let other = Component second in
+    let next = with_item item sums in
+    let last = fault_from (with_item other next) rest in
+    let after = item_text other ++ rest in
     let plain = plain-next sums first second one two in
-    let free_next = item-free first_item sums free in
-    let second_is = item_at-whole next second_item rest plain.0 in
-    let or_too_large = fitting_or (fits sums first) in
-    let later = iso_from-item next second_item rest second_is
-    ∙ plain-table next second last free_next plain in
-    let after = item_text second_item ++ rest in
-    iso_from-item sums first_item after (item_at-whole sums first_item after one.0)
-    ∙ plain-table sums first _ free one
-    ∙ ap or_too_large later
-    ∙ two-rows (fits sums first) (fits next second) ParseError.DurationValueTooLarge last
+    cc (
+      iso_from-item sums item after (item_at-whole sums item after one.0),
+      plain-table sums first _ free one,
+      iso_from-item next other rest (item_at-whole next other rest plain.0),
+      plain-table next second last (item-free item sums free) plain,
+      two-rows (fits sums first) (fits next second) ParseError.DurationValueTooLarge last,
+    )
 
 -- it does not depend on their order
 pair-exchanged : (sums : IsoSums) (first second : ComponentText) (rest : List ℕ) → IsFree sums
     → IsPlain sums first → IsPlain sums second
     → fault_from sums (pair_text first second rest) ≡ fault_from sums (pair_text second first rest)
 pair-exchanged sums first second rest free one two =
-    search (rules, pair-answer, fits-exchanged, sums-exchanged)
+    grind (arith, nat_tests, pair-answer, sums-exchanged, component-grows)
 
 -- an item before others is judged first
 item-first : (sums : IsoSums) (item : Item) (items : List Item) (text : List ℕ)
@@ -138,10 +124,11 @@ after-exchanged sums [] first second rest free whole one two =
 after-exchanged sums (item ∷ items) first second rest free whole one two =
     let later = with_item item sums in
     let free_later = item-free item sums free in
-    let others = after-exchanged later items first second rest free_later whole.1 one two in
-    item-first sums item items (pair_text first second rest) whole.0
-    ∙ ap (first_fault_or (item_table sums item)) others
-    ∙ sym (item-first sums item items (pair_text second first rest) whole.0)
+    cc (
+      after-exchanged later items first second rest free_later whole.1 one two,
+      item-first sums item items (pair_text first second rest) whole.0,
+      item-first sums item items (pair_text second first rest) whole.0,
+    )
 
 -- texts that differ only in that order have the same answer
 pub duration_answer-exchanged : (asked : IsoOrder) (behavior : Behavior) (one two : List ℕ)

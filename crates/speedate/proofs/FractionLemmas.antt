@@ -12,11 +12,6 @@ pub whole-seconds : (value second scale : ℕ)
     → 2 * (value * (1000000 * second)) / scale / 2000000 ≡ value * second / scale
 whole-seconds value second scale = search (rules, div-div-eq-div-mul, mul-div-mul_right)
 
--- a number that is nearest to a fraction that is not negative is not negative either
-nearest-size : (size scale : ℕ) → 0 < scale
-    → pos (unsigned_abs (nearest (pos size) scale)) ≡ nearest (pos size) scale
-nearest-size size scale some = grind (arith, nearest-halved false size scale some)
-
 -- and no less than the microseconds of the fraction's whole seconds
 whole-few : (value second scale : ℕ) → 0 < scale
     → 1000000 * (value * second / scale)
@@ -34,4 +29,4 @@ fraction_amount unit digits =
 -- they are the number that is nearest to it
 pub fraction_amount-is : (unit : IsoUnit) (digits : List ℕ)
     → IsFractionOf unit digits (fraction_amount unit digits)
-fraction_amount-is unit digits = search (rules, whole-few, nearest-size, nearest-is, scale-some)
+fraction_amount-is unit digits = search (rules, whole-few, nearest-halved, nearest-is, scale-some)

@@ -1,5 +1,5 @@
 -- What the front of a text tells of the number of a line.
-use Rattle.std.proofs.Common.{rules, ◌≡◌, ◌∙◌, ap, refl, option_map, ℤ, ℕ, zero, suc, ◌<◌, List, [], take, Result, Ok, Err, arith}
+use Rattle.std.proofs.Common.{rules, ◌≡◌, ◌∙◌, ap, refl, option_map, ℤ, ℕ, ◌<◌, List, [], take, Result, Ok, Err}
 use Rattle.std.specs.Result.{result_and}
 use Rattle.speedate_civil.specs.Base.{Behavior, ParseError}
 use Rattle.speedate_base.specs.Ascii.{HasNoControl}
@@ -7,7 +7,6 @@ use Rattle.speedate_base.specs.Numbers.{number_answer}
 use Rattle.speedate_base.specs.Requirement.{fault_alone, first_fault_or, or_number}
 use Rattle.speedate_base.specs.Requirement.{result_and_then, result_map}
 use Rattle.speedate_base.specs.Refused.{first_refused_or, without_place}
-use Rattle.speedate_base.specs.declared.refusal.Refused.{Refused}
 use Rattle.speedate_base.proofs.RefusalLemmas.{first_refusal_or-chain, refusal-all, refusal-ok}
 use Rattle.speedate_base.proofs.RefusalLemmas.{seen-table, seen_number}
 use Rattle.speedate_civil.specs.Calendar.{Ymd, days_between}
@@ -18,7 +17,7 @@ use Rattle.speedate_civil.specs.Strict.{strict_date_time, strict_date_time_answe
 use Rattle.speedate.specs.declared.column.date.DateReader.{DateReader}
 use Rattle.speedate.specs.declared.column.date_time.DateTimeParser.{DateTimeParser}
 use Rattle.speedate.specs.declared.column.date_time.DateTimeReader.{DateTimeReader}
-use Rattle.speedate.specs.Column.{HasNoEnd, IsFront, as_number, date_number, date_time_number}
+use Rattle.speedate.specs.Column.{HasNoEnd, IsFront, date_number, date_time_number}
 use Rattle.speedate.specs.Column.{date_time_of_line, epoch, taken_answer, text_behavior}
 use Rattle.speedate.proofs.DurationAnswerLemmas.{then-seen}
 use Rattle.speedate.proofs.LineLemmas.{IsOneLine-printed, no_return-printed}
@@ -27,8 +26,7 @@ use Rattle.speedate.proofs.LineLemmas.{IsOneLine-printed, no_return-printed}
 some-read : {A E : Type 0} (answer : List ℕ → Result A E) (text : List ℕ) (value : A)
     (size : ℕ) (fault : E) → answer [] ≡ Err fault → answer (take size text) ≡ Ok value
     → 0 < size
-some-read answer text value zero fault empty read = absurd (cc)
-some-read answer text value (suc size) fault empty read = omega arith
+some-read answer text value size fault empty read = search rules
 
 -- so bytes that are read, and are no control characters, hold no line's end
 pub HasNoEnd-read : {A E : Type 0} (answer : List ℕ → Result A E) (text : List ℕ) (value : A)
@@ -43,9 +41,7 @@ HasNoEnd-read answer text value size fault empty read printed =
 -- a date that is read is counted, whether or not timestamps are read
 pub date_number-of_date : (reader : DateReader) (line : List ℕ) (date : Ymd)
     → date_answer line ≡ Ok date → date_number reader line ≡ Ok (days_between epoch date)
-date_number-of_date DateReader.Text line date read =
-    ap (λ (answer : Result Ymd Refused). as_number (days_between epoch) (without_place answer)) read
-date_number-of_date (DateReader.OrTimestamp config) line date read = search rules
+date_number-of_date reader line date read = search rules
 
 -- Date-times.
 

@@ -11,7 +11,7 @@ use Rattle.speedate_base.proofs.NumberLemmas.{sign-of_text}
 use Rattle.speedate_base.specs.Requirement.{fault_alone, first_fault_or, AllHold, result_and_then}
 use Rattle.speedate.specs.DurationNumbers.{DurationNumbers, signed_form}
 use Rattle.speedate_base.specs.Refused.{without_place}
-use Rattle.speedate.specs.Duration.{days_or_clock, duration_answer}
+use Rattle.speedate.specs.Duration.{duration_answer}
 use Rattle.speedate.proofs.DurationAnswerLemmas.{duration_answer-form, iso_from-item}
 use Rattle.speedate.proofs.DurationAnswerLemmas.{duration_answer-iso, duration_fault, fault_after}
 use Rattle.speedate.proofs.DurationAnswerLemmas.{fault_after-byte, fault_after-end}
@@ -34,13 +34,9 @@ abbrev as_strict : List IsoUnit → IsoSums → IsoSums
 as_strict next sums = record sums { order = IsoOrder.Strict; next_units = next }
 
 -- an item adds the same to both
-component-lax : (unit : Option IsoUnit) (component : ComponentText) (sums : IsoSums)
-    → as_lax (with_component unit component sums) ≡ with_component unit component (as_lax sums)
-component-lax unit component sums = search rules
-
 item-lax : (item : Item) (sums : IsoSums)
     → as_lax (with_item item sums) ≡ with_item item (as_lax sums)
-item-lax item sums = search (rules, component-lax)
+item-lax item sums = search rules
 
 -- a row that both tables have
 row-both : (test : Bool) (fault : ParseError) (lax answer : Answer) → IsLaxOrRefused lax answer
@@ -76,18 +72,12 @@ both-signed : (positive : Bool) (lax answer : Answer) → IsLaxOrRefused lax ans
     (result_and_then (signed_form positive) answer)
 both-signed positive lax answer both = search rules
 
-unsigned-both : (asked : IsoOrder) (behavior : Behavior) (text : List ℕ) (iso : Bool)
-    → IsLaxOrRefused
-    (if iso then fault_form IsoOrder.Lax (drop 1 text)
-    else without_place (days_or_clock behavior text))
-    (if iso then fault_form asked (drop 1 text) else without_place (days_or_clock behavior text))
-unsigned-both asked behavior text iso = search (rules, iso-both)
-
 -- so the answer in any order is the lax one, or the text is refused for its order
 pub duration-both : (asked : IsoOrder) (behavior : Behavior) (text : List ℕ)
     → IsLaxOrRefused (duration_fault IsoOrder.Lax behavior text)
     (duration_fault asked behavior text)
-duration-both asked behavior text = search (rules, duration_answer-form, unsigned-both, both-signed)
+duration-both asked behavior text =
+    grind (arith, nat_tests, duration_answer-form, iso-both, both-signed)
 
 -- the unit of a designator has that designator
 unit-designator : (units : List IsoUnit) (designator : ℕ) (unit : IsoUnit)
@@ -141,16 +131,16 @@ items-strict next sums (Component component ∷ items) good =
     let item = Component component in
     let rest = flat_map item_text items in
     let after = units_after component.designator next in
-    let comes = is_some (unit_in next component.designator) in
     let unit = unit_in (units sums.is_time) component.designator in
     let later = with_item item sums in
-    let same = component-strict unit component next sums refl good.1.1.1.1.0 in
-    let next_sums = ap (λ (sums : IsoSums). fault_from sums rest) (sym same) in
-    let others = next_sums ∙ items-strict after later items good.2 in
-    iso_from-item (as_strict next sums) item rest (item_at-text sums item rest good.0 good.1)
-    ∙ table-strict next sums component _ good.1
-    ∙ ap (λ (answer : Answer). in_order_or comes answer) others
-    ∙ strict-end comes (are_in_order after items) (with_items items later)
+    cc (
+      iso_from-item (as_strict next sums) item rest (item_at-text sums item rest good.0 good.1),
+      table-strict next sums component _ good.1,
+      component-strict unit component next sums refl good.1.1.1.1.0,
+      items-strict after later items good.2,
+      strict-end (is_some (unit_in next component.designator)) (are_in_order after items)
+          (with_items items later),
+    )
 
 -- and without the order they are what they add up to
 items-lax : (sums : IsoSums) (items : List Item) → AreGood sums items
@@ -173,10 +163,11 @@ pub answer-made : (behavior : Behavior) (text : List ℕ) (items : List Item)
     (lax_end (with_items items (no_sums IsoOrder.Lax)))
 answer-made behavior text items is =
     let body = flat_map item_text items in
-    let end = items-lax (no_sums IsoOrder.Lax) items is.are_good in
-    ap (duration_fault IsoOrder.Lax behavior) is.is_text
-    ∙ duration_answer-iso IsoOrder.Lax behavior is.negative is.sign body is.is_sign
-    ∙ ap (result_and_then (signed_form (not is.negative))) end
+    cc (
+      is.is_text,
+      duration_answer-iso IsoOrder.Lax behavior is.negative is.sign body is.is_sign,
+      items-lax (no_sums IsoOrder.Lax) items is.are_good,
+    )
 
 -- and is refused for its order if and only if they are not in order, and otherwise has the lax
 -- answer
@@ -186,21 +177,15 @@ answer-strict : (asked : IsoOrder) (behavior : Behavior) (text : List ℕ) (item
     ≡ in_order_or (are_in_order (units false) items) (duration_fault IsoOrder.Lax behavior text)
 answer-strict asked behavior text items strict is =
     let in_order = are_in_order (units false) items in
-    let body = flat_map item_text items in
     let none = no_sums IsoOrder.Lax in
-    let end = items-strict (units false) none items is.are_good in
-    let lax = sym (answer-made behavior text items is) in
-    ap (λ (order : IsoOrder). duration_fault order behavior text) strict
-    ∙ ap (duration_fault IsoOrder.Strict behavior) is.is_text
-    ∙ duration_answer-iso IsoOrder.Strict behavior is.negative is.sign body is.is_sign
-    ∙ ap (result_and_then (signed_form (not is.negative))) end
-    ∙ chosen (not is.negative) in_order (lax_end (with_items items none))
-    ∙ ap (λ (answer : Result DurationNumbers ParseError). in_order_or in_order answer) lax
-
--- a clock and days are not asked for an order
-answer-no_iso : (asked : IsoOrder) (behavior : Behavior) (text : List ℕ) → is_iso text ≡ false
-    → duration_fault asked behavior text ≡ duration_fault IsoOrder.Lax behavior text
-answer-no_iso asked behavior text other = search (rules, duration_answer-form)
+    let body = flat_map item_text items in
+    cc (
+      is.is_text,
+      duration_answer-iso IsoOrder.Strict behavior is.negative is.sign body is.is_sign,
+      items-strict (units false) none items is.are_good,
+      chosen (not is.negative) in_order (lax_end (with_items items none)),
+      answer-made behavior text items is,
+    )
 
 -- an ISO 8601 duration begins with a `P` after its sign
 first-byte : (text : List ℕ) → (slice_index text 0 == capital_p) ≡ true
@@ -254,4 +239,4 @@ pub duration_answer-in_order : (asked : IsoOrder) (behavior : Behavior) (text : 
     (answer : Result DurationNumbers ParseError)
     → answer ≡ duration_fault asked behavior text → IsAnswerInOrder asked behavior text answer
 duration_answer-in_order asked behavior text answer same =
-    search (rules, duration-both, answer-items, answer-strict, answer-no_iso)
+    search (rules, duration-both, answer-items, answer-strict, duration_answer-form)

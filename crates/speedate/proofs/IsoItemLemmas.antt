@@ -41,13 +41,6 @@ fraction-end : (fraction : List ℕ) (designator : ℕ) (rest : List ℕ) → Is
     → fraction_size (fraction ++ designator ∷ rest) ≡ length fraction
 fraction-end fraction designator rest is digit point = search (rules, run-end)
 
--- nor does it begin with a digit
-number-end : (number fraction : List ℕ) (designator : ℕ) (rest : List ℕ)
-    → list_all is_ascii_digit number ≡ true → IsFraction fraction
-    → is_ascii_digit designator ≡ false
-    → prefix_len is_ascii_digit (number ++ (fraction ++ designator ∷ rest)) ≡ length number
-number-end number fraction designator rest all is digit = search (rules, run-end, mark-no_digit)
-
 -- digits begin with no `T`
 number-no_designator : (number rest : List ℕ) → nat_lt 0 (length number) ≡ true
     → list_all is_ascii_digit number ≡ true
@@ -62,7 +55,7 @@ component_at-text : (component : ComponentText) (rest : List ℕ) → IsItem (Co
     → component_at (component.number ++ (component.fraction ++ component.designator ∷ rest))
     ≡ component
 component_at-text component rest is digit point =
-    search (rules, number-end, take-append_seam, drop-append_seam, fraction-end, get_or-append_seam)
+    search (rules, run-end, mark-no_digit, take-append_seam, drop-append_seam, fraction-end, get_or-append_seam)
 
 -- its text is its parts before what follows
 component-joined : (component : ComponentText) (rest : List ℕ)

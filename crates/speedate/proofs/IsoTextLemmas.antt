@@ -8,15 +8,15 @@ use Rattle.std.proofs.lemmas.Bool.{and_from, and_parts, eqb-true, lt-ltb, le-leb
 use Rattle.std.proofs.lemmas.Bool.Decides.{nat_tests}
 use Rattle.std.proofs.lemmas.Fmt.{digits_decimal, digits_value-decimal, decimal_nonempty, decimal_digit}
 use Rattle.std.proofs.lemmas.List.{append-nil}
-use Rattle.std.proofs.lemmas.Str.Parse.{IsDigitsTest, IsNumeralModel, numerals_by_weight}
+use Rattle.std.proofs.lemmas.Str.Parse.{IsNumeralModel, numerals_by_weight}
 use Rattle.speedate_base.specs.Ascii.{full_stop, capital_d, capital_h, capital_m, capital_s}
 use Rattle.speedate_base.specs.Ascii.{capital_t, capital_y}
 use Rattle.speedate_base.specs.Digits.{six_digit_text, digits_value}
-use Rattle.speedate_base.specs.Requirement.{fault_alone, AllHold, result_and_then}
+use Rattle.speedate_base.specs.Requirement.{fault_alone, AllHold}
 use Rattle.speedate_base.proofs.TextLemmas.{text-distinct}
 use Rattle.speedate.specs.Duration.{duration_answer, counted_text}
 use Rattle.speedate.specs.Duration.{without_last_zeros, short_fraction_text, seconds_text}
-use Rattle.speedate.specs.Duration.{hours_text, days_text, start_text, rest_text, is_whole_days}
+use Rattle.speedate.specs.Duration.{hours_text, days_text, rest_text, is_whole_days}
 use Rattle.speedate.specs.Duration.{duration_text}
 use Rattle.speedate.proofs.DurationAnswerLemmas.{duration_answer-form, duration_fault, fault_form}
 use Rattle.speedate.proofs.DurationAnswerLemmas.{fault_from, iso_from-end, iso_from-item}
@@ -25,7 +25,6 @@ use Rattle.speedate.specs.IsoOrder.{IsLaxOrRefused}
 use Rattle.speedate.proofs.InOrderLemmas.{duration-both}
 use Rattle.speedate.proofs.DurationLemmas.{normal_form-same}
 use Rattle.speedate.specs.DurationNumbers.{DurationNumbers, UnsignedDuration, IsDuration}
-use Rattle.speedate.specs.DurationNumbers.{signed_form}
 use Rattle.speedate_base.proofs.RefusalLemmas.{refusal-all, seen-read}
 use Rattle.speedate.specs.IsoForm.{IsoUnit, unit, units, unit_in, units_after, ComponentText}
 use Rattle.speedate.specs.IsoForm.{TimeDesignator, Component, IsItem, IsFraction, IsoSums}
@@ -36,11 +35,8 @@ use Rattle.speedate.specs.IsoForm.{with_component, with_item, are_counted, item_
 abbrev AreDigits : List ℕ → Type 0
 AreDigits digits = list_all is_ascii_digit digits ≡ true
 
-digits_test : IsDigitsTest AreDigits
-digits_test = search rules
-
 digits_model : IsNumeralModel AreDigits digits_value
-digits_model = search (rules, numerals_by_weight, digits_test)
+digits_model = search (rules, numerals_by_weight)
 
 -- no fraction is no seconds and no microseconds
 no-seconds : (unit : IsoUnit) → fraction_seconds unit [] ≡ 0
@@ -293,18 +289,11 @@ text-read numbers valid =
     ∙ (λ i. fault_from (at next false (days-some numbers.day i) (days i) (seconds i)) rest)
     ∙ rest-read next numbers (is_whole_days numbers) (numbers.day == 0) valid refl
 
--- a `P` with a sign or without one stands for what is after it
-start-answer : (order : IsoOrder) (behavior : Behavior) (positive : Bool) (text : List ℕ)
-    → duration_fault order behavior (start_text positive ++ text)
-    ≡ result_and_then (signed_form positive) (fault_form order text)
-start-answer order behavior positive text =
-    duration_answer-form order behavior (start_text positive ++ text) ∙ search rules
-
 -- the printed text of a duration is answered by it where the order of the standard is asked for
 strict-reads : (behavior : Behavior) (numbers : DurationNumbers) → IsDuration numbers
     → duration_fault IsoOrder.Strict behavior (duration_text numbers) ≡ Ok numbers
 strict-reads behavior numbers valid =
-    search (rules, append_assoc, start-answer, text-read, normal_form-same)
+    search (rules, append_assoc, duration_answer-form, text-read, normal_form-same)
 
 -- so the lax order answers it too
 lax-reads : {A : Type 0} (lax strict : Result A ParseError) (value : A) → IsLaxOrRefused lax strict

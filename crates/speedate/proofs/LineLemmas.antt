@@ -1,5 +1,5 @@
 -- How the lines of a text are found from place to place, and from block to block.
-use Rattle.std.proofs.Common.{rules, ◌≡◌, ◌≢◌, ◌∙◌, ap, sym, subst, refl, ℕ, ◌+◌, ◌-◌, ◌<◌, ◌≤◌, Bool, List, [], ◌∷◌, ◌++◌, length, take, drop, get_or, append-nil, if◌then◌else◌, ◌==◌, arith, All}
+use Rattle.std.proofs.Common.{rules, ◌≡◌, ◌≢◌, ◌∙◌, sym, subst, refl, ℕ, ◌+◌, ◌-◌, ◌<◌, ◌≤◌, Bool, List, [], ◌∷◌, ◌++◌, length, take, drop, get_or, append-nil, if◌then◌else◌, ◌==◌, arith, All}
 use Rattle.std.proofs.lemmas.Bool.{cases_lt, eqb-false, ne_eqb}
 use Rattle.std.proofs.lemmas.List.{take_rest, length-take, get_or-take, get_or-drop, take-append-drop, drop_more, drop-drop}
 use Rattle.std.proofs.lemmas.List.Elements.{All-head, All-tail, All-nil, All-cons, All-from_get_or}
@@ -108,17 +108,15 @@ pub pieces-from : (text : List ℕ) (start searched end : ℕ) → start ≤ sea
 pieces-from text start searched end ordered one found =
     let size = end - start in
     let rest = drop start text in
-    let line = take size rest in
-    let next = drop (end + 1) text in
     let one_line = joined_one_line text start searched end one found.first in
     let free = part-free text start end (omega (arith, found.within)) one_line in
-    let place : start + size ≡ end = omega (arith, found.after) in
-    let tail = drop-drop size start text
-    ∙ ap (λ (n : ℕ). drop n text) place
-    ∙ drop_more text end 0 found.within
-    ∙ ap (λ (byte : ℕ). byte ∷ next) found.ends in
-    let parts = sym (take-append-drop size rest) ∙ ap (λ (left : List ℕ). line ++ left) tail in
-    ap pieces parts ∙ pieces-line line next free
+    search (
+      rules,
+      pieces-line (take size rest) (drop (end + 1) text) free,
+      take-append-drop size rest,
+      drop-drop size start text,
+      drop_more text end 0 found.within,
+    )
 
 -- where there is none, the rest is unfinished
 pub pieces-rest : (text : List ℕ) (start searched : ℕ) → IsOneLine text start searched

@@ -1,6 +1,6 @@
 -- The lines of numbers: that they hold no control character, and are read as their numbers.
-use Rattle.std.proofs.Common.{rules, negsuc, of_z, SFits, w64, inl, inr, All, decimal, ◌%◌, ◌/◌, ◌==◌, Bool, true, false, ◌≡◌, ◌≢◌, ◌∙◌, ap, sym}
-use Rattle.std.proofs.Common.{subst, refl, ℕ, ◌+◌, ◌<◌, ◌≤◌, ◌^◌, List, [], ◌∷◌, ◌++◌, length, append-nil, arith, Option, Some, None, Result, Ok, Err, ℤ, pos, IfErr, IfOk, if◌then◌else◌}
+use Rattle.std.proofs.Common.{rules, of_z, SFits, w64, inl, inr, All, decimal, ◌%◌, ◌/◌, ◌==◌, Bool, ◌≡◌, ◌≢◌, ◌∙◌, ap, sym}
+use Rattle.std.proofs.Common.{subst, ℕ, ◌+◌, ◌<◌, ◌≤◌, ◌^◌, List, [], ◌∷◌, ◌++◌, length, append-nil, arith, Option, Some, None, Result, Ok, Err, ℤ, pos, IfErr, IfOk, if◌then◌else◌}
 use Rattle.std.proofs.lemmas.Int.{ints}
 use Rattle.speedate_civil.specs.Base.{Behavior, ParseError}
 use Rattle.std.proofs.lemmas.Fmt.{decimal_by_steps}
@@ -24,13 +24,12 @@ use Rattle.speedate_civil.proofs.TimeLemmas.{nothing-after, time_text-reads}
 use Rattle.speedate.specs.declared.column.date_time.DateTimeParser.{DateTimeParser}
 use Rattle.speedate.specs.Column.{LineError}
 use Rattle.speedate.specs.Column.{date_time_of_line, epoch, taken_answer}
-use Rattle.speedate.specs.Column.{with_offset}
 use Rattle.speedate.specs.ColumnText.{IsRelaxed, IsShownLine, ReadsClocks, ReadsDates}
 use Rattle.speedate.specs.ColumnText.{ReadsDateTimes, ReadsTimes}
 use Rattle.speedate.specs.ColumnText.{least_of_64_bits, number_or}
-use Rattle.speedate_base.specs.Ascii.{capital_d, capital_p}
-use Rattle.speedate_base.specs.Ascii.{capital_y, digit_zero, full_stop, hyphen}
-use Rattle.speedate_base.specs.Digits.{six_digit_text, two_digit_text}
+use Rattle.speedate_base.specs.Ascii.{capital_d}
+use Rattle.speedate_base.specs.Ascii.{capital_y, digit_zero, full_stop}
+use Rattle.speedate_base.specs.Digits.{six_digit_text}
 use Rattle.speedate.specs.Column.{number_of_amount}
 use Rattle.speedate.specs.ColumnText.{ReadsDurations}
 use Rattle.speedate.specs.Duration.{counted_text, days_text, duration_of_amount, duration_text}
@@ -86,15 +85,11 @@ IsShownLine-no_control offset number line whole shown =
 
 relaxed-taken : (parser : DateTimeParser) (line : List ℕ) → IsRelaxed parser
     → taken_answer parser line ≡ Ok tt
-relaxed-taken (DateTimeParser.Text config) line relaxed = refl
-relaxed-taken (DateTimeParser.OrTimestamp config) line relaxed = refl
-relaxed-taken (DateTimeParser.Strict behavior) line relaxed = absurd relaxed
+relaxed-taken parser line relaxed = search rules
 
 no_date_time : (parser : DateTimeParser) → IsRelaxed parser
     → without_place (date_time_of_line parser []) ≡ Err ParseError.TooShort
-no_date_time (DateTimeParser.Text config) relaxed = refl
-no_date_time (DateTimeParser.OrTimestamp config) relaxed = refl
-no_date_time (DateTimeParser.Strict behavior) relaxed = absurd relaxed
+no_date_time parser relaxed = search rules
 
 -- the date-time of a line that shows a number, or none
 date_time_of_line-shown : (parser : DateTimeParser) (value : DateAndTime) → IsRelaxed parser
@@ -108,16 +103,11 @@ utc-local : (value : DateAndTime) → value.time.offset ≡ Some (pos 0)
     → utc_microsecond value ≡ local_microsecond value
 utc-local value utc = search rules
 
-offset-there : (assumes : Bool) (value : DateAndTime) → value.time.offset ≡ Some (pos 0)
-    → with_offset assumes value ≡ Ok value
-offset-there true value utc = refl
-offset-there false value utc = rw utc refl
-
 pub date_time-reads : (answer : List ℕ → Result ℤ LineError) (refused number : ℤ) (line : List ℕ)
     → ReadsDateTimes answer refused → IsShownLine (Some (pos 0)) number line
     → number_or refused (answer line) ≡ number
 date_time-reads answer refused number line reads shown =
-    search (rules, no_date_time, utc-whole, date_time_of_line-shown, offset-there, utc-local)
+    search (rules, no_date_time, utc-whole, date_time_of_line-shown, utc-local)
 
 pub clock-reads : (answer : List ℕ → Result ℤ LineError) (refused number : ℤ) (line : List ℕ)
     → ReadsClocks answer refused → IsShownLine None number line
@@ -160,8 +150,7 @@ decimal-printed =
 
 chosen-printed : (test : Bool) (first second : List ℕ) → IsPrinted first → IsPrinted second
     → IsPrinted (if test then first else second)
-chosen-printed true first second one two = one
-chosen-printed false first second one two = two
+chosen-printed test first second one two = search rules
 
 counted-printed : (number unit : ℕ) → number < 2 ^ 64 → space ≤ unit
     → IsPrinted (counted_text number unit)
@@ -178,11 +167,8 @@ without-printed [] all = nothing
 without-printed (digit ∷ digits) all =
     search (rules, kept-printed, All-head, All-tail, without-printed digits)
 
-two-printed : (number : ℕ) → IsPrinted (two_digit_text number)
-two-printed number = search (rules, both, one)
-
 six-printed : (number : ℕ) → IsPrinted (six_digit_text number)
-six-printed number = search (rules, both, two-printed)
+six-printed number = search (rules, both, one)
 
 fraction-printed : (microsecond : ℕ) → IsPrinted (short_fraction_text microsecond)
 fraction-printed microsecond =
@@ -204,9 +190,7 @@ rest-printed : (numbers : DurationNumbers) → numbers.second < 86400
 rest-printed numbers small = search (rules, chosen-printed, both, one, nothing, hours-printed)
 
 start-printed : (positive : Bool) → IsPrinted (start_text positive)
-start-printed true = one capital_p (omega arith)
-start-printed false =
-    both (hyphen ∷ []) (capital_p ∷ []) (one hyphen (omega arith)) (one capital_p (omega arith))
+start-printed positive = search (rules, one, both)
 
 pub duration_text-no_control : (numbers : DurationNumbers) → IsDuration numbers
     → HasNoControl (length (duration_text numbers)) (duration_text numbers)
@@ -251,8 +235,7 @@ line-no_control (Err error) offset number line whole shown kept =
 -- what follows if something was printed
 pub ok-turned : {A : Type 0} (result : Result A LineError) (P Q : Type 0) → (Q → P)
     → IfOk result (λ done. Q) → IfOk result (λ done. P)
-ok-turned (Ok done) P Q turn held = turn held
-ok-turned (Err error) P Q turn held = held
+ok-turned result P Q turn held = search rules
 
 -- a time of seconds and microseconds has no offset
 pub timestamp-offset : (second microsecond : ℕ) (time : TimeOfDay)
@@ -262,5 +245,4 @@ timestamp-offset second microsecond time is = search rules
 -- the smallest number, by its bits
 pub least-is : (number : ℤ) → SFits w64 number → of_z w64 number ≡ 9223372036854775808
     → number ≡ least_of_64_bits
-least-is (pos size) fits is = absurd (omega (arith, fits.sfits, is))
-least-is (negsuc below) fits is = search rules
+least-is number fits is = search rules

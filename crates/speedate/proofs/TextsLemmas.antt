@@ -1,13 +1,9 @@
 -- Texts that offsets cut out of bytes, and the column of them, text by text.
-use Rattle.std.proofs.Common.{rules, true, ◌≡◌, ◌∙◌, ap, refl, ℕ, zero, suc, ◌+◌, ◌-◌, ◌<◌, List, [], ◌∷◌, length, get_or, take, drop, add-one, ℤ, pos, ◌≤ℤ◌, int_le, arith, Option, None, Result}
+use Rattle.std.proofs.Common.{rules, true, ◌≡◌, ◌∙◌, ap, refl, ℕ, zero, suc, ◌+◌, ◌-◌, ◌<◌, List, [], ◌∷◌, length, get_or, take, drop, add-one, ℤ, pos, ◌≤ℤ◌, arith, Option, None, Result}
 use Rattle.std.proofs.lemmas.Bool.{and_parts}
-use Rattle.std.proofs.lemmas.Bool.Decides.{nat_tests}
 use Rattle.std.proofs.lemmas.Int.{ints}
 use Rattle.speedate.specs.Column.{LineError, column, entry, onto_column}
 use Rattle.speedate.specs.Texts.{bytes_between, cut_at, rise_within}
-
-at-most : (least most : ℤ) → int_le least most ≡ true → least ≤ℤ most
-at-most least most test = grind (arith, ints, nat_tests)
 
 -- the offset before others that rise
 record IsFirst (least : ℤ) (size : ℕ) (offset : ℤ) (offsets : List ℤ) : Type 0 where
@@ -17,7 +13,7 @@ record IsFirst (least : ℤ) (size : ℕ) (offset : ℤ) (offsets : List ℤ) : 
 
 first-is : (least : ℤ) (size : ℕ) (offset : ℤ) (offsets : List ℤ)
     → rise_within least size (offset ∷ offsets) ≡ true → IsFirst least size offset offsets
-first-is least size offset offsets rise = search (rules, and_parts, at-most)
+first-is least size offset offsets rise = search (rules, and_parts)
 
 -- an offset from a least one on, and within so many bytes
 pub record IsOffset (least : ℤ) (size : ℕ) (offset : ℤ) : Type 0 where

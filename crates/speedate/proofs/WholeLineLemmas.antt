@@ -1,5 +1,5 @@
 -- The first whole line of a text, and what is left after it.
-use Rattle.std.proofs.Common.{rules, ◌≡◌, ◌≢◌, ◌∙◌, ap, sym, subst, refl, ℕ, ◌+◌, ◌-◌, ◌<◌, ◌≤◌, Bool, true, false, List, [], ◌∷◌, ◌++◌, length, take, drop, get_or, if◌then◌else◌, arith}
+use Rattle.std.proofs.Common.{rules, ◌≡◌, ◌≢◌, ◌∙◌, ap, sym, subst, ℕ, ◌+◌, ◌-◌, ◌<◌, ◌≤◌, Bool, true, false, List, [], ◌∷◌, ◌++◌, length, take, drop, get_or, if◌then◌else◌, arith}
 use Rattle.std.proofs.lemmas.Bool.{cases_lt, ne_eqb, false≢true}
 use Rattle.std.proofs.lemmas.List.{length-take, length-take-le, get_or-take, get_or_past, take-take, take_all, drop_all}
 use Rattle.speedate_base.specs.Ascii.{carriage_return, line_feed}
@@ -21,8 +21,7 @@ with_first line rest = record {
 
 whole-first : (at_end : Bool) (line : List ℕ) (rest : Pieces)
     → whole at_end (with_first line rest) ≡ line ∷ whole at_end rest
-whole-first true line rest = refl
-whole-first false line rest = refl
+whole-first at_end line rest = search rules
 
 -- the first whole line is the one that the first line feed ends
 pub whole_lines-from : (at_end : Bool) (text : List ℕ) (end : ℕ) → IsLineEnd text 0 end
@@ -44,8 +43,7 @@ unfinished-from text end found =
 
 -- where there is none, a text that is not empty is the one whole line, if it ends there
 last-is : (text : List ℕ) → 0 < length text → last_line text ≡ text ∷ []
-last-is [] some = absurd (omega (arith, some))
-last-is (byte ∷ bytes) some = refl
+last-is text some = search rules
 
 pub whole_lines-last : (at_end : Bool) (text : List ℕ) → at_end ≡ true → 0 < length text
     → IsOneLine text 0 (length text)
@@ -77,19 +75,11 @@ pub without_return-dropped : (drops : Bool) (line : List ℕ) (size : ℕ) → d
     → without_return drops line ≡ take size line
 without_return-dropped drops line size drop long last = search rules
 
--- what is read of a line that begins a text begins the text too
-front-cut : (drops : Bool) (text : List ℕ) (size last : ℕ) → last ≤ size → size ≤ length text
-    → (take (length (if drops then take last (take size text) else take size text)) text
-    ≡ (if drops then take last (take size text) else take size text))
-    × (length (if drops then take last (take size text) else take size text) ≤ length text)
-front-cut true text size last before inside = search (rules, take-take, length-take-le)
-front-cut false text size last before inside = search (rules, length-take-le)
-
 pub without_return-front : (drops : Bool) (text : List ℕ) (size : ℕ) → size ≤ length text
     → (take (length (without_return drops (take size text))) text
     ≡ without_return drops (take size text))
     × (length (without_return drops (take size text)) ≤ length text)
-without_return-front drops text size inside = search (rules, length-take, front-cut)
+without_return-front drops text size inside = search (rules, length-take, take-take, length-take-le)
 
 -- a text begins with a line, without its return
 abbrev BeginsWith : Bool → List ℕ → List ℕ → Type 0

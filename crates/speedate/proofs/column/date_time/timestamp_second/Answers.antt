@@ -1,4 +1,4 @@
-use Rattle.std.proofs.Common.{◌≡◌, ◌∙◌, rules, ap, sym, subst, ℤ, pos, ◌+ℤ◌, ◌-ℤ◌, ◌≤ℤ◌, Option, arith}
+use Rattle.std.proofs.Common.{◌≡◌, ◌∙◌, rules, ap, sym, ℤ, pos, ◌+ℤ◌, ◌-ℤ◌, ◌≤ℤ◌, Option, arith}
 use Rattle.std.proofs.lemmas.Int.{ints}
 use Rattle.std.specs.Option.{ForSome, unwrap_or}
 use Rattle.speedate_base.specs.Offset.{IsOffset}
@@ -30,15 +30,7 @@ returns-clause-second c =
     search rules ∙ sym (utc_second-at c.args.offset (unix_instant c.args.time) c.requires.within)
 
 pub returns-clause-least : goal.returns-clause-least
-returns-clause-least c =
-    subst (λ (second : ℤ). (first_second -ℤ pos 86399) ≤ℤ second)
-    (sym (returns-clause-second c
-    ∙ utc_second-at c.args.offset (unix_instant c.args.time) c.requires.within))
-    (late c.args.time.second c.args.offset (search rules) c.requires.offset)
+returns-clause-least c = search (rules, returns-clause-second, utc_second-at, late)
 
 pub returns-clause-largest : goal.returns-clause-largest
-returns-clause-largest c =
-    subst (λ (second : ℤ). second ≤ℤ (last_second +ℤ pos 86399))
-    (sym (returns-clause-second c
-    ∙ utc_second-at c.args.offset (unix_instant c.args.time) c.requires.within))
-    (early c.args.time.second c.args.offset (search rules) c.requires.offset)
+returns-clause-largest c = search (rules, returns-clause-second, utc_second-at, early)

@@ -1,5 +1,5 @@
-use Rattle.std.proofs.Common.{◌+◌, ◌-◌, ◌≡◌, ◌<◌, ◌∙◌, ◌++◌, ◌∷◌, [], ℕ, List, length, drop, take, ap, arith, refl, sym, subst}
-use Rattle.std.proofs.lemmas.List.{drop_more, length-take, take_more}
+use Rattle.std.proofs.Common.{rules, ◌+◌, ◌-◌, ◌≡◌, ◌<◌, ◌∙◌, ◌++◌, ◌∷◌, [], ℕ, List, length, drop, take, ap, arith, refl, sym, subst}
+use Rattle.std.proofs.lemmas.List.{drop_more, take_more}
 use Rattle.speedate_base.specs.Ascii.{line_feed}
 use Rattle.speedate.specs.ColumnText.{column_text}
 use Rattle.speedate.proofs.ColumnTextLemmas.{IsPrintedSoFar, IsPrintedSoFar-more, IsReadSoFar}
@@ -54,24 +54,12 @@ loop-lines-preserved g c =
 
 pub returns-in-Err-clause-reads_back : goal.returns-in-Err-clause-reads_back
 returns-in-Err-clause-reads_back g c answer refused config back =
-    let numbers = c.args.numbers.now in
-    let lines : ℕ = c.loop-lines.lines in
-    text_column-read (g.P.LinePrinter.leads_back c.args.printer.now)
-    (take c.loop-lines.bytes c.loop-lines.out) (take lines numbers) c.loop-lines.invariant.reads
-    answer refused config (length numbers) (omega (arith, length-take lines numbers)) back
+    search (rules, text_column-read)
 
 pub returns-then-size-out-clause-reads_back : goal.returns-then-size-out-clause-reads_back
 returns-then-size-out-clause-reads_back g c answer refused config back =
-    let numbers = c.args.numbers.now in
-    let lines : ℕ = c.loop-lines.lines in
-    text_column-read (g.P.LinePrinter.leads_back c.args.printer.now)
-    (take c.loop-lines.bytes c.loop-lines.out) (take lines numbers) c.loop-lines.invariant.reads
-    answer refused config (length numbers) (omega (arith, length-take lines numbers)) back
+    search (rules, text_column-read)
 
 pub returns-clause-reads_back : goal.returns-clause-reads_back
 returns-clause-reads_back g c answer refused config back =
-    let numbers = c.args.numbers.now in
-    let lines : ℕ = c.loop-lines.lines in
-    text_column-read (g.P.LinePrinter.leads_back c.args.printer.now)
-    (take c.loop-lines.bytes c.loop-lines.out) (take lines numbers) c.loop-lines.invariant.reads
-    answer refused config (length numbers) (omega (arith, length-take lines numbers)) back
+    search (rules, text_column-read)

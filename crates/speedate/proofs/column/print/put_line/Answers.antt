@@ -1,7 +1,6 @@
-use Rattle.std.proofs.Common.{◌≡◌, ◌∙◌, ◌+◌, ◌-◌, ◌<◌, ℕ, List, ◌∷◌, ◌++◌, length, take, drop, get_or, slice_set, ap, sym, arith, append_assoc}
+use Rattle.std.proofs.Common.{rules, ◌≡◌, ◌∙◌, ◌+◌, ◌<◌, ℕ, List, ◌∷◌, ◌++◌, length, take, drop, get_or, slice_set, ap, sym, arith, append_assoc}
 use Rattle.std.proofs.Math.Seq.{set-append_seam}
 use Rattle.std.proofs.lemmas.List.{at_drop_more, drop-drop, length-append, length-take-le}
-use borrow.Rule.Slice.PartMut.{put_mid}
 use Rattle.speedate_base.specs.Ascii.{line_feed}
 use Rattle.speedate.proofs.column.print.put_line.Goals as goal
 
@@ -26,20 +25,4 @@ ended line out place room =
     ∙ append_assoc before line (line_feed ∷ rest)
 
 pub returns : goal.returns
-returns c =
-    let line : List ℕ = c.args.line.now in
-    let out : List ℕ = c.args.out.now in
-    let place : ℕ = c.args.place in
-    let end : ℕ = place + length line in
-    let copied : c.copy_from_slice.new.self ≡ line =
-    c.copy_from_slice.ensures.after ∙ c.as_bytes.ensures.value in
-    let with_end = λ (list : List ℕ). slice_set list end line_feed in
-    let size : end - place ≡ length line = omega arith in
-    record {
-      put =
-          ap (λ (new : List ℕ). with_end (put_mid place (end - place) out new)) copied
-          ∙ ap (λ (n : ℕ). with_end (put_mid place n out line)) size
-          ∙ ap (λ (rest : List ℕ). with_end (take place out ++ (line ++ rest)))
-          (drop-drop (length line) place out)
-          ∙ ended line out place c.requires.room;
-    }
+returns c = search (rules, drop-drop, ended)

@@ -1,5 +1,4 @@
-use Rattle.std.proofs.Common.{◌<◌, ◌≡◌, ◌≤ℤ◌, ◌∙◌, ap, ℕ, List, drop, length, pos, take, None, Some, Ok, Err, arith, refl, sym}
-use Rattle.std.proofs.lemmas.Int.{ints}
+use Rattle.std.proofs.Common.{rules, ◌<◌, ◌≡◌, ◌∙◌, ap, ℕ, drop, take, None, Some, Ok, Err, arith, refl, sym}
 use Rattle.std.proofs.lemmas.List.{length-set}
 use Rattle.speedate.specs.Column.{column, ended_part}
 use Rattle.speedate.specs.Texts.{as_it_is, cut_at}
@@ -8,15 +7,7 @@ use Rattle.speedate.proofs.TextsLemmas.{column-end, column-next, offset-positive
 use Rattle.speedate.proofs.column.texts.fill_with_texts.Goals as goal
 
 pub loop-lines-init : goal.loop-lines-init
-loop-lines-init g c =
-    let answer = g.R.LineReader.answer c.args.reader.now in
-    let texts : List (List ℕ) = take c.args.count (cut_at c.args.offsets.now c.args.bytes.now) in
-    let all = column answer c.args.refused texts in
-    record {
-      read = omega arith;
-      room = c.requires.room;
-      so_far = IsSoFar-none all all c.args.out.now c.args.errors.now refl;
-    }
+loop-lines-init g c = search (rules, IsSoFar-none)
 
 pub loop-lines-preserved : goal.loop-lines-preserved
 loop-lines-preserved g c =
@@ -37,20 +28,10 @@ loop-lines-preserved g c =
     }
 
 pub offset_at-requires : goal.offset_at-requires
-offset_at-requires g c =
-    let none : pos 0 ≤ℤ pos 0 = omega (arith, ints) in
-    record {
-      positive = offset-positive (pos 0) (length c.args.bytes.now) c.args.offsets.now
-          c.loop-lines.lines none c.requires.rise;
-    }
+offset_at-requires g c = search (rules, offset-positive)
 
 pub offset_at-requires-2 : goal.offset_at-requires-2
-offset_at-requires-2 g c =
-    let none : pos 0 ≤ℤ pos 0 = omega (arith, ints) in
-    record {
-      positive = offset-positive (pos 0) (length c.args.bytes.now) c.args.offsets.now
-          c.loop-lines.lines none c.requires.rise;
-    }
+offset_at-requires-2 g c = search (rules, offset-positive)
 
 pub returns-in-Err : goal.returns-in-Err
 returns-in-Err g c =

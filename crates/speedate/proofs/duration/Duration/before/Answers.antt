@@ -7,11 +7,7 @@ use Rattle.speedate.proofs.DurationLemmas.{ends-order, ends-back}
 use Rattle.speedate.proofs.duration.Duration.before.Goals as goal
 
 pub returns-clause-between : goal.returns-clause-between
-returns-clause-between c =
-    IfOk-weaker c.after.result _ _
-    (λ end same. between-exact (date_and_time end) (date_and_time c.args.start.now)
-    (duration_numbers c.args.self.now) (is_duration c.args.self.now)
-    (opposite _ _ _ _ c.negated.ensures.length same)) c.after.ensures.ends
+returns-clause-between c = search (rules, IfOk-weaker, between-exact, is_duration, opposite)
 
 pub returns-clause-order : goal.returns-clause-order
 returns-clause-order c other =

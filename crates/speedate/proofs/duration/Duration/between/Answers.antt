@@ -1,8 +1,7 @@
-use Rattle.std.proofs.Common.{rules, ap, sym, subst, ◌∙◌, ◌≤◌}
+use Rattle.std.proofs.Common.{rules, ap, ◌∙◌}
 use Rattle.speedate_civil.specs.DateTime.{date_and_time}
 use Rattle.speedate_civil.proofs.ValueLemmas.{is_date_and_time}
 use Rattle.speedate.specs.Duration.{duration_numbers, signed_amount}
-use Rattle.speedate.specs.DurationNumbers.{DurationNumbers}
 use Rattle.speedate.proofs.DurationLemmas.{signed_amount-kept, between-days, between-later}
 use Rattle.speedate.proofs.DurationLemmas.{between-ends, date_time_later-exact}
 use Rattle.speedate.proofs.duration.Duration.between.Goals as goal
@@ -20,13 +19,7 @@ returns-clause-ends c =
 
 pub returns-clause-leads_back : goal.returns-clause-leads_back
 returns-clause-leads_back c attached =
-    date_time_later-exact (signed_amount (duration_numbers c.from_microseconds.result))
-    (date_and_time c.args.earlier.now) (date_and_time c.args.later.now)
-    (is_date_and_time c.args.later.now) attached
-    (between-later _ _ _ (returns-clause-length c))
+    search (rules, date_time_later-exact, is_date_and_time, between-later, returns-clause-length)
 
 pub returns-clause-days : goal.returns-clause-days
-returns-clause-days c =
-    subst (λ (numbers : DurationNumbers). numbers.day ≤ 3652426) (sym (returns-clause-answer c))
-    (between-days (date_and_time c.args.earlier.now) (date_and_time c.args.later.now)
-    (is_date_and_time c.args.earlier.now) (is_date_and_time c.args.later.now))
+returns-clause-days c = search (rules, returns-clause-answer, between-days, is_date_and_time)

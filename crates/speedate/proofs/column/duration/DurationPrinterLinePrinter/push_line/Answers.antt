@@ -1,4 +1,4 @@
-use Rattle.std.proofs.Common.{ℕ, List, ◌++◌, ◌∙◌, ◌≢◌, ap, sym, subst, length, SFits, of_z, w64}
+use Rattle.std.proofs.Common.{rules, ℕ, List, ◌++◌, ◌∙◌, ◌≢◌, ap, sym, subst, length, SFits, of_z, w64}
 use Rattle.std.proofs.lemmas.Int.{to_z-of_z}
 use Rattle.speedate_base.specs.Ascii.{HasNoControl}
 use Rattle.speedate.specs.Duration.{duration_numbers, duration_text}
@@ -35,6 +35,4 @@ returns-clause-reads_back c answer refused reads =
 pub returns-then-number-eq-LEAST-clause-reads_back
     : goal.returns-then-number-eq-LEAST-clause-reads_back
 returns-then-number-eq-LEAST-clause-reads_back c answer refused reads =
-    ap (λ (line : List ℕ). number_or refused (answer line)) c.requires.empty
-    ∙ no_duration-reads answer refused c.args.number reads
-    (least-is c.args.number c.ranges.number c.if-number-eq-LEAST.true)
+    search (rules, no_duration-reads, least-is)

@@ -1,4 +1,4 @@
-use Rattle.std.proofs.Common.{◌∙◌, sym, ap, ap₂, ℕ, ◌+◌, ◌-◌, ◌*◌, ◌/◌, ◌^◌, length, unsigned_abs, false}
+use Rattle.std.proofs.Common.{rules, ◌∙◌, sym, ap, ap₂, ℕ, ◌+◌, ◌-◌, ◌*◌, ◌/◌, ◌^◌, length, unsigned_abs, false}
 use Rattle.speedate_base.specs.Digits.{digits_value}
 use Rattle.speedate_base.proofs.NearestLemmas.{nearest-halved, scale-some}
 use Rattle.speedate.specs.IsoForm.{unit_seconds}
@@ -7,13 +7,7 @@ use Rattle.speedate.proofs.FractionLemmas.{whole-seconds}
 use Rattle.speedate.proofs.duration.iso.DurationUnit.long_fraction.Goals as goal
 
 pub returns-clause-second : goal.returns-clause-second
-returns-clause-second c =
-    let digits = c.args.digits.now in
-    let scale = 10 ^ length digits in
-    ap (λ (n : ℕ). n / 2000000) c.twice_microseconds-twice.ensures.twice
-    ∙ ap (λ (n : ℕ). 2 * (digits_value digits * (1000000 * n)) / scale / 2000000)
-    c.seconds.ensures.second
-    ∙ whole-seconds (digits_value digits) (unit_seconds (unit_parts c.args.self.now)) scale
+returns-clause-second c = search (rules, whole-seconds)
 
 pub returns-clause-microsecond : goal.returns-clause-microsecond
 returns-clause-microsecond c =

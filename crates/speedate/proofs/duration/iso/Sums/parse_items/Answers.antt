@@ -1,11 +1,8 @@
-use Rattle.std.proofs.Common.{◌≡◌, ◌∙◌, ap, sym, subst, arith, ℕ, ◌+◌, ◌-◌, ◌<◌, List, length, length-drop, true, false, Ok, Err, rules}
+use Rattle.std.proofs.Common.{◌≡◌, ◌∙◌, ap, subst, arith, ℕ, ◌+◌, ◌-◌, ◌<◌, length, length-drop, false, Err, rules}
 use Rattle.std.proofs.lemmas.Bool.Decides.{nat_tests}
 use Rattle.std.proofs.lemmas.List.{take_rest}
 use Rattle.std.proofs.lemmas.Result.{err_from_is_err_and}
-use Rattle.speedate_base.specs.Refused.{seen_as}
 use Rattle.speedate_base.specs.Requirement.{shifted}
-use Rattle.speedate.specs.Duration.{iso_from}
-use Rattle.speedate.specs.DurationNumbers.{UnsignedDuration}
 use Rattle.speedate.specs.IsoParts.{sums_parts}
 use Rattle.speedate.proofs.DurationPlaceLemmas.{iso_from-next, iso_from-refused, iso_from-short}
 use Rattle.speedate.proofs.DurationPlaceLemmas.{iso_from-sum}
@@ -29,22 +26,7 @@ returns-in_err-next g c =
     })
 
 pub loop-rest-preserved : goal.loop-rest-preserved
-loop-rest-preserved g c =
-    let refuse = g.E.Refusal.refusal in
-    let end = c.args.end in
-    let rest = c.loop-rest.rest.now in
-    let next = sums_parts c.in_ok-next.next in
-    let some : 0 < length rest =
-    grind (arith, nat_tests, c.loop-rest-test.true, c.is_empty.ensures) in
-    let step = iso_from-next refuse (shifted (end - length rest) refuse)
-    (sums_parts c.loop-rest.sums) next end rest c.in_ok-next.size c.in_ok-next.ensures.some
-    c.in_ok-next.ensures.within c.loop-rest.invariant.1 c.in_ok-next.ensures.item in
-    let left = length-drop c.in_ok-next.size rest in (
-      ap (λ (rest : List ℕ). seen_as (shifted (end - length rest) refuse) (iso_from next rest))
-          (take_rest rest c.in_ok-next.size)
-          ∙ sym step ∙ c.loop-rest.invariant.0,
-      omega (arith, ap length (take_rest rest c.in_ok-next.size), left, c.loop-rest.invariant.1),
-    )
+loop-rest-preserved g c = search (rules, iso_from-next, length-drop, take_rest)
 
 pub returns-then-not-sums : goal.returns-then-not-sums
 returns-then-not-sums g c =
@@ -62,18 +44,4 @@ returns-then-not-sums g c =
     }
 
 pub returns : goal.returns
-returns g c =
-    let refuse = g.E.Refusal.refusal in
-    let end = c.args.end in
-    let rest = c.loop-rest.rest.now in
-    let none : length rest ≡ 0 =
-    grind (arith, nat_tests, c.loop-rest-test.false, c.is_empty.ensures) in
-    let component : c.loop-rest.sums.has_component ≡ true = search rules in
-    record {
-      answer = ap (λ (amount : UnsignedDuration). Ok amount) c.sum.ensures.amount
-          ∙ iso_from-sum (shifted (end - length rest) refuse)
-          (sums_parts c.loop-rest.sums) rest none
-          component
-          ∙ c.loop-rest.invariant.0;
-      placed = tt;
-    }
+returns g c = search (rules, iso_from-sum)

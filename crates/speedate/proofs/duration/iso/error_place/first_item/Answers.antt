@@ -85,19 +85,7 @@ loop-place-preserved c =
     )
 
 pub returns-after-loop-place-clause-place : goal.returns-after-loop-place-clause-place
-returns-after-loop-place-clause-place c =
-    let body = c.args.body.now in
-    let place = c.loop-place.place in
-    let left : length (drop place body) ≡ length body - place = length-drop place body in
-    let none : length (drop place body) ≡ 0 = grind (
-      arith,
-      nat_tests,
-      left,
-      c.loop-place-test.false,
-    ) in
-    let sums = sums_parts c.loop-place.sums in
-    let done = first_item-done (bound_test c.args.bound) sums (drop place body) none in
-    omega (arith, done, c.loop-place.invariant.0)
+returns-after-loop-place-clause-place c = search (rules, length-drop, first_item-done)
 
 pub returns-in_default-clause-place : goal.returns-in_default-clause-place
 returns-in_default-clause-place c =

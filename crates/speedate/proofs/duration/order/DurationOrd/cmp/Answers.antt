@@ -31,14 +31,7 @@ order-amount : (p q : Bool) (first second : DurationNumbers) → first.positive 
 order-amount true true first second is_first is_second one two =
     rw (is_first, is_second) (grind (arith, nat_tests, size-order first second one two))
 order-amount false false first second is_first is_second one two =
-    rw (
-      is_first,
-      is_second,
-      turned first.day second.day,
-      turned first.second second.second,
-      turned first.microsecond second.microsecond,
-      turned (amount_microseconds first) (amount_microseconds second),
-    ) (grind (arith, nat_tests, size-order second first two one))
+    search (rules, turned, size-order)
 order-amount true false first second is_first is_second one two =
     rw (is_first, is_second) (grind (arith, ints, nat_tests))
 order-amount false true first second is_first is_second one two =

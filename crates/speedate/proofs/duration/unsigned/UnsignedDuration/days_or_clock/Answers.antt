@@ -1,7 +1,5 @@
-use Rattle.std.proofs.Common.{◌≡◌, ◌∙◌, rules, refl, sym, true, Result, Ok, Err, is_ok}
-use Rattle.speedate_base.specs.Requirement.{shifted}
+use Rattle.std.proofs.Common.{◌≡◌, rules, refl, true, Result, Ok, Err, is_ok}
 use Rattle.speedate_base.proofs.RefusalLemmas.{seen-read}
-use Rattle.speedate.specs.ClockForm.{clock_form}
 use Rattle.speedate.specs.Duration.{days_or_clock}
 use Rattle.speedate.proofs.ClockFormLemmas.{clock-no_letter}
 use Rattle.speedate.proofs.duration.unsigned.UnsignedDuration.days_or_clock.Goals as goal
@@ -14,14 +12,7 @@ seen (Err fault) ok = absurd (cc)
 
 pub returns-then-is_ok-clause-answer : goal.returns-then-is_ok-clause-answer
 unfolding days_or_clock
-returns-then-is_ok-clause-answer g c =
-    let read = seen c.from_clock-clock.result (search rules) in
-    let refuse = shifted c.args.start g.E.Refusal.refusal in
-    let text = c.args.bytes.now in
-    let form = seen-read refuse (clock_form c.args.behavior text) read.0
-    (sym c.from_clock-clock.ensures.answer ∙ read.1) in
-    let none = clock-no_letter c.args.behavior text read.0 form in
-    rw (none) (search rules)
+returns-then-is_ok-clause-answer g c = search (rules, seen-read, clock-no_letter)
 
 pub returns-then-is_ok-clause-placed : goal.returns-then-is_ok-clause-placed
 returns-then-is_ok-clause-placed g c = c.from_clock-clock.ensures.placed

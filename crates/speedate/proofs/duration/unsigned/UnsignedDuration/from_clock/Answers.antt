@@ -1,31 +1,16 @@
-use Rattle.std.proofs.Common.{◌∙◌, add-zero, ap, ap₂, sym, ℕ, ◌+◌, List, Err}
+use Rattle.std.proofs.Common.{rules, ◌∙◌, add-zero, ap, ap₂, sym, ℕ, ◌+◌, List, Err}
 use Rattle.std.proofs.lemmas.List.{take_rest}
 use Rattle.std.proofs.lemmas.Result.{err_from_is_err_and}
-use Rattle.speedate_base.specs.Digits.{digits_value}
-use Rattle.speedate_base.specs.Requirement.{first_refusal_or, shifted}
+use Rattle.speedate_base.specs.Requirement.{shifted}
 use Rattle.speedate_base.proofs.RefusalLemmas.{first_refusal_or-next, shifted-shifted}
 use Rattle.speedate_civil.specs.Base.{ParseError}
 use Rattle.speedate_base.specs.Refused.{seen_as}
-use Rattle.speedate.specs.ClockForm.{after_hours, colon_place, from_minute, hours}
-use Rattle.speedate.specs.ClockForm.{hours_range, hours_table}
+use Rattle.speedate.specs.ClockForm.{after_hours}
 use Rattle.speedate.proofs.ClockFormLemmas.{clock-many, clock-rest, clock_form-seen}
 use Rattle.speedate.proofs.duration.unsigned.UnsignedDuration.from_clock.Goals as goal
 
 pub returns-in_err-end : goal.returns-in_err-end
-returns-in_err-end g c =
-    let refuse = shifted c.args.start g.E.Refusal.refusal in
-    let text = c.args.bytes.now in
-    let count = digits_value (hours text) in
-    let p = err_from_is_err_and c.from_residual.result c.from_residual.ensures.1 in
-    rw (p.1, p.2) (record {
-      answer = first_refusal_or-next refuse (hours_table text) (colon_place text) _
-          (first_refusal_or refuse (hours_range count)
-          (seen_as (shifted (colon_place text + 1) refuse)
-          (after_hours c.args.behavior count (from_minute text))))
-          c.in_err-end.ensures.answer
-          ∙ sym (clock_form-seen refuse c.args.behavior text);
-      placed = c.in_err-end.ensures.placed;
-    })
+returns-in_err-end g c = search (rules, err_from_is_err_and, first_refusal_or-next, clock_form-seen)
 
 pub returns-then-hours-gt-HOURS_MAX-clause-answer
     : goal.returns-then-hours-gt-HOURS_MAX-clause-answer
