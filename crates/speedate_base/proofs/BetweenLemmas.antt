@@ -24,12 +24,6 @@ run : (n : ℕ) (lowest lanes highest : List ℕ) → length lowest ≡ n → le
     → list_all not (zip2 ltb (zip2 less highest lowest) (zip2 less lanes lowest))
     ≡ (are_at_most lowest lanes && are_at_most lanes highest)
 run zero [] [] [] one two three small few ordered = refl
-run zero (low ∷ lows) lanes highest one two three small few ordered = absurd (omega arith)
-run zero [] (byte ∷ bytes) highest one two three small few ordered = absurd (omega arith)
-run zero [] [] (high ∷ highs) one two three small few ordered = absurd (omega arith)
-run (suc n) [] lanes highest one two three small few ordered = absurd (omega arith)
-run (suc n) (low ∷ lows) [] highest one two three small few ordered = absurd (omega arith)
-run (suc n) (low ∷ lows) (byte ∷ bytes) [] one two three small few ordered = absurd (omega arith)
 run (suc n) (low ∷ lows) (byte ∷ bytes) (high ∷ highs) one two three small few ordered =
     let both = and_parts (nat_le low high) (are_at_most lows highs) ordered in
     let first = between low byte high (leb-true low high both.0) (omega (arith, few.0.fits))
@@ -37,6 +31,7 @@ run (suc n) (low ∷ lows) (byte ∷ bytes) (high ∷ highs) one two three small
     let rest = run n lows bytes highs (omega arith) (omega arith) (omega arith) small.1 few.1
     both.1 in
     rw (first, rest) (swapped (nat_le low byte) (nat_le byte high) _ _)
+run n lowest lanes highest one two three small few ordered = absurd (omega arith)
 
 -- for each lane, whether its byte lies too far above the lowest
 abbrev pub outside : List ℕ → List ℕ → List ℕ → List Bool

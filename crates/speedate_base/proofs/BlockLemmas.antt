@@ -110,6 +110,4 @@ from-place digits number place same = grind (arith, nat_tests, prefix_len-le-len
 pub run_stops : (bytes : List ℕ) (start count number : ℕ) → start ≤ length bytes
     → Err count ≡ number_or_place (take (length bytes - start) (drop start bytes)) number
     → (count ≡ run_length bytes start) × (start + count < length bytes)
-run_stops bytes start count number within read =
-    let stops = from-place (drop start bytes) number count (rw (take_rest bytes start) at read) in
-    (stops.0, omega (arith, stops.1, length-drop start bytes, within))
+run_stops bytes start count number within read = search (rules, from-place, take_rest, length-drop)

@@ -44,25 +44,12 @@ pub less-whole : (whole fraction : List ℕ) → list_all is_ascii_digit fractio
     → digits_value whole < inferred_seconds_max
     → nat_le (digits_value (whole ++ fraction)) (inferred_seconds_max * 10 ^ length fraction) ≡ true
 less-whole whole fraction all less =
-    grind (
-      arith,
-      nat_tests,
-      digits_value-append,
-      digits_value-lt,
-      mul-le-mul_right (10 ^ length fraction) less,
-    )
+    search (rules, digits_value-append, digits_value-lt, mul-le-mul_right)
 
 pub more-whole : (whole fraction : List ℕ) → inferred_seconds_max < digits_value whole
     → nat_le (digits_value (whole ++ fraction)) (inferred_seconds_max * 10 ^ length fraction)
     ≡ false
-more-whole whole fraction more =
-    grind (
-      arith,
-      nat_tests,
-      digits_value-append,
-      scale-some,
-      mul-le-mul_right (10 ^ length fraction) more,
-    )
+more-whole whole fraction more = search (rules, digits_value-append, scale-some, mul-le-mul_right)
 
 pub ruleset inferred_rules =
     (nat_tests, digits_value-large, digits_value-small, same-whole, less-whole, more-whole)
@@ -134,7 +121,4 @@ decimal-far row decimal value size is product far =
 pub near : (digits : List ℕ) (worth value size : ℕ) → 0 < worth
     → value ≡ min (digits_value digits) (2 ^ 64 - 1)
     → size ≡ min (value * worth) (2 ^ 64 - 1) → size ≤ 2 ^ 60 → size ≡ digits_value digits * worth
-near digits worth value size some is product less =
-    let small : value ≤ value * worth = le-mul_of_pos_right value some in
-    let exact : value ≡ digits_value digits = omega (arith, is, small, product, less) in
-    rw (← exact) (omega (arith, product, less))
+near digits worth value size some is product less = search (rules, le-mul_of_pos_right)

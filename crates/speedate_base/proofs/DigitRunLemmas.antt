@@ -25,14 +25,7 @@ pub digits_value-lt : (digits : List ℕ) → list_all is_ascii_digit digits ≡
     → digits_value digits < 10 ^ length digits
 digits_value-lt [] all = omega arith
 digits_value-lt (digit ∷ digits) all =
-    grind (
-      arith,
-      nat_tests,
-      pow-succ' 10 (length digits),
-      one_digit_value-le,
-      digits_value-lt digits,
-      mul-le-mul_right,
-    )
+    search (rules, pow-succ', one_digit_value-le, mul-le-mul_right, digits_value-lt digits)
 
 -- what is below a power of ten is below a larger one
 pub below-power : (most count value : ℕ) → count ≤ most → value < 10 ^ count → value < 10 ^ most
@@ -67,16 +60,7 @@ pub digits_value-next : (bytes : List ℕ) (place end : ℕ) → place ≤ end �
     ≡ 10 * digits_value (take (end - place) (drop place bytes))
     + one_digit_value (get_or bytes end 0)
 digits_value-next bytes place end from within =
-    let next : end + 1 - place ≡ end - place + 1 = omega arith in
-    let there : place + (end - place) ≡ end = omega arith in
-    grind (
-      arith,
-      next,
-      there,
-      digits_value-front-more (drop place bytes) (end - place),
-      get_or-drop place bytes (end - place) 0,
-      length-drop place bytes,
-    )
+    search (rules, digits_value-front-more, get_or-drop, length-drop)
 
 pub ruleset one_more_digit = (
   nat_tests,
@@ -153,15 +137,7 @@ fraction_value-filled zero [] few = omega arith
 fraction_value-filled zero (digit ∷ digits) few = absurd (omega arith)
 fraction_value-filled (suc places) [] few = omega arith
 fraction_value-filled (suc places) (digit ∷ digits) few =
-    let sum : length digits + (places - length digits) ≡ places = omega arith in
-    let left : suc places - suc (length digits) ≡ places - length digits = omega arith in
-    grind (
-      arith,
-      left,
-      sum,
-      pow-add 10 (length digits) (places - length digits),
-      fraction_value-filled places digits,
-    )
+    search (rules, pow-add, fraction_value-filled places digits)
 
 -- digits past the places do not count
 pub fraction_value-take : (places : ℕ) (digits : List ℕ)

@@ -49,13 +49,7 @@ known text front place count from counted =
 -- so many digits lie within the text, and fit as many zeros of a pattern
 pub known-within : (text front : List ℕ) (place count : ℕ) → Known text front place count
     → place ≤ length text → place + count ≤ length text
-known-within text front place count is there =
-    omega (
-      arith,
-      is.counted,
-      prefix_len-le-length is_ascii_digit (drop place text),
-      length-drop place text,
-    )
+known-within text front place count is there = search (rules, prefix_len-le-length, length-drop)
 
 pub fit-run : (places : ℕ) (bytes : List ℕ)
     → fit_length (replicate places digit_zero) bytes ≡ min places (prefix_len is_ascii_digit bytes)
@@ -80,6 +74,4 @@ known-more text front place is =
 pub run-value : (text front : List ℕ) (place count : ℕ) → Known text front place count
     → count ≡ run_length text place
     → fraction_value 6 (take count front) ≡ fraction_value 6 (run_digits text place)
-run-value text front place count is run =
-    let digits = is.digits ∙ ap (λ (n : ℕ). take n (drop place text)) run in
-    ap (fraction_value 6) digits
+run-value text front place count is run = search rules

@@ -1,11 +1,9 @@
 -- The names of faults: each is short, and leads back to its fault.
-use Rattle.std.proofs.Common.{zero, suc, ◌≡◌, ℕ, ◌+◌, ◌*◌, ◌≤◌, ◌==◌, Bool, true, List, [], ◌∷◌, length, get_or, if◌then◌else◌, refl, sym, ap, ◌∙◌}
-use Rattle.std.specs.Prelude.{nat_le}
+use Rattle.std.proofs.Common.{rules, zero, suc, ◌≡◌, ℕ, ◌+◌, ◌*◌, ◌≤◌, ◌==◌, Bool, true, List, [], ◌∷◌, length, get_or, if◌then◌else◌, sym, ap, ◌∙◌}
 use Rattle.std.specs.List.{list_all}
 use Rattle.std.proofs.lemmas.Bool.{and_parts, leb-true}
 use Rattle.speedate_base.specs.Requirement.{ParseError}
 use Rattle.speedate_base.specs.Fault.{FaultRow, row, fault_rows, fault_name, fault_documentation}
-use Rattle.speedate_base.specs.Fault.{fault_place}
 
 -- a test that each row passes, and a row beside them, is passed at each place
 at-each : (test : FaultRow → Bool) (rows : List FaultRow) (place : ℕ) (other : FaultRow)
@@ -18,14 +16,10 @@ at-each test (first ∷ rows) (suc place) other all is =
 
 -- so each text is short
 pub name-short : (fault : ParseError) → length (fault_name fault) ≤ 29
-name-short fault =
-    leb-true _ _ (at-each (λ (row : FaultRow). nat_le (length row.name) 29) fault_rows
-    (fault_place fault) (row fault "" "") refl refl)
+name-short fault = search (rules, leb-true, at-each)
 
 pub documentation-short : (fault : ParseError) → length (fault_documentation fault) ≤ 63
-documentation-short fault =
-    leb-true _ _ (at-each (λ (row : FaultRow). nat_le (length row.documentation) 63) fault_rows
-    (fault_place fault) (row fault "" "") refl refl)
+documentation-short fault = search (rules, leb-true, at-each)
 
 -- a name as a number, whose digits are its bytes
 abbrev number : List ℕ → ℕ
@@ -39,50 +33,7 @@ named (row ∷ rows) sought = if number row.name == sought then row.fault else n
 
 -- the name of a fault leads back to it
 back : (fault : ParseError) → named fault_rows (number (fault_name fault)) ≡ fault
-back = elim [
-  | ParseError.TooShort ↦ refl
-  | ParseError.ExtraCharacters ↦ refl
-  | ParseError.InvalidCharDateTimeSep ↦ refl
-  | ParseError.InvalidCharDateSep ↦ refl
-  | ParseError.DateNotExact ↦ refl
-  | ParseError.InvalidCharYear ↦ refl
-  | ParseError.InvalidCharMonth ↦ refl
-  | ParseError.InvalidCharDay ↦ refl
-  | ParseError.InvalidCharTimeSep ↦ refl
-  | ParseError.InvalidCharHour ↦ refl
-  | ParseError.InvalidCharMinute ↦ refl
-  | ParseError.InvalidCharSecond ↦ refl
-  | ParseError.InvalidCharSecondFraction ↦ refl
-  | ParseError.InvalidCharTzSign ↦ refl
-  | ParseError.InvalidCharTzHour ↦ refl
-  | ParseError.InvalidCharTzMinute ↦ refl
-  | ParseError.OutOfRangeTzMinute ↦ refl
-  | ParseError.OutOfRangeTz ↦ refl
-  | ParseError.TzRequired ↦ refl
-  | ParseError.SystemTimeError ↦ refl
-  | ParseError.OutOfRangeMonth ↦ refl
-  | ParseError.OutOfRangeDay ↦ refl
-  | ParseError.OutOfRangeHour ↦ refl
-  | ParseError.OutOfRangeMinute ↦ refl
-  | ParseError.OutOfRangeSecond ↦ refl
-  | ParseError.SecondFractionTooLong ↦ refl
-  | ParseError.SecondFractionMissing ↦ refl
-  | ParseError.MillisecondFractionTooLong ↦ refl
-  | ParseError.DurationInvalidNumber ↦ refl
-  | ParseError.DurationTRepeated ↦ refl
-  | ParseError.DurationInvalidFraction ↦ refl
-  | ParseError.DurationInvalidTimeUnit ↦ refl
-  | ParseError.DurationInvalidDateUnit ↦ refl
-  | ParseError.DurationInvalidDays ↦ refl
-  | ParseError.DurationValueTooLarge ↦ refl
-  | ParseError.DurationHourValueTooLarge ↦ refl
-  | ParseError.DurationDaysTooLarge ↦ refl
-  | ParseError.DateTooSmall ↦ refl
-  | ParseError.DateTooLarge ↦ refl
-  | ParseError.TimeTooLarge ↦ refl
-  | ParseError.DurationUnitOrder ↦ refl
-  | ParseError.MicrosecondFractionTooLong ↦ refl
-]
+back fault = search rules
 
 -- so faults with the same name are the same
 pub name-distinct : (one other : ParseError) → fault_name one ≡ fault_name other → one ≡ other

@@ -1,6 +1,6 @@
 -- The whole number that is nearest to a fraction is found by rounding down what is twice the
 -- fraction.
-use Rattle.std.proofs.Common.{zero, suc, ◌≡◌, ℕ, ◌+◌, ◌-◌, ◌*◌, ◌/◌, ◌^◌, ◌<◌, ◌≤◌, Bool, true, false, if◌then◌else◌, ℤ, pos, negsuc, neg_ℤ, ◌∙◌, ap, sym, inl, inr, arith, rules, lit<, mul-le-mul_left, mul-le-mul_right}
+use Rattle.std.proofs.Common.{zero, suc, ◌≡◌, ℕ, ◌+◌, ◌-◌, ◌*◌, ◌/◌, ◌^◌, ◌<◌, ◌≤◌, Bool, true, false, if◌then◌else◌, ℤ, pos, negsuc, neg_ℤ, ◌∙◌, ap, sym, arith, rules, lit<, mul-le-mul_left, mul-le-mul_right}
 use Rattle.std.proofs.lemmas.Nat.{pow-add}
 use Rattle.std.proofs.lemmas.Bool.{cases_lt}
 use Rattle.std.proofs.lemmas.Bool.Decides.{nat_tests}
@@ -19,22 +19,13 @@ nearest-is n d some = search rules
 
 -- and no other number is
 one-between : (b a m : ℕ) → b * m < b * a + b → m ≤ a
-one-between b a m below = elim (cases_lt a m) [
-  | inl more ↦ absurd (omega (arith, below, mul-le-mul_left b more))
-  | inr few ↦ few
-]
+one-between b a m below = search (rules, cases_lt, mul-le-mul_left)
 
 same-nearest : (n : ℤ) (d : ℕ) (m k : ℤ) → 0 < d → IsNearest n d m → IsNearest n d k → m ≡ k
-same-nearest n d (pos m) (pos k) some first second =
-    let less : m ≤ k = one-between (2 * d) k m (grind (arith, ints, nat_tests)) in
-    let more : k ≤ m = one-between (2 * d) m k (grind (arith, ints, nat_tests)) in
-    ap pos (omega arith)
+same-nearest n d (pos m) (pos k) some first second = search (rules, one-between)
 same-nearest n d (pos m) (negsuc k) some first second = absurd (grind (arith, ints, nat_tests))
 same-nearest n d (negsuc m) (pos k) some first second = absurd (grind (arith, ints, nat_tests))
-same-nearest n d (negsuc m) (negsuc k) some first second =
-    let less : m ≤ k = one-between (2 * d) k m (grind (arith, ints, nat_tests)) in
-    let more : k ≤ m = one-between (2 * d) m k (grind (arith, ints, nat_tests)) in
-    ap negsuc (omega arith)
+same-nearest n d (negsuc m) (negsuc k) some first second = search (rules, one-between)
 
 pub nearest-only : (n : ℤ) (d : ℕ) (m : ℤ) → 0 < d → IsNearest n d m → m ≡ nearest n d
 nearest-only n d m some is = same-nearest n d m (nearest n d) some is (nearest-is n d some)
@@ -92,10 +83,7 @@ part_down value unit rest scale some few =
 pub part_up : (value unit rest scale : ℕ) → value < scale → rest ≤ 2 * unit
     → (2 * (value * unit) + rest + (scale - 1)) / scale ≤ 2 * unit
 part_up value unit rest scale some few =
-    let sum = 2 * (value * unit) + rest + (scale - 1) in
-    let less : value + 1 ≤ scale = omega arith in
-    let below : sum < scale * (2 * unit) + scale = grind (arith, mul-le-mul_right unit less) in
-    one-between scale (2 * unit) (sum / scale) (omega (arith, below, mul-div-le sum scale))
+    grind (arith, nat_tests, mul-le-mul_right, one-between, mul-div-le)
 
 pub ruleset part_rules = (part_down, part_up)
 
@@ -114,10 +102,7 @@ part_below value unit scale some has =
 pub part_some : (value unit scale : ℕ) → 0 < value → 0 < scale → 0 < unit
     → 1 ≤ (2 * (value * unit) + (scale - 1)) / scale
 part_some value unit scale some_value some_scale has =
-    let sum = 2 * (value * unit) + (scale - 1) in
-    let more : scale ≤ sum = grind (arith, mul-le-mul_right unit some_value) in
-    let below = lt-div-mul-add {a = sum} some_scale in
-    one-between scale (sum / scale) 1 (omega (arith, more, below))
+    search (rules, mul-le-mul_right, lt-div-mul-add, one-between)
 
 -- whole numbers beside a fraction are not rounded
 pub quotient-whole : (up : Bool) (a n d : ℕ) → 0 < d
@@ -149,23 +134,11 @@ nearest_filled negative worth places count value filled few is_worth is =
 
 -- a larger number has no smaller quotient
 pub quotient-le : (up : Bool) (n m d : ℕ) → 0 < d → n ≤ m → quotient up n d ≤ quotient up m d
-quotient-le false n m d some less =
-    let before = mul-div-le n d in
-    let after = lt-div-mul-add {a = m} some in
-    one-between d (m / d) (n / d) (omega (arith, less, before, after))
-quotient-le true n m d some less =
-    let first = n + (d - 1) in
-    let second = m + (d - 1) in
-    let before = mul-div-le first d in
-    let after = lt-div-mul-add {a = second} some in
-    one-between d (second / d) (first / d) (omega (arith, less, before, after))
+quotient-le up n m d some less = search (rules, mul-div-le, lt-div-mul-add, one-between)
 
 -- nothing is rounded to nothing
 pub quotient-none : (up : Bool) (d : ℕ) → 0 < d → quotient up 0 d ≡ 0
-quotient-none false d some = div-eq_of_lt some
-quotient-none true d some =
-    let less : 0 + (d - 1) < d = omega arith in
-    div-eq_of_lt less
+quotient-none up d some = search (rules, div-eq_of_lt)
 
 -- a fraction in more places has the same quotient
 pub quotient-filled : (up : Bool) (n d k : ℕ) → 0 < d → 0 < k

@@ -65,8 +65,7 @@ tested : (d : DecimalParts) (text : List ℕ) (number : Option ℤ) (test : Bool
     → is_decimal text ≡ test
     → Fractional d ≡ whole_or number (if test then Fractional (decimal_parts text) else NoNumber)
     → JoinsTo d text
-tested d text (Some n) test is same = cc
-tested d text None test is same = search (rules, decimal_parts-join)
+tested d text number test is same = search (rules, decimal_parts-join)
 
 -- so what is answered as a decimal joins to its text
 pub number_value-joins : (read : IntFloat) (text : List ℕ) → number_value read ≡ number_answer text
@@ -89,37 +88,25 @@ run-passes : (text : List ℕ) (start place : ℕ) → start ≤ place
     → place < start + run_length text start → is_ascii_digit (get_or text place 0) ≡ true
 run-passes text start place after before =
     let below : place - start < run_length text start = omega arith in
-    let there : start + (place - start) ≡ place = omega arith in
-    let dropped = get_or-drop start text (place - start) 0 in
-    let same = dropped ∙ ap (λ (n : ℕ). get_or text n 0) there in
-    sym (ap is_ascii_digit same)
-    ∙ prefix_len_passes is_ascii_digit (drop start text) (place - start) 0 below
+    search (
+      rules,
+      prefix_len_passes is_ascii_digit (drop start text) (place - start) 0 below,
+      get_or-drop start text (place - start) 0,
+    )
 
 -- a text with another byte after its first is no whole number
 whole_number-other : (text : List ℕ) (place : ℕ) → 1 ≤ place → place < length text
     → is_ascii_digit (get_or text place 0) ≡ false
     → whole_number text ≡ None
 whole_number-other text place after within other =
-    let start = sign_size text in
-    let follows : start ≤ place = omega (arith, sign_size-small text) in
-    let passes = run-passes text start place follows in
-    whole_number-none text (λ same. false≢true (sym other ∙ passes (omega (arith, same))))
+    search (rules, sign_size-small, run-passes, whole_number-none, false≢true)
 
 -- nor is it a decimal, if that byte is no point
 is_decimal-other : (text : List ℕ) (place : ℕ) → 1 ≤ place → place < length text
     → is_ascii_digit (get_or text place 0) ≡ false
     → (get_or text place 0 == full_stop) ≡ false → is_decimal text ≡ false
 is_decimal-other text place after within other no_point =
-    search (
-      rules,
-      and_parts,
-      eqb-true,
-      cases_lt,
-      false≢true,
-      false_from_ne_true,
-      run-passes,
-      sign_size-small,
-    )
+    search (rules, and_parts, eqb-true, cases_lt, false≢true, false_from_ne_true, run-passes, sign_size-small)
 
 -- so it is no number
 pub number_answer-other : (text : List ℕ) (place : ℕ) → 1 ≤ place → place < length text

@@ -15,16 +15,8 @@ use Rattle.speedate_base.specs.Digits.{eight_at, fits_byte, fit_length}
 pub by_eight : (P : List ℕ → Type 0)
     → ((a b c d e f g h : ℕ) → P (a ∷ b ∷ c ∷ d ∷ e ∷ f ∷ g ∷ h ∷ [])) → (bytes : List ℕ)
     → length bytes ≡ 8 → P bytes
-by_eight P each [] long = absurd (omega arith)
-by_eight P each (a ∷ []) long = absurd (omega arith)
-by_eight P each (a ∷ b ∷ []) long = absurd (omega arith)
-by_eight P each (a ∷ b ∷ c ∷ []) long = absurd (omega arith)
-by_eight P each (a ∷ b ∷ c ∷ d ∷ []) long = absurd (omega arith)
-by_eight P each (a ∷ b ∷ c ∷ d ∷ e ∷ []) long = absurd (omega arith)
-by_eight P each (a ∷ b ∷ c ∷ d ∷ e ∷ f ∷ []) long = absurd (omega arith)
-by_eight P each (a ∷ b ∷ c ∷ d ∷ e ∷ f ∷ g ∷ []) long = absurd (omega arith)
 by_eight P each (a ∷ b ∷ c ∷ d ∷ e ∷ f ∷ g ∷ h ∷ []) long = each a b c d e f g h
-by_eight P each (a ∷ b ∷ c ∷ d ∷ e ∷ f ∷ g ∷ h ∷ i ∷ more) long = absurd (omega arith)
+by_eight P each bytes long = absurd (omega arith)
 
 -- so std's number of eight bytes is their number in base 256, the first byte lowest
 pub from_le_bytes-number : (bytes : List ℕ) → length bytes ≡ 8

@@ -1,5 +1,5 @@
 -- Refusals seen in another way: their faults alone.
-use Rattle.std.proofs.Common.{◌∙◌, length, ◌≡◌, ℕ, ◌+◌, ap, add_assoc, zero-add, sym, List, [], ◌∷◌, ◌++◌, Option, Some, None, Result, Ok, Err, is_some, is_err, refl, rules}
+use Rattle.std.proofs.Common.{◌∙◌, length, ◌≡◌, ℕ, ◌+◌, ap, add_assoc, zero-add, sym, List, [], ◌∷◌, ◌++◌, Option, Result, Ok, Err, refl, rules}
 use mathlib.Core.Path.{fun_ext}
 use Rattle.std.specs.Option.{option_map}
 use Rattle.std.specs.Result.{result_and}
@@ -19,12 +19,6 @@ pub first_refusal_or-view : {Place A E D : Type 0} (view : E → D) (refuse : Pa
 first_refusal_or-view view refuse [] next = refl
 first_refusal_or-view view refuse (row ∷ rows) next =
     search (rules, first_refusal_or-view view refuse rows next)
-
--- a text has a place if and only if it is refused
-pub refused_place-is_some : {A : Type 0} (answer : Result A Refused)
-    → is_some (refused_place answer) ≡ is_err (without_place answer)
-refused_place-is_some (Ok value) = refl
-refused_place-is_some (Err refused) = refl
 
 -- a part of a part begins at the sum of both places
 pub shifted-shifted : {E : Type 0} (start inner : ℕ) (refuse : ParseError → ℕ → E)
@@ -65,14 +59,8 @@ pub refusal-read : {A E : Type 0} (refuse : ParseError → ℕ → E) (rows : Li
     → Ok value ≡ seen_as refuse answer → met ≡ first_refusal_or refuse rows (Ok tt)
     → result_and_then (λ (end : Unit {0}). Ok value) met
     ≡ seen_as refuse (result_and_then (λ (read : A). first_refused_or rows (Ok read)) answer)
-refusal-read refuse rows value (Ok given) met read is =
-    let end = refusal-and_then refuse (λ (end : Unit {0}). Ok value) rows (Ok tt) in
-    ap (result_and_then (λ (end : Unit {0}). Ok value)) is
-    ∙ end
-    ∙ ap (first_refusal_or refuse rows) read
-    ∙ sym (first_refusal_or-view (λ refused. refuse refused.fault refused.place) placed rows
-    (Ok given))
-refusal-read refuse rows value (Err refused) met read is = absurd (cc)
+refusal-read refuse rows value answer met read is =
+    search (rules, refusal-and_then, first_refusal_or-view)
 
 pub refusal-whole : {A E : Type 0} (refuse : ParseError → ℕ → E) (fault : A → ParseError)
     (text : List ℕ) (value : A) (size : ℕ) → length text ≡ size
@@ -125,8 +113,7 @@ first_refusal_or-moved refuse start (row ∷ rows) next =
 pub refused_place_map : {A B : Type 0} (view : A → B) (answer : Result A Refused)
     (seen : Result B Refused) → result_map view answer ≡ seen
     → refused_place answer ≡ refused_place seen
-refused_place_map view (Ok value) seen same = ap refused_place same
-refused_place_map view (Err refused) seen same = ap refused_place same
+refused_place_map view answer seen same = search rules
 
 -- the place of a table's refusal is that of its first row that does not hold
 first_place-is : {A : Type 0} (rows : List TextRow) (value : A)
@@ -141,34 +128,25 @@ pub first_place-tables : {A : Type 0} (first part : List TextRow) (start : ℕ) 
     (first_refusal_or (shifted start placed) part (Ok value))
     → refused_place answer ≡ first_place (first ++ moved start part)
 first_place-tables first part start value answer same =
-    let later = first_refusal_or-moved placed start part (Ok value) in
-    ap refused_place
-    (same
-    ∙ ap (first_refusal_or placed first) (sym later)
-    ∙ first_refusal_or-append placed first (moved start part) (Ok value))
-    ∙ first_place-is (first ++ moved start part) value
+    search (rules, first_refusal_or-moved, first_refusal_or-append, first_place-is)
 
 -- Answers as a kind of refusal shows them.
 
 -- with its place it is the answer itself
 pub seen_placed : {A : Type 0} (answer : Result A Refused) → seen_as placed answer ≡ answer
-seen_placed (Ok value) = refl
-seen_placed (Err refused) = refl
+seen_placed answer = search rules
 
 pub seen_then : {A B E : Type 0} (refuse : ParseError → ℕ → E) (step : A → Result B Refused)
     (answer : Result A Refused)
     → seen_as refuse (result_and_then step answer)
     ≡ result_and_then (λ (value : A). seen_as refuse (step value)) (seen_as refuse answer)
-seen_then refuse step (Ok value) = refl
-seen_then refuse step (Err refused) = refl
+seen_then refuse step answer = search rules
 
 pub seen_number : {A E : Type 0} (refuse : ParseError → ℕ → E) (number : Option (Result A Refused))
     (answer : Result A Refused)
     → seen_as refuse (or_number number answer)
     ≡ or_number (option_map (seen_as refuse) number) (seen_as refuse answer)
-seen_number refuse number (Ok value) = refl
-seen_number refuse (Some answer) (Err refused) = refl
-seen_number refuse None (Err refused) = refl
+seen_number refuse number answer = search rules
 
 -- so where no table lets a value through
 pub seen_refused : {A E : Type 0} (refuse : ParseError → ℕ → E) (number : Option (Result A Refused))
@@ -203,26 +181,20 @@ pub seen-part : {A E : Type 0} (refuse : ParseError → ℕ → E) (start inner 
     (answer : Result A Refused)
     → seen_as (shifted start refuse) (from_byte inner answer)
     ≡ seen_as (shifted (start + inner) refuse) answer
-seen-part refuse start inner (Ok value) = refl
-seen-part refuse start inner (Err refused) =
-    ap (λ (place : ℕ). Err (refuse refused.fault place))
-    (sym (add_assoc start inner refused.place))
+seen-part refuse start inner answer = search rules
 
 -- a value seen in another way
 pub seen-map : {A B E : Type 0} (refuse : ParseError → ℕ → E) (view : A → B)
     (answer : Result A Refused)
     → seen_as refuse (result_map view answer) ≡ result_map view (seen_as refuse answer)
-seen-map refuse view (Ok value) = refl
-seen-map refuse view (Err refused) = refl
+seen-map refuse view answer = search rules
 
 -- two tables, one after the other
 pub seen-tables : {A E : Type 0} (refuse : ParseError → ℕ → E) (first second : List TextRow)
     (next : Result A Refused)
     → seen_as refuse (first_refused_or first (first_refused_or second next))
     ≡ first_refusal_or refuse first (first_refusal_or refuse second (seen_as refuse next))
-seen-tables refuse first second next =
-    seen-table refuse first (first_refused_or second next)
-    ∙ ap (first_refusal_or refuse first) (seen-table refuse second next)
+seen-tables refuse first second next = search (rules, seen-table)
 
 -- a value that is to be alone in its text
 pub seen_alone : {A E : Type 0} (refuse : ParseError → ℕ → E) (fault : A → ParseError)
@@ -261,14 +233,12 @@ pub seen-number_map : {A B E : Type 0} (refuse : ParseError → ℕ → E) (view
     (number : Option (Result A Refused)) (refusal : E)
     → result_map view (or_number (option_map (seen_as refuse) number) (Err refusal))
     ≡ or_number (option_map (seen_as refuse) (option_map (result_map view) number)) (Err refusal)
-seen-number_map refuse view (Some answer) refusal = sym (seen-map refuse view answer)
-seen-number_map refuse view None refusal = refl
+seen-number_map refuse view number refusal = search (rules, seen-map)
 
 -- the answer to a part
 pub seen-from : {A E : Type 0} (refuse : ParseError → ℕ → E) (start : ℕ) (answer : Result A Refused)
     → seen_as refuse (from_byte start answer) ≡ seen_as (shifted start refuse) answer
-seen-from refuse start (Ok value) = refl
-seen-from refuse start (Err refused) = refl
+seen-from refuse start answer = search rules
 
 -- what tells the place of an answer
 pub ruleset place_rules = (seen_placed, refused_place_map)

@@ -1,5 +1,5 @@
 -- A fraction's digits taken in blocks, the last ones first.
-use Rattle.std.proofs.Common.{◌≡◌, ℕ, ◌+◌, ◌-◌, ◌*◌, ◌/◌, ◌%◌, ◌^◌, ◌<◌, ◌≤◌, ◌&&◌, ◌==◌, Bool, true, false, min, List, length, take, drop, refl, arith, ap, sym, ◌∙◌, inl, inr, lit<, mul-le-mul_right}
+use Rattle.std.proofs.Common.{rules, ◌≡◌, ℕ, ◌+◌, ◌-◌, ◌*◌, ◌/◌, ◌%◌, ◌^◌, ◌<◌, ◌≤◌, ◌&&◌, ◌==◌, Bool, true, false, min, List, length, take, drop, refl, arith, ap, ◌∙◌, lit<, mul-le-mul_right}
 use Rattle.std.specs.Char.{is_ascii_digit}
 use Rattle.std.specs.List.{list_all}
 use Rattle.std.proofs.lemmas.Bool.{and_parts, cases_lt}
@@ -40,14 +40,7 @@ pub filled-small : (digits : List ℕ) (count : ℕ) → length digits ≤ count
     → list_all is_ascii_digit digits ≡ true
     → digits_value digits * 10 ^ (count - length digits) < 10 ^ count
 filled-small digits count few all =
-    grind (
-      arith,
-      nat_tests,
-      pow-add 10 (length digits) (count - length digits),
-      digits_value-lt digits all,
-      mul-le-mul_right,
-      scale-some,
-    )
+    search (rules, pow-add, digits_value-lt, mul-le-mul_right, scale-some)
 
 pub filled-fits : (digits : List ℕ) (count : ℕ) → length digits ≤ count → count ≤ 8
     → list_all is_ascii_digit digits ≡ true
@@ -67,13 +60,11 @@ filled-taken up unit digits value few is =
     let scale = 10 ^ length digits in
     let zeros = 10 ^ (8 - length digits) in
     let count : 8 - length digits + length digits ≡ 8 = omega arith in
-    let product = sym (pow-add 10 (8 - length digits) (length digits)) in
-    let power : zeros * scale ≡ 100000000 = product ∙ ap (λ (n : ℕ). 10 ^ n) count in
+    let power : zeros * scale ≡ 100000000 =
+    cc (count, pow-add 10 (8 - length digits) (length digits)) in
     let sum : size * zeros ≡ 2 * (value * unit) + 0 = rw is (grind arith) in
     let has_zeros = scale-some (8 - length digits) in
-    ap (λ (number : ℕ). quotient up number 100000000) (sym sum)
-    ∙ ap (λ (whole : ℕ). quotient up (size * zeros) whole) (sym power)
-    ∙ quotient-filled up size scale zeros (scale-some (length digits)) has_zeros
+    cc (power, sum, quotient-filled up size scale zeros (scale-some (length digits)) has_zeros)
 
 -- eight digits are taken as twice four
 pub halves-taken : (up : Bool) (value rest unit : ℕ)
@@ -81,15 +72,12 @@ pub halves-taken : (up : Bool) (value rest unit : ℕ)
     + quotient up (2 * (value % 10000 * unit) + rest) 10000) 10000
     ≡ quotient up (2 * (value * unit) + rest) 100000000
 halves-taken up value rest unit =
-    let high = value / 10000 in
-    let low = value % 10000 in
-    let front = 2 * (high * unit) in
-    let back = 2 * (low * unit) + rest in
-    let whole : value ≡ high * 10000 + low = omega arith in
+    let front = 2 * (value / 10000 * unit) in
+    let back = 2 * (value % 10000 * unit) + rest in
+    let whole : value ≡ value / 10000 * 10000 + value % 10000 = omega arith in
     let sizes = ap (λ (n : ℕ). n * unit) whole in
     let sum : back + front * 10000 ≡ 2 * (value * unit) + rest = grind (arith, sizes) in
-    quotient-carried up front back 10000 10000 (lit< tt) (lit< tt)
-    ∙ ap (λ (size : ℕ). quotient up size 100000000) sum
+    cc (sum, quotient-carried up front back 10000 10000 (lit< tt) (lit< tt))
 
 -- a block before digits
 pub block-taken : (up : Bool) (unit : ℕ) (digits : List ℕ) (place value later twice : ℕ)
@@ -146,23 +134,12 @@ rest-within true unit digits all =
 
 pub rest-below : (unit : ℕ) (digits : List ℕ) → list_all is_ascii_digit digits ≡ true
     → quotient false (2 * (digits_value digits * unit)) (10 ^ length digits) ≤ 2 * unit - 1
-rest-below unit digits all = elim (cases_lt 0 unit) [
-  | inl has ↦
-      part_below (digits_value digits) unit (10 ^ length digits) (digits_value-lt digits all) has
-  | inr none ↦ grind (arith, scale-some (length digits), div-eq_of_lt)
-]
+rest-below unit digits all =
+    grind (arith, nat_tests, cases_lt, part_below, digits_value-lt, scale-some, div-eq_of_lt)
 
 pub rest-some : (unit : ℕ) (digits : List ℕ) → (digits_value digits ≡ 0 → ⊥)
     → min unit 1 ≤ quotient true (2 * (digits_value digits * unit)) (10 ^ length digits)
-rest-some unit digits other = elim (cases_lt 0 unit) [
-  | inl has ↦
-      omega (
-        arith,
-        part_some (digits_value digits) unit (10 ^ length digits) (omega arith)
-            (scale-some (length digits)) has,
-      )
-  | inr none ↦ omega arith
-]
+rest-some unit digits other = search (rules, cases_lt, part_some, scale-some)
 
 pub rest-none : (unit : ℕ) (digits : List ℕ) → digits_value digits ≡ 0
     → quotient true (2 * (digits_value digits * unit)) (10 ^ length digits) ≡ 0
@@ -188,8 +165,7 @@ pub rest-bounded : (up : Bool) (unit : ℕ) (digits : List ℕ) → list_all is_
     ≤ quotient up (2 * (digits_value digits * unit)) (10 ^ length digits))
     × (quotient up (2 * (digits_value digits * unit)) (10 ^ length digits)
     ≤ (rest_bounds up unit digits).1)
-rest-bounded false unit digits all = (omega arith, rest-below unit digits all)
-rest-bounded true unit digits all = rest-up unit digits all
+rest-bounded up unit digits all = search (rules, rest-below, rest-up)
 
 -- what sixteen digits spell
 pub sixteen-value : (digits : List ℕ) → 16 ≤ length digits

@@ -1,5 +1,5 @@
 -- A decimal times a power of ten, by its whole part and the digits of its fraction that count.
-use Rattle.std.proofs.Common.{◌≡◌, ℕ, ◌+◌, ◌-◌, ◌*◌, ◌/◌, ◌%◌, ◌^◌, ◌<◌, Bool, true, List, ◌++◌, length, take, drop, min, arith, ap, sym, ◌∙◌, mul-le-mul_right}
+use Rattle.std.proofs.Common.{rules, ◌≡◌, ℕ, ◌+◌, ◌-◌, ◌*◌, ◌/◌, ◌%◌, ◌^◌, ◌<◌, Bool, true, List, ◌++◌, length, take, drop, min, arith, ap, sym, ◌∙◌, mul-le-mul_right}
 use Rattle.std.specs.Char.{is_ascii_digit}
 use Rattle.std.specs.List.{list_all}
 use Rattle.std.proofs.lemmas.Bool.{cases_lt}
@@ -54,13 +54,13 @@ parts-sum places whole fraction =
 left-small : (places : ℕ) (fraction : List ℕ) → list_all is_ascii_digit fraction ≡ true
     → left places fraction < 10 ^ length fraction
 left-small places fraction all =
-    let rest = drop (counted places fraction) fraction in
-    grind (
-      arith,
-      nat_tests,
+    let count = counted places fraction in
+    let rest = drop count fraction in
+    search (
+      rules,
       cases_lt (length fraction) places,
-      digits_value-lt rest (rest_all fraction (counted places fraction) all),
-      length-drop (counted places fraction) fraction,
+      digits_value-lt rest (rest_all fraction count all),
+      length-drop count fraction,
       powers places fraction,
       mul-le-mul_right,
       scale-some,

@@ -1,6 +1,5 @@
 -- The instants of timestamps.
-use Rattle.std.proofs.Common.{◌≡◌, ◌≤◌, ℤ, pos, negsuc, ◌+ℤ◌, ◌*ℤ◌, rules, arith}
-use Rattle.std.proofs.lemmas.Int.{ints}
+use Rattle.std.proofs.Common.{◌≡◌, ◌≤◌, ℤ, pos, ◌+ℤ◌, ◌*ℤ◌, rules}
 use Rattle.speedate_base.specs.Timestamp.{Instant, instant_at}
 
 -- an instant in microseconds
@@ -24,8 +23,7 @@ instant_of_seconds second = search rules
 
 -- the microseconds that are left are less than a second
 left-small : (microsecond : ℤ) → (instant_at microsecond).microsecond ≤ 999999
-left-small (pos n) = omega arith
-left-small (negsuc n) = omega arith
+left-small microsecond = search rules
 
 -- microseconds that are carried into a second
 pub instant_at-carried : (second microsecond : ℤ)
@@ -35,9 +33,4 @@ pub instant_at-carried : (second microsecond : ℤ)
       microsecond = (instant_at microsecond).microsecond;
     }
 instant_at-carried second microsecond =
-    instant_at-is (pos 1000000 *ℤ second +ℤ microsecond)
-    (record {
-      second = second +ℤ (instant_at microsecond).second;
-      microsecond = (instant_at microsecond).microsecond;
-    })
-    (left-small microsecond) (omega (arith, ints, instant_at-microsecond microsecond))
+    search (rules, instant_at-is, left-small, instant_at-microsecond)

@@ -1,5 +1,5 @@
 -- Zeros at the front of digits: they spell nothing, and many digits after them a large number.
-use Rattle.std.proofs.Common.{◌≡◌, ℕ, ◌+◌, ◌-◌, ◌*◌, ◌^◌, ◌<◌, ◌≤◌, ◌==◌, true, List, [], ◌∷◌, length, take, drop, min, Ok, refl, arith, lit<, mul-le-mul_right}
+use Rattle.std.proofs.Common.{rules, ◌≡◌, ℕ, ◌+◌, ◌-◌, ◌*◌, ◌^◌, ◌<◌, ◌≤◌, ◌==◌, true, List, [], ◌∷◌, length, take, drop, min, Ok, refl, arith, lit<, mul-le-mul_right}
 use Rattle.std.specs.Char.{is_ascii_digit}
 use Rattle.std.specs.List.{list_all}
 use Rattle.std.proofs.lemmas.Bool.{and_parts, cases_lt}
@@ -35,11 +35,12 @@ zeros-spell (byte ∷ bytes) =
 pub zeros-value : (bytes : List ℕ)
     → digits_value (drop (zeros_length bytes) bytes) ≡ digits_value bytes
 zeros-value bytes =
-    let count = zeros_length bytes in
-    grind (
-      arith,
-      take-append-drop count bytes,
-      digits_value-append (take count bytes) (drop count bytes),
+    let front = take (zeros_length bytes) bytes in
+    let rest = drop (zeros_length bytes) bytes in
+    search (
+      rules,
+      take-append-drop (zeros_length bytes) bytes,
+      digits_value-append front rest,
       zeros-spell bytes,
     )
 
@@ -90,14 +91,7 @@ pub few-left : (digits : List ℕ) → zeros_length digits ≤ length digits
     → number_or_place (drop (zeros_length digits) digits)
     (min (digits_value (drop (zeros_length digits) digits)) (2 ^ 64 - 1))
     ≡ number_or_place digits (min (digits_value digits) (2 ^ 64 - 1))
-few-left digits within ends =
-    grind (
-      arith,
-      nat_tests,
-      zeros-run digits within,
-      zeros-value digits,
-      length-drop (zeros_length digits) digits,
-    )
+few-left digits within ends = search (rules, zeros-run, zeros-value, length-drop)
 
 -- bytes are digits if and only if what is left without the zeros at their front is
 pub zeros-left : (bytes : List ℕ) → zeros_length bytes ≤ length bytes

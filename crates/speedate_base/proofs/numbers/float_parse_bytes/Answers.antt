@@ -1,4 +1,4 @@
-use Rattle.std.proofs.Common.{arith}
+use Rattle.std.proofs.Common.{rules, arith}
 use Rattle.std.proofs.lemmas.Grind.{common_steps}
 use Rattle.speedate_base.proofs.NumberLemmas.{number_value-joins, whole_number-none}
 use Rattle.speedate_base.proofs.BlockLemmas.{run_stops}
@@ -11,13 +11,7 @@ pub decimal-requires-clause-within : goal.decimal-requires-clause-within
 decimal-requires-clause-within c = grind (arith, run_stops)
 
 pub returns-in-Err-clause-joined : goal.returns-in-Err-clause-joined
-returns-in-Err-clause-joined c =
-    grind (
-      arith,
-      run_stops,
-      whole_number-none c.args.bytes.now,
-      number_value-joins c.decimal.result c.args.bytes.now,
-    )
+returns-in-Err-clause-joined c = search (rules, run_stops, whole_number-none, number_value-joins)
 
 pub decimal-requires-clause-point : goal.decimal-requires-clause-point
 decimal-requires-clause-point c = grind (arith, common_steps)

@@ -1,4 +1,4 @@
-use Rattle.std.proofs.Common.{◌+◌, ◌≤◌, length, sym, arith}
+use Rattle.std.proofs.Common.{rules, ◌+◌, ◌≤◌, length, sym, arith}
 use Rattle.std.proofs.lemmas.Bool.Decides.{nat_tests}
 use Rattle.std.proofs.lemmas.List.{length-take-le, take_all}
 use Rattle.std.proofs.lemmas.Result.{err_from_is_err_and}
@@ -9,8 +9,7 @@ use Rattle.speedate_base.proofs.numbers.digits.number_by_eights.Goals as goal
 
 pub returns-in_err-value : goal.returns-in_err-value
 returns-in_err-value c =
-    let p = err_from_is_err_and c.from_residual.result c.from_residual.ensures.1 in
-    rw (p.1, p.2) (grind (arith, nat_tests, from-place, run-front, length-take-le, is-place))
+    search (rules, err_from_is_err_and, from-place, run-front, length-take-le, is-place)
 
 pub loop-place-init : goal.loop-place-init
 loop-place-init c = grind (arith, from-number, digits_value-fits, length-take-le)

@@ -1,4 +1,4 @@
-use Rattle.std.proofs.Common.{◌≡◌, ◌∙◌, ap, sym, refl, ℕ, zero, suc, ◌+◌, ◌-◌, ◌*◌, ◌/◌, ◌%◌, ◌^◌, ◌<◌, ◌≤◌, get_or, List, [], ◌∷◌, length, arith, rules, Fits, w8, w64, bit_and}
+use Rattle.std.proofs.Common.{◌≡◌, ◌∙◌, refl, ℕ, zero, suc, ◌+◌, ◌-◌, ◌*◌, ◌/◌, ◌%◌, ◌^◌, ◌<◌, ◌≤◌, get_or, List, [], ◌∷◌, length, arith, rules, Fits, w8, w64, bit_and}
 use Rattle.std.specs.Int.{from_le_bytes, to_le_bytes}
 use Rattle.std.proofs.lemmas.Bool.Decides.{nat_tests}
 use Rattle.std.proofs.lemmas.Nat.{and_mask, mod-pow-add, pow-add, pow_pos}
@@ -23,16 +23,8 @@ first-digits zero (form ∷ forms) (byte ∷ bytes) fits patterns small =
 first-digits (suc count) (form ∷ forms) (byte ∷ bytes) fits patterns small =
     let number : ℕ = number_l 256 (zip2 less (byte ∷ bytes) (form ∷ forms)) in
     let test = first-fits count (fit_length forms bytes) (fits_byte form byte) fits in
-    let first : less byte form ≡ byte - form = grind (
-      arith,
-      nat_tests,
-      test.0,
-      patterns.0.fits,
-      small.0.fits,
-    ) in
-    grind (
-      arith,
-      first,
+    search (
+      rules,
       mod-pow-add number (8 * count) 8,
       first-digits count forms bytes test.1 patterns.1 small.1,
     )
@@ -76,17 +68,15 @@ small-at (number ∷ numbers) small (suc i) = small-at numbers small.1 i
 mask-is : (count : ℕ) → 1 ≤ count → count ≤ 8
     → 18446744073709551615 / 2 ^ (64 - 8 * count) ≡ 2 ^ (8 * count) - 1
 mask-is count some few =
-    let low = 2 ^ (64 - 8 * count) in
-    let high = 2 ^ (8 * count) in
-    let sum : 64 - 8 * count + 8 * count ≡ 64 = omega arith in
-    let product = sym (pow-add 2 (64 - 8 * count) (8 * count)) in
-    let all : low * high ≡ 18446744073709551616 = product ∙ ap (λ (n : ℕ). 2 ^ n) sum in
+    let low = 64 - 8 * count in
+    let high = 8 * count in
     grind (
       arith,
-      all,
-      pow_pos (64 - 8 * count),
-      pow_pos (8 * count),
-      add-mul-div_right (low - 1) (high - 1) (pow_pos (64 - 8 * count)),
+      nat_tests,
+      pow_pos low,
+      pow_pos high,
+      pow-add 2 low high,
+      add-mul-div_right (2 ^ low - 1) (2 ^ high - 1) (pow_pos low),
       div-eq_of_lt,
     )
 

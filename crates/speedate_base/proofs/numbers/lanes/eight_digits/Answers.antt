@@ -1,4 +1,5 @@
 use Rattle.std.proofs.Common.{◌≡◌, ℕ, ◌+◌, ◌*◌, List, [], ◌∷◌, length, get_or, arith}
+use Rattle.std.proofs.lemmas.Grind.{common_steps}
 use Rattle.speedate_base.specs.Digits.{digits_value, fit_digits, digit_pairs}
 use Rattle.speedate_base.proofs.PatternLemmas.{by_eight}
 use Rattle.speedate_base.proofs.numbers.lanes.eight_digits.Goals as goal
@@ -12,11 +13,7 @@ joined numbers =
 joined-spells : (lanes : List ℕ) → length lanes ≡ 8
     → joined (digit_pairs (fit_digits 8 (48 ∷ 48 ∷ 48 ∷ 48 ∷ 48 ∷ 48 ∷ 48 ∷ 48 ∷ []) lanes))
     ≡ digits_value lanes
-joined-spells =
-    by_eight (λ (lanes : List ℕ). joined
-    (digit_pairs (fit_digits 8 (48 ∷ 48 ∷ 48 ∷ 48 ∷ 48 ∷ 48 ∷ 48 ∷ 48 ∷ []) lanes))
-    ≡ digits_value lanes)
-    (λ a b c d e f g h. omega arith)
+joined-spells = grind (arith, common_steps, by_eight)
 
 pub returns-clause-value : goal.returns-clause-value
 returns-clause-value c = grind (arith, joined-spells c.args.lanes)

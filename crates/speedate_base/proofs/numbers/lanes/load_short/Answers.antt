@@ -16,10 +16,6 @@ made : (bytes : List ℕ) (first last : ℕ) → 4 ≤ length bytes → length b
     → last ≡ four (take (length bytes - (length bytes - 4)) (drop (length bytes - 4) bytes))
     → digits_l 256 8 (first + last / 2 ^ (8 * (8 - length bytes)) * 4294967296 + 0)
     ≡ eight_at bytes 0
-made [] first last many few small one two = absurd (omega arith)
-made (a ∷ []) first last many few small one two = absurd (omega arith)
-made (a ∷ b ∷ []) first last many few small one two = absurd (omega arith)
-made (a ∷ b ∷ c ∷ []) first last many few small one two = absurd (omega arith)
 made (a ∷ b ∷ c ∷ d ∷ []) first last many few small one two =
     search (rules, small 0, small 1, small 2, small 3)
 made (a ∷ b ∷ c ∷ d ∷ e ∷ []) first last many few small one two =
@@ -28,13 +24,10 @@ made (a ∷ b ∷ c ∷ d ∷ e ∷ f ∷ []) first last many few small one two 
     search (rules, small 0, small 1, small 2, small 3, small 4, small 5)
 made (a ∷ b ∷ c ∷ d ∷ e ∷ f ∷ g ∷ []) first last many few small one two =
     search (rules, small 0, small 1, small 2, small 3, small 4, small 5, small 6)
-made (a ∷ b ∷ c ∷ d ∷ e ∷ f ∷ g ∷ h ∷ more) first last many few small one two = absurd (omega arith)
+made bytes first last many few small one two = absurd (omega arith)
 
 pub returns : goal.returns
-returns c = record {
-  bytes = made c.args.bytes.now _ _ c.if-bytes-lt4.false c.requires.few
-      c.type_inv.bytes c.four_bytes.ensures.value c.four_bytes-2.ensures.value;
-}
+returns c = search (rules, made)
 
 pub returns-then-bytes-lt4 : goal.returns-then-bytes-lt4
 returns-then-bytes-lt4 c = grind (arith, common_steps)

@@ -1,4 +1,4 @@
-use Rattle.std.proofs.Common.{◌≡◌, ◌∙◌, ap, ℕ, zero, suc, ◌+◌, ◌-◌, ◌*◌, ◌/◌, ◌^◌, ◌<◌, List, [], ◌∷◌, length, drop, get_or, arith, rules, Fits, w8, w64}
+use Rattle.std.proofs.Common.{◌≡◌, ◌∙◌, ap, ℕ, suc, ◌+◌, ◌-◌, ◌*◌, ◌/◌, ◌^◌, ◌<◌, List, [], ◌∷◌, length, drop, get_or, arith, rules, Fits, w8, w64}
 use Rattle.std.specs.Int.{from_le_bytes}
 use Rattle.std.proofs.lemmas.List.{take_all}
 use lib.Lanes.{number_l, digits_l}
@@ -12,18 +12,9 @@ moved : (left a b c d e f g h : ℕ) → left < 8 → a < 256 → b < 256 → c 
     → digits_l 256 8 (number_l 256 (a ∷ b ∷ c ∷ d ∷ e ∷ f ∷ g ∷ h ∷ []) / 256 / 2 ^
     (8 * (7 - left)) + 0)
     ≡ eight_at (drop (8 - left) (a ∷ b ∷ c ∷ d ∷ e ∷ f ∷ g ∷ h ∷ [])) 0
-moved zero a b c d e f g h few sa sb sc sd se sf sg sh = search rules
-moved (suc zero) a b c d e f g h few sa sb sc sd se sf sg sh = search rules
-moved (suc (suc zero)) a b c d e f g h few sa sb sc sd se sf sg sh = search rules
-moved (suc (suc (suc zero))) a b c d e f g h few sa sb sc sd se sf sg sh = search rules
-moved (suc (suc (suc (suc zero)))) a b c d e f g h few sa sb sc sd se sf sg sh = search rules
-moved (suc (suc (suc (suc (suc zero))))) a b c d e f g h few sa sb sc sd se sf sg sh = search rules
-moved (suc (suc (suc (suc (suc (suc zero)))))) a b c d e f g h few sa sb sc sd se sf sg sh =
-    search rules
-moved (suc (suc (suc (suc (suc (suc (suc zero))))))) a b c d e f g h few sa sb sc sd se sf sg sh =
-    search rules
 moved (suc (suc (suc (suc (suc (suc (suc (suc more))))))))
     a b c d e f g h few sa sb sc sd se sf sg sh = absurd (omega arith)
+moved left a b c d e f g h few sa sb sc sd se sf sg sh = search rules
 
 eight_moved : (bytes : List ℕ) → length bytes ≡ 8 → ((i : ℕ) → Fits w8 (get_or bytes i 0))
     → (left : ℕ) → left < 8

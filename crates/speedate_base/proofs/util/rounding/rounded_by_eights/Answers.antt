@@ -1,4 +1,5 @@
-use Rattle.std.proofs.Common.{◌≡◌, ◌-◌, drop, arith}
+use Rattle.std.proofs.Common.{rules, arith}
+use Rattle.std.proofs.lemmas.Bool.Decides.{nat_tests}
 use Rattle.std.proofs.lemmas.List.{take_rest, length-drop}
 use Rattle.speedate_base.proofs.RoundingLemmas.{front_all, rest_all, block-taken}
 use Rattle.speedate_base.proofs.util.rounding.rounded_by_eights.Goals as goal
@@ -8,9 +9,7 @@ pub last_digits_taken-twice-requires-clause-digits
 last_digits_taken-twice-requires-clause-digits c = grind (arith, take_rest, rest_all)
 
 pub eight_digits-value-requires : goal.eight_digits-value-requires
-eight_digits-value-requires c =
-    front_all (drop (c.loop-place.place - 8) c.args.digits.now) 8
-    (rest_all c.args.digits.now (c.loop-place.place - 8) c.requires.digits)
+eight_digits-value-requires c = search (rules, front_all, rest_all)
 
 pub loop-place-init : goal.loop-place-init
 loop-place-init c = grind (arith, take_rest, length-drop)
@@ -28,9 +27,7 @@ pub digits_taken-twice-requires-clause-unit : goal.digits_taken-twice-requires-c
 digits_taken-twice-requires-clause-unit c = c.requires.unit
 
 pub returns-clause-twice : goal.returns-clause-twice
-returns-clause-twice c =
-    let none : c.loop-place.place ≡ 0 = omega arith in
-    rw none at c.loop-place.invariant.twice
+returns-clause-twice c = grind (arith, nat_tests)
 
 pub returns-clause-within : goal.returns-clause-within
 returns-clause-within c = c.loop-place.invariant.within

@@ -1,4 +1,5 @@
-use Rattle.std.proofs.Common.{◌≡◌, ◌∙◌, ap, sym, refl, ℕ, ◌≤◌, List, take, drop, arith, take-take}
+use Rattle.std.proofs.Common.{rules, ◌≡◌, ◌∙◌, ap, sym, refl, ℕ, ◌≤◌, List, take, drop, arith, take-take}
+use Rattle.std.proofs.lemmas.Grind.{common_steps}
 use Rattle.speedate_base.specs.Digits.{run_length, run_digits, fraction_value}
 use Rattle.speedate_base.proofs.DigitRunLemmas.{fraction_value-take}
 use Rattle.speedate_base.proofs.EightDigitsLemmas.{fit-run, known, known-more, known-within}
@@ -6,53 +7,26 @@ use Rattle.speedate_base.proofs.EightDigitsLemmas.{run-value}
 use Rattle.speedate_base.proofs.numbers.fraction.Fraction.read.Goals as goal
 
 pub run_end-requires : goal.run_end-requires
-run_end-requires c =
-    let text = c.args.bytes.now in
-    let count = sym c.in-8.is ∙ c.digits_in_front.ensures.count in
-    let is = known text _ c.args.place 8 c.eight_bytes-front.ensures.bytes count in
-    known-within text _ c.args.place 8 is c.requires
+run_end-requires c = grind (arith, common_steps, known, known-within)
 
 pub six_places-requires-clause-digits : goal.six_places-requires-clause-digits
-six_places-requires-clause-digits c =
-    omega (
-      arith,
-      fit-run 8 c.eight_bytes-front.result,
-      c.in-8.is,
-      c.digits_in_front.ensures.count,
-    )
+six_places-requires-clause-digits c = search (rules, fit-run)
 
 pub returns-in-8-clause-length : goal.returns-in-8-clause-length
-returns-in-8-clause-length c =
-    let text = c.args.bytes.now in
-    let count = sym c.in-8.is ∙ c.digits_in_front.ensures.count in
-    let is = known text _ c.args.place 8 c.eight_bytes-front.ensures.bytes count in
-    omega (arith, known-more text _ c.args.place is, c.run_end.ensures.end)
+returns-in-8-clause-length c = grind (arith, common_steps, known, known-more)
 
 pub returns-in_default-clause-within : goal.returns-in_default-clause-within
-returns-in_default-clause-within c =
-    let text = c.args.bytes.now in
-    let count = c.digits_in_front.ensures.count in
-    let is = known text _ c.args.place _ c.eight_bytes-front.ensures.bytes count in
-    known-within text _ c.args.place _ is c.requires
+returns-in_default-clause-within c = grind (arith, common_steps, known, known-within)
 
 pub returns-in-0-clause-length : goal.returns-in-0-clause-length
-returns-in-0-clause-length c =
-    let text = c.args.bytes.now in
-    let count = sym c.in-0.is ∙ c.digits_in_front.ensures.count in
-    let is = known text _ c.args.place 0 c.eight_bytes-front.ensures.bytes count in
-    omega (arith, is.counted)
+returns-in-0-clause-length c = grind (arith, common_steps, known)
 
 -- no digits mean 0
 none-value : (text : List ℕ) (count : ℕ) → 0 ≡ count → 0 ≡ fraction_value 6 (take count text)
 none-value text count none = rw (sym none) refl
 
 pub returns-in-0-clause-microsecond : goal.returns-in-0-clause-microsecond
-returns-in-0-clause-microsecond c =
-    let text = c.args.bytes.now in
-    let place = c.args.place in
-    let count = sym c.in-0.is ∙ c.digits_in_front.ensures.count in
-    let is = known text _ place 0 c.eight_bytes-front.ensures.bytes count in
-    none-value (drop place text) (run_length text place) (omega (arith, is.counted))
+returns-in-0-clause-microsecond c = grind (arith, common_steps, known, none-value)
 
 pub returns-in_default-clause-length : goal.returns-in_default-clause-length
 returns-in_default-clause-length c =
@@ -62,13 +36,7 @@ returns-in_default-clause-length c =
     omega (arith, is.counted)
 
 pub returns-in_default-clause-microsecond : goal.returns-in_default-clause-microsecond
-returns-in_default-clause-microsecond c =
-    let text = c.args.bytes.now in
-    let place = c.args.place in
-    let count = c.digits_in_front.ensures.count in
-    let is = known text _ place _ c.eight_bytes-front.ensures.bytes count in
-    let run : c.digits_in_front.result ≡ run_length text place = omega (arith, is.counted) in
-    c.six_places-in_default.ensures.microsecond ∙ run-value text _ place _ is run
+returns-in_default-clause-microsecond c = search (rules, known, run-value)
 
 pub returns-in-8-clause-microsecond : goal.returns-in-8-clause-microsecond
 returns-in-8-clause-microsecond c =
