@@ -1,6 +1,6 @@
 -- Where the hours of a clock end, and where no letter of a day stands: among digits, and in a
 -- clock.
-use Rattle.std.proofs.Common.{rules, arith, ◌∙◌, ap, sym, get_or, ap₂, ◌≡◌, ℕ, ◌-◌, ◌^◌, ◌<◌, ◌≤◌, min, Bool, true, false, List, length, take, ◌==◌, ◌&&◌, nat_lt, nat_le, refl, ◌+◌, ◌||◌, [], ◌∷◌, drop, if◌then◌else◌, Result, Ok, Err}
+use Rattle.std.proofs.Common.{rules, arith, ◌∙◌, ap, sym, get_or, ◌≡◌, ℕ, ◌-◌, ◌^◌, ◌<◌, ◌≤◌, min, Bool, true, false, List, length, take, ◌==◌, ◌&&◌, nat_lt, nat_le, refl, ◌+◌, ◌||◌, [], ◌∷◌, drop, if◌then◌else◌, Result, Ok, Err}
 use Rattle.speedate_civil.specs.Base.{Behavior, ParseError}
 use Rattle.std.specs.Char.{is_ascii_digit}
 use Rattle.std.specs.List.{list_all, list_any, prefix_len}
@@ -98,17 +98,9 @@ pub clock-rest : {E : Type 0} (refuse : ParseError → ℕ → E) (behavior : Be
     → seen_as (shifted (colon + 1) refuse) (after_hours behavior count (drop (colon + 1) text))
     ≡ seen_as refuse (clock_form behavior text)
 clock-rest refuse behavior text colon count read same few =
-    let all = digits_value (hours text) in
     let held = refusal-value refuse (hours_table text) (colon_place text) colon (sym read) in
-    let last = hours_rest refuse behavior text (colon_place text) all in
-    grind (
-      arith,
-      nat_tests,
-      held.1,
-      hours-count text held.0,
-      clock_form-seen refuse behavior text,
-      refusal-all refuse (hours_table text) (first_refusal_or refuse (hours_range all) last) held.0,
-    )
+    let seen = clock_form-seen refuse behavior text in
+    grind (arith, nat_tests, held, hours-count text held.0, seen, refusal-all)
 
 digits-no_letter : (text : List ℕ) → list_all is_ascii_digit text ≡ true
     → list_any is_day_letter text ≡ false
@@ -204,8 +196,11 @@ clock-no_letter behavior text value same =
     let at_colon = passes_at_first (λ byte. byte == colon) text 0 within in
     let long : nat_lt (length text) 5 ≡ false = grind (arith, nat_tests, front.0.0) in
     let hours_there = hours-run text front.0.1.0 front.0.1.1.1.0 in
-    let letters = sym (letter-after_digits text)
-    ∙ ap (λ (n : ℕ). list_any is_day_letter (drop n text)) hours_there
-    ∙ ap (list_any is_day_letter) (drop_more text first 0 within)
-    ∙ ap₂ (λ (one others : Bool). one || others) (colon-no_letter _ at_colon) none in
-    ap₂ (λ (one others : Bool). one || others) long letters
+    cc (
+      long,
+      none,
+      hours_there,
+      letter-after_digits text,
+      drop_more text first 0 within,
+      colon-no_letter _ at_colon,
+    )

@@ -12,7 +12,6 @@ use Rattle.speedate.specs.Lines.{complete_lines, lines}
 use Rattle.speedate.specs.Lines.{unfinished_line, whole_lines}
 use Rattle.speedate.proofs.LineLemmas.{EndsNoLine, IsFree, pieces-append, pieces-line}
 use Rattle.speedate.proofs.LineLemmas.{no_return-printed}
-use Rattle.speedate.proofs.WholeLineLemmas.{without_return-kept}
 
 -- the whole text, by what is printed of it and the text of what is left
 pub record IsPrintedSoFar (whole left : ColumnText) (lines bytes : ℕ) (out_old out : List ℕ)
@@ -117,15 +116,9 @@ pub IsReadSoFar-more : {N : Type 0}
     → number_or refused (answer line) ≡ number)
     → IsReadSoFar LeadsBack (text ++ (line ++ line_feed ∷ [])) (numbers ++ number ∷ [])
 IsReadSoFar-more {N = N} LeadsBack text line numbers number before printed back =
-    search (
-      rules,
-      pieces-append text (line ++ line_feed ∷ []),
-      pieces-line line [] (free line printed),
-      length-append,
-      map-append,
-      without_return-kept,
-      no_return,
-    )
+    let ended = pieces-append text (line ++ line_feed ∷ []) in
+    let whole = pieces-line line [] (free line printed) in
+    search (rules, ended, whole, length-append, map-append, no_return)
 
 -- the text of numbers by that of the first
 pub column_text-more : {N : Type 0} → (line_of : N → Result (List ℕ) LineError) (room : ℕ)

@@ -89,14 +89,9 @@ pub iso_from-next : {E D : Type 0} (refuse : ParseError → ℕ → E) (other : 
     → seen_as (shifted (end - length rest) refuse) (iso_from sums rest)
     ≡ seen_as (shifted (end - length (drop size rest)) refuse) (iso_from next (drop size rest))
 iso_from-next refuse other sums next end rest size some within small read =
-    let start = end - length rest in
-    let has_bytes : 0 < length rest = omega (arith, some, within) in
-    search (
-      rules,
-      length-drop size rest,
-      seen-part refuse start size (iso_from next (drop size rest)),
-      iso_from-read other sums next rest size has_bytes within read,
-    )
+    let some_left : 0 < length rest = omega (arith, some, within) in
+    let read_on = iso_from-read other sums next rest size some_left within read in
+    search (rules, length-drop size rest, seen-part, read_on)
 
 -- what was read of a part is read of the whole
 pub iso_from-part : {E : Type 0} (refuse : ParseError → ℕ → E) (end : ℕ) (sums next : IsoSums)
@@ -144,13 +139,7 @@ pub iso_from-time_part : (sums next : IsoSums) (text rest : List ℕ) → 0 < le
     ≡ iso_from (with_item TimeDesignator sums) (drop 1 text)
     → from_byte (length text - length rest) (iso_from next rest) ≡ iso_from sums text
 iso_from-time_part sums next text rest some first none less same =
-    let after = drop 1 text in
-    search (
-      rules,
-      length-drop 1 text,
-      seen-part placed 1 (length after - length rest) (iso_from next rest),
-      iso_from-after_time sums text some first none,
-    )
+    search (rules, length-drop 1 text, iso_from-after_time sums text some first none)
 
 -- The first item after which a test of the sums does not hold.
 
@@ -186,18 +175,8 @@ first_item-step refuse test sums next (byte ∷ rest) size some within read =
     let held = value (later, item_size) (next, size) (sym read) in
     let sized : item_size ≡ size = ap (λ (front : IsoSums × ℕ). front.1) held.1 in
     let more : suc skipped ≡ size = omega (arith, sized, item_text-some item) in
-    let few : skipped ≤ length rest = omega (arith, sized, within, item_text-some item) in
-    let found = first_item-rest test skipped later rest few in
-    let after = first_item_after test 0 later (drop skipped rest) in
-    let place : 1 + first_item_after test skipped later rest ≡ size + after = omega (
-      arith,
-      found,
-      sized,
-      item_text-some item,
-    ) in
-    ap (λ (place : ℕ). if test (amount_numbers (sums_amount later)) then place else 0) place
-    ∙ ap (λ (n : ℕ). place_from test size later (drop n (byte ∷ rest))) more
-    ∙ ap (λ (front : IsoSums × ℕ). place_from test size front.0 (drop size (byte ∷ rest))) held.1
+    let few : skipped ≤ length rest = omega (arith, within, more) in
+    search (rules, held.1, more, first_item-rest test skipped later rest few)
 
 pub first_item-done : (test : DurationNumbers → Bool) (sums : IsoSums) (text : List ℕ)
     → length text ≡ 0 → first_item_after test 0 sums text ≡ 0

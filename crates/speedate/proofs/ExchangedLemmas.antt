@@ -1,16 +1,16 @@
 -- In the lax order the answer to a text of a duration does not depend on the order of two
 -- neighbouring components of one side.
-use Rattle.std.proofs.Common.{rules, arith, ap, sym, ◌∙◌, append_assoc, ◌≡◌, ℕ, ◌≤◌, Bool, not, ◌&&◌, List, [], ◌∷◌, ◌++◌, nat_le, if◌then◌else◌, Option, Result, Err, refl, flat_map}
+use Rattle.std.proofs.Common.{rules, arith, ap, ◌∙◌, append_assoc, ◌≡◌, ℕ, Bool, ◌&&◌, List, [], ◌∷◌, ◌++◌, nat_le, if◌then◌else◌, Result, Err, refl, flat_map}
 use Rattle.speedate_civil.specs.Base.{Behavior, IsoOrder, ParseError}
 use Rattle.std.proofs.lemmas.Bool.Decides.{nat_tests}
 use Rattle.speedate_base.specs.Digits.{digits_value}
-use Rattle.speedate_base.specs.Requirement.{first_fault_or, result_and_then}
+use Rattle.speedate_base.specs.Requirement.{first_fault_or}
 use Rattle.speedate.proofs.DurationAnswerLemmas.{duration_answer-iso, duration_fault, fault_from}
 use Rattle.speedate.proofs.DurationAnswerLemmas.{iso_from-item}
-use Rattle.speedate.specs.DurationNumbers.{DurationNumbers, UnsignedDuration, signed_form}
+use Rattle.speedate.specs.DurationNumbers.{DurationNumbers, UnsignedDuration}
 use Rattle.speedate.specs.IsoOrder.{IsWhole, AreWhole, IsPlain, AreExchanged}
-use Rattle.speedate.specs.IsoForm.{IsoUnit, units, ComponentText, Item, Component, item_text}
-use Rattle.speedate.specs.IsoForm.{item_at, item_table, IsoSums, no_sums, with_component, with_item}
+use Rattle.speedate.specs.IsoForm.{units, ComponentText, Item, Component, item_text}
+use Rattle.speedate.specs.IsoForm.{item_at, item_table, IsoSums, no_sums, with_item}
 use Rattle.speedate.specs.IsoForm.{with_items}
 use Rattle.speedate.proofs.IsoItemLemmas.{item_at-component}
 
@@ -46,12 +46,6 @@ plain-table : {A : Type 0} (sums : IsoSums) (component : ComponentText) (next : 
     → first_fault_or (item_table sums (Component component)) next
     ≡ (if fits sums component then next else Err ParseError.DurationValueTooLarge)
 plain-table sums component next free plain = search rules
-
--- a component takes nothing from the sums
-component-grows : (unit : Option IsoUnit) (component : ComponentText) (sums : IsoSums)
-    → (sums.day ≤ (with_component unit component sums).day)
-    × (sums.second ≤ (with_component unit component sums).second)
-component-grows unit component sums = search rules
 
 -- so the sums of two components do not depend on their order
 sums-exchanged : (first second : ComponentText) (sums : IsoSums) → IsFree sums
@@ -99,7 +93,7 @@ pair-exchanged : (sums : IsoSums) (first second : ComponentText) (rest : List �
     → IsPlain sums first → IsPlain sums second
     → fault_from sums (pair_text first second rest) ≡ fault_from sums (pair_text second first rest)
 pair-exchanged sums first second rest free one two =
-    grind (arith, nat_tests, pair-answer, sums-exchanged, component-grows)
+    grind (arith, nat_tests, pair-answer, sums-exchanged)
 
 -- an item before others is judged first
 item-first : (sums : IsoSums) (item : Item) (items : List Item) (text : List ℕ)
@@ -139,15 +133,14 @@ duration_answer-exchanged asked behavior one two answer is lax are =
     let items = flat_map item_text are.items in
     let first = item_text (Component are.first) in
     let second = item_text (Component are.second) in
-    let body : List ℕ = items ++ (first ++ (second ++ are.rest)) in
-    let exchanged : List ℕ = items ++ (second ++ (first ++ are.rest)) in
     let after = after-exchanged (no_sums IsoOrder.Lax) are.items are.first are.second are.rest in
-    let same = after (refl, refl) are.are_whole are.is_plain_first are.is_plain_second in
-    let read = λ (text : List ℕ). duration_fault IsoOrder.Lax behavior text in
     let form = duration_answer-iso IsoOrder.Lax behavior are.negative are.sign in
-    let first_read = ap read are.is_one ∙ form body are.is_sign in
-    let second_read = ap read are.is_two ∙ form exchanged are.is_sign in
-    let answers = first_read
-    ∙ ap (result_and_then (signed_form (not are.negative))) same
-    ∙ sym second_read in
-    is ∙ rw lax answers
+    cc (
+      is,
+      lax,
+      are.is_one,
+      are.is_two,
+      form (items ++ (first ++ (second ++ are.rest))) are.is_sign,
+      form (items ++ (second ++ (first ++ are.rest))) are.is_sign,
+      after (refl, refl) are.are_whole are.is_plain_first are.is_plain_second,
+    )

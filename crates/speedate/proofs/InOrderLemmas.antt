@@ -67,17 +67,11 @@ iso-both zero sums (byte ∷ rest) =
 iso-both (suc skipped) sums (byte ∷ rest) =
     search (rules, fault_after-byte, iso-both skipped sums rest)
 
-both-signed : (positive : Bool) (lax answer : Answer) → IsLaxOrRefused lax answer
-    → IsLaxOrRefused (result_and_then (signed_form positive) lax)
-    (result_and_then (signed_form positive) answer)
-both-signed positive lax answer both = search rules
-
 -- so the answer in any order is the lax one, or the text is refused for its order
 pub duration-both : (asked : IsoOrder) (behavior : Behavior) (text : List ℕ)
     → IsLaxOrRefused (duration_fault IsoOrder.Lax behavior text)
     (duration_fault asked behavior text)
-duration-both asked behavior text =
-    grind (arith, nat_tests, duration_answer-form, iso-both, both-signed)
+duration-both asked behavior text = grind (arith, nat_tests, duration_answer-form, iso-both)
 
 -- the unit of a designator has that designator
 unit-designator : (units : List IsoUnit) (designator : ℕ) (unit : IsoUnit)
@@ -209,9 +203,8 @@ answer-items behavior text numbers iso same =
     let rest = drop (sign_size text) text in
     let body : List ℕ = drop 1 rest in
     let is_sign = sign-of_text text in
-    let signed = sym (take-append-drop (sign_size text) text) in
-    let unsigned = ap (λ (rest : List ℕ). sign ++ rest) (first-byte rest iso) in
-    let begins : text ≡ sign ++ capital_p ∷ body = signed ∙ unsigned in
+    let begins : text ≡ sign ++ capital_p ∷ body =
+    cc (take-append-drop (sign_size text) text, first-byte rest iso) in
     let negative = has_minus text in
     let read = sym (ap without_place same)
     ∙ ap (duration_fault IsoOrder.Lax behavior) begins
@@ -220,17 +213,13 @@ answer-items behavior text numbers iso same =
     let sums = with_items from.0 (no_sums IsoOrder.Lax) in
     let form = fault_form IsoOrder.Lax body in
     let ended = ends-read (not negative) sums from.1 form numbers from.2.ends read in
-    let items_text = flat_map item_text from.0 in
-    let is_body = from.2.is_text
-    ∙ ap (λ (end : List ℕ). items_text ++ end) ended.0
-    ∙ append-nil items_text in
     let is_made : IsMadeOf text from.0 = record {
       negative = has_minus text;
       sign = sign;
       is_sign = is_sign;
       are_good = from.2.are_good;
       some = ended.1;
-      is_text = begins ∙ ap (λ (body : List ℕ). sign ++ capital_p ∷ body) is_body;
+      is_text = cc (begins, from.2.is_text, ended.0, append-nil (flat_map item_text from.0));
     } in
     (from.0, is_made)
 

@@ -1,6 +1,6 @@
 -- The good fronts of an ISO 8601 duration: only one of them is followed by an end, and that end is
 -- the answer.
-use Rattle.std.proofs.Common.{rules, ap, ap₂, sym, ◌∙◌, append_assoc, subst, ◌≡◌, MatchBool, ℕ, zero, suc, ◌-◌, Bool, true, false, not, List, [], ◌∷◌, ◌++◌, length, drop, slice_index, ◌==◌, if◌then◌else◌, Result, Ok, Err, refl, flat_map}
+use Rattle.std.proofs.Common.{rules, ap, sym, ◌∙◌, append_assoc, subst, ◌≡◌, MatchBool, ℕ, zero, suc, ◌-◌, Bool, true, false, not, List, [], ◌∷◌, ◌++◌, length, drop, slice_index, ◌==◌, if◌then◌else◌, Result, Ok, Err, refl, flat_map}
 use Rattle.speedate_civil.specs.Base.{Behavior, IsoOrder, ParseError}
 use Rattle.std.proofs.lemmas.Bool.{false≢true}
 use Rattle.std.proofs.lemmas.List.{append_cancel_left}
@@ -56,25 +56,25 @@ front-same sums [] (item ∷ others) rest other first second same good goods one
 front-same sums (item ∷ items) [] rest other first second same good goods one two =
     absurd (end-no_front sums other second item items rest two (sym same) good)
 front-same sums (item ∷ items) (next ∷ others) rest other first second same good goods one two =
-    let items_text = flat_map item_text items in
     let others_text = flat_map item_text others in
-    let later = items_text ++ rest in
+    let later = flat_map item_text items ++ rest in
     let others_after = others_text ++ other in
-    let joined = sym (append_assoc (item_text item) items_text rest)
+    let joined = sym (append_assoc (item_text item) (flat_map item_text items) rest)
     ∙ same
     ∙ append_assoc (item_text next) others_text other in
-    let first_other = item_at-text sums next others_after goods.0 goods.1 in
-    let first_item = item_at-text sums item later good.0 good.1 in
-    let is : next ≡ item = sym first_other ∙ sym (ap item_at joined) ∙ first_item in
+    let is : next ≡ item =
+    cc (
+      joined,
+      item_at-text sums next others_after goods.0 goods.1,
+      item_at-text sums item later good.0 good.1,
+    ) in
     let with_same = joined ∙ ap (λ (item : Item). item_text item ++ others_after) is in
     let left = append_cancel_left (item_text item) later others_after with_same in
     let GoodAfter = λ (item : Item). AreGood (with_item item sums) others in
     let EndsAfter = λ (item : Item). Ends (with_items others (with_item item sums)) other second in
-    let goods_after = subst GoodAfter is goods.2 in
-    let two_after = subst EndsAfter is two in
     let same_from = front-same (with_item item sums) items others rest other first second in
-    let after = same_from left good.2 goods_after one two_after in
-    (ap₂ (λ (item : Item) (items : List Item). item ∷ items) (sym is) after.0, after.1)
+    let after = same_from left good.2 (subst GoodAfter is goods.2) one (subst EndsAfter is two) in
+    search (rules, is, after)
 
 pub front-only : (sums : IsoSums) (text : List ℕ) (items others : List Item) (rest other : List ℕ)
     (first second : Answer)

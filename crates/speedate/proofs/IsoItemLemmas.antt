@@ -24,10 +24,6 @@ unit-designator : (is_time : Bool) (designator : ℕ)
     → (is_ascii_digit designator ≡ false) × (is_decimal_mark designator ≡ false)
 unit-designator is_time designator has = search rules
 
--- no digit is a decimal mark
-mark-no_digit : (byte : ℕ) → is_decimal_mark byte ≡ true → is_ascii_digit byte ≡ false
-mark-no_digit byte is = grind (arith, nat_tests, is)
-
 -- digits end before a byte that is none
 run-end : (digits : List ℕ) (byte : ℕ) (rest : List ℕ) → list_all is_ascii_digit digits ≡ true
     → is_ascii_digit byte ≡ false
@@ -55,7 +51,7 @@ component_at-text : (component : ComponentText) (rest : List ℕ) → IsItem (Co
     → component_at (component.number ++ (component.fraction ++ component.designator ∷ rest))
     ≡ component
 component_at-text component rest is digit point =
-    search (rules, run-end, mark-no_digit, take-append_seam, drop-append_seam, fraction-end, get_or-append_seam)
+    search (rules, run-end, take-append_seam, drop-append_seam, fraction-end, get_or-append_seam)
 
 -- its text is its parts before what follows
 component-joined : (component : ComponentText) (rest : List ℕ)

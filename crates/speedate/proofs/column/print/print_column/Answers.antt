@@ -1,8 +1,7 @@
-use Rattle.std.proofs.Common.{rules, ◌+◌, ◌-◌, ◌≡◌, ◌<◌, ◌∙◌, ◌++◌, ◌∷◌, [], ℕ, List, length, drop, take, ap, arith, refl, sym, subst}
+use Rattle.std.proofs.Common.{rules, ◌+◌, ◌-◌, ◌≡◌, ◌<◌, ◌∙◌, ◌∷◌, ℕ, List, length, drop, take, ap, arith, refl, sym}
 use Rattle.std.proofs.lemmas.List.{drop_more, take_more}
-use Rattle.speedate_base.specs.Ascii.{line_feed}
 use Rattle.speedate.specs.ColumnText.{column_text}
-use Rattle.speedate.proofs.ColumnTextLemmas.{IsPrintedSoFar, IsPrintedSoFar-more, IsReadSoFar}
+use Rattle.speedate.proofs.ColumnTextLemmas.{IsPrintedSoFar-more}
 use Rattle.speedate.proofs.ColumnTextLemmas.{IsReadSoFar-more}
 use Rattle.speedate.proofs.ColumnTextLemmas.{column_text-more}
 use Rattle.speedate.proofs.ColumnTextLemmas.{text_column-read}
@@ -24,8 +23,7 @@ loop-lines-preserved g c =
     omega (arith, size) in
     let first = drop_more numbers lines number c.loop-lines-test.true
     ∙ ap (λ one. one ∷ drop (lines + 1) numbers) (sym c.index-numbers-lines.is) in
-    let taken = take_more numbers lines number c.loop-lines-test.true
-    ∙ ap (λ one. take lines numbers ++ one ∷ []) (sym c.index-numbers-lines.is) in
+    let taken = take_more numbers lines number c.loop-lines-test.true in
     let room = length out - bytes in
     let is = ap (column_text line_of room) first
     ∙ column_text-more line_of room number (drop (lines + 1) numbers) line
@@ -39,18 +37,8 @@ loop-lines-preserved g c =
     before.so_far is refl (omega (arith, size)) (omega (arith, fits)) put in
     let read = IsReadSoFar-more leads_back (take bytes out) line (take lines numbers) number
     before.reads c.in-Ok.ensures.no_control c.in-Ok.ensures.reads_back in
-    let left : room - (length line + 1) ≡ length c.put_line.new.out - next = omega (arith, size) in
-    record {
-      room = omega (arith, c.loop-lines-test.true);
-      within = omega (arith, size, fits, before.within);
-      long = omega (arith, before.long);
-      so_far = subst (λ (room : ℕ). IsPrintedSoFar whole (column_text line_of room
-          (drop (lines + 1) numbers)) (lines + 1) next old c.put_line.new.out) left more.0;
-      reads = subst (λ (text : List ℕ). IsReadSoFar leads_back text (take (lines + 1) numbers))
-          (sym more.1)
-          (subst (IsReadSoFar leads_back (take bytes out ++ (line ++ line_feed ∷ []))) (sym taken)
-          read);
-    }
+    let left : room - (length line + 1) ≡ length new - next = omega (arith, size) in
+    search (rules, before, size, fits, taken, more, read, left)
 
 pub returns-in-Err-clause-reads_back : goal.returns-in-Err-clause-reads_back
 returns-in-Err-clause-reads_back g c answer refused config back =

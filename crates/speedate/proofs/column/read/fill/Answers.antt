@@ -1,26 +1,14 @@
-use Rattle.std.proofs.Common.{◌+◌, ◌-◌, ◌≡◌, ◌∙◌, ℕ, List, length, set, None, Some, Ok, Err, ap, sym, arith, refl}
+use Rattle.std.proofs.Common.{rules, ◌+◌, ◌-◌, ◌≡◌, ℕ, List, length, set, None, Some, Ok, Err, arith, refl}
 use Rattle.std.proofs.lemmas.List.{take_rest, length-drop, length-set}
-use Rattle.speedate.specs.Column.{ended_part, text_column}
-use Rattle.speedate.specs.Lines.{whole_lines}
-use Rattle.speedate.proofs.ColumnLemmas.{IsLeft-all, IsLeft-more, IsSoFar-more}
-use Rattle.speedate.proofs.ColumnLemmas.{IsSoFar-none, IsSoFar-whole, text_column-first}
+use Rattle.speedate.proofs.ColumnLemmas.{IsLeft-more, IsSoFar-more}
+use Rattle.speedate.proofs.ColumnLemmas.{IsSoFar-whole, text_column-first}
 use Rattle.speedate.proofs.ColumnLemmas.{text_column-full, text_column-none}
 use Rattle.speedate.proofs.column.read.fill.Goals as goal
 
 pub loop-lines-init : goal.loop-lines-init
 loop-lines-init g c =
-    let text : List ℕ = c.args.text.now in
-    let room : ℕ = length c.args.out.now in
-    let all : room ≡ room - 0 = omega arith in
-    let column_of = text_column (g.R.LineReader.answer c.args.reader.now) c.args.config
-    c.args.refused in
-    record {
-      room = omega arith;
-      within = omega arith;
-      left = IsLeft-all c.args.config.at_end text;
-      so_far = IsSoFar-none (column_of room text) (column_of (room - 0) text) c.args.out.now
-          c.args.errors.now (ap (λ (room : ℕ). column_of room text) all);
-    }
+    let all : length c.args.out.now ≡ length c.args.out.now - 0 = omega arith in
+    search (rules, all)
 
 pub loop-lines-preserved : goal.loop-lines-preserved
 loop-lines-preserved g c =
@@ -50,16 +38,7 @@ returns-in_default g c =
     let before = c.loop-lines.invariant in
     let none = text_column-none _ _ _ _ _ c.in_default.ensures.line in
     let all = IsSoFar-whole _ _ None _ _ _ _ _ before.so_far none in
-    record {
-      numbers = all.numbers;
-      errors = all.errors;
-      lines = all.count;
-      error = all.ends;
-      within = omega arith;
-      part = refl;
-      rest = before.left.whole;
-      unfinished = before.left.unfinished;
-    }
+    search (rules, before, all)
 
 pub returns-in-Err : goal.returns-in-Err
 returns-in-Err g c =
@@ -69,20 +48,7 @@ returns-in-Err g c =
     let ended = text_column-first _ _ c.args.refused _ _ _ c.in-Some.line (Err c.in-Err.error)
     c.in-Some.ensures.line more c.in-Err.ensures.entry in
     let all = IsSoFar-whole _ _ (Some c.in-Err.error) _ _ _ _ _ before.so_far ended in
-    let config = c.args.config in
-    let part_of = λ (lines : List (List ℕ)). ended_part
-    (g.R.LineReader.place c.args.reader.now) config (Some c.in-Err.error) lines in
-    let lines_left = ap (whole_lines config.at_end) (sym before.left.place) ∙ before.left.whole in
-    record {
-      numbers = all.numbers;
-      errors = all.errors;
-      lines = all.count;
-      error = all.ends;
-      within = omega arith;
-      part = c.refused_part-place.ensures.part ∙ ap part_of lines_left;
-      rest = before.left.whole;
-      unfinished = before.left.unfinished;
-    }
+    search (rules, before, all)
 
 pub returns : goal.returns
 returns g c =
@@ -90,13 +56,4 @@ returns g c =
     let full : length c.loop-lines.out - c.loop-lines.lines ≡ 0 =
     omega (arith, c.loop-lines-test.false) in
     let all = IsSoFar-whole _ _ None _ _ _ _ _ before.so_far (text_column-full _ _ _ _ _ full) in
-    record {
-      numbers = all.numbers;
-      errors = all.errors;
-      lines = all.count;
-      error = all.ends;
-      within = omega arith;
-      part = refl;
-      rest = before.left.whole;
-      unfinished = before.left.unfinished;
-    }
+    search (rules, before, all)

@@ -1,7 +1,7 @@
-use Rattle.std.proofs.Common.{rules, ◌<◌, ◌≡◌, ◌∙◌, ap, ℕ, drop, take, None, Some, Ok, Err, arith, refl, sym}
+use Rattle.std.proofs.Common.{rules, ◌<◌, ◌≡◌, ◌∙◌, ap, ℕ, drop, take, None, Some, Ok, Err, arith, refl}
 use Rattle.std.proofs.lemmas.List.{length-set}
-use Rattle.speedate.specs.Column.{column, ended_part}
-use Rattle.speedate.specs.Texts.{as_it_is, cut_at}
+use Rattle.speedate.specs.Column.{column}
+use Rattle.speedate.specs.Texts.{cut_at}
 use Rattle.speedate.proofs.ColumnLemmas.{IsSoFar-more, IsSoFar-none, IsSoFar-whole}
 use Rattle.speedate.proofs.TextsLemmas.{column-end, column-next, offset-positive, taken-next}
 use Rattle.speedate.proofs.column.texts.fill_with_texts.Goals as goal
@@ -35,7 +35,6 @@ offset_at-requires-2 g c = search (rules, offset-positive)
 
 pub returns-in-Err : goal.returns-in-Err
 returns-in-Err g c =
-    let before = c.loop-lines.invariant in
     let lines : ℕ = c.loop-lines.lines in
     let texts = cut_at c.args.offsets.now c.args.bytes.now in
     let inside : lines < c.args.count = omega (arith, c.loop-lines-test.true) in
@@ -44,37 +43,18 @@ returns-in-Err g c =
     let ended = column-next (g.R.LineReader.answer c.args.reader.now) c.args.refused
     (take c.args.count texts) lines c.text_at-text.result.now c.text_number.result
     (Err c.in-Err.error) next c.text_number.ensures.answer c.in-Err.ensures.entry in
-    let all = IsSoFar-whole _ _ (Some c.in-Err.error) _ _ _ _ _ before.so_far ended in
-    record {
-      column = record {
-        numbers = all.numbers;
-        errors = all.errors;
-        lines = all.count;
-        bytes = c.offset_at.ensures.offset;
-        error = all.ends;
-        part = c.text_part-place.ensures.part
-            ∙ ap (ended_part (g.R.LineReader.place c.args.reader.now) as_it_is
-            (Some c.in-Err.error)) (sym next);
-      };
-    }
+    let so_far = c.loop-lines.invariant.so_far in
+    let all = IsSoFar-whole _ _ (Some c.in-Err.error) _ _ _ _ _ so_far ended in
+    search (rules, next, all)
 
 pub returns : goal.returns
 returns g c =
     let before = c.loop-lines.invariant in
-    let lines : ℕ = c.loop-lines.lines in
     let texts = cut_at c.args.offsets.now c.args.bytes.now in
     let answer = g.R.LineReader.answer c.args.reader.now in
-    let all_read : lines ≡ c.args.count = omega (arith, before.read, c.loop-lines-test.false) in
+    let all_read : c.loop-lines.lines ≡ c.args.count =
+    omega (arith, before.read, c.loop-lines-test.false) in
     let ended = ap (λ (n : ℕ). column answer c.args.refused (drop n (take c.args.count texts)))
     all_read ∙ column-end answer c.args.refused texts c.args.count in
     let all = IsSoFar-whole _ _ None _ _ _ _ _ before.so_far ended in
-    record {
-      column = record {
-        numbers = all.numbers;
-        errors = all.errors;
-        lines = all.count;
-        bytes = c.offset_at-2.ensures.offset;
-        error = all.ends;
-        part = refl;
-      };
-    }
+    search (rules, all)

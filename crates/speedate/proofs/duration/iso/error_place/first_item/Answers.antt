@@ -1,11 +1,9 @@
 use Rattle.std.proofs.Common.{◌≡◌, ◌≤◌, ◌<◌, ◌-◌, ◌+◌, ◌∙◌, ap, sym, subst, arith, rules, ℕ, Bool, true, false, List, length, drop, if◌then◌else◌, IsOk, Result, Ok, Err}
 use Rattle.std.proofs.lemmas.Bool.Decides.{nat_tests}
 use Rattle.std.proofs.lemmas.List.{drop-drop, length-drop, take_rest}
-use Rattle.speedate_base.specs.Refused.{from_byte, placed, seen_as}
+use Rattle.speedate_base.specs.Refused.{from_byte, placed}
 use Rattle.speedate_base.specs.declared.refusal.Refused.{Refused}
 use Rattle.speedate_base.specs.Requirement.{shifted}
-use Rattle.speedate_civil.specs.Base.{ParseError}
-use Rattle.speedate.specs.Duration.{iso_from}
 use Rattle.speedate.specs.DurationNumbers.{UnsignedDuration}
 use Rattle.speedate.specs.DurationPlace.{amount_numbers, first_item_after}
 use Rattle.speedate.specs.IsoForm.{item_at}
@@ -13,11 +11,6 @@ use Rattle.speedate.specs.IsoParts.{bound_test, item_front_or, sums_parts}
 use Rattle.speedate.proofs.DurationPlaceLemmas.{first_item-done, first_item-step, iso_from-read}
 use Rattle.speedate.proofs.DurationPlaceLemmas.{iso_from-refused}
 use Rattle.speedate.proofs.duration.iso.error_place.first_item.Goals as goal
-
-is_ok-err : (refuse : ParseError → ℕ → Refused) (answer : Result UnsignedDuration Refused)
-    (refused : Refused) → Err refused ≡ seen_as refuse answer → IsOk answer → ⊥
-is_ok-err refuse (Ok amount) refused same ok = absurd (cc)
-is_ok-err refuse (Err given) refused same ok = absurd (cc)
 
 is_ok-part : (start : ℕ) (answer : Result UnsignedDuration Refused) → IsOk (from_byte start answer)
     → IsOk answer
@@ -57,7 +50,6 @@ loop-place-preserved c =
     let rest = drop place body in
     let sums = sums_parts c.loop-place.sums in
     let next = sums_parts c.in-Ok.next in
-    let test = bound_test c.args.bound in
     let text = take_rest body place in
     let more : place < length body = grind (arith, nat_tests, c.loop-place-test.true) in
     let left : length rest ≡ length body - place = length-drop place body in
@@ -67,22 +59,10 @@ loop-place-preserved c =
     let front_of = λ (text : List ℕ). item_front_or refuse sums (item_at text) in
     let read = c.in-Ok.ensures.item ∙ ap front_of text in
     let small = subst (λ (text : List ℕ). size ≤ length text) text c.in-Ok.ensures.within in
+    let test = bound_test c.args.bound in
     let step = first_item-step refuse test sums next rest size some small read in
-    let holds_of = λ (amount : UnsignedDuration). test (amount_numbers amount) in
-    let held = ap holds_of (sym c.sum.ensures.amount) ∙ sym c.holds.ensures ∙ holds in
-    let after = λ (text : List ℕ). size + first_item_after test 0 next text in
-    let left_text = drop-drop size place body in
-    let found = step
-    ∙ ap (λ (holds : Bool). if holds then after (drop size rest) else 0) held
-    ∙ ap after left_text in
     let later = iso_from-read refuse sums next rest size some small read in
-    let IsRead = λ (answer : Result UnsignedDuration Refused). IsOk answer in
-    let part = subst IsRead later c.loop-place.invariant.2 in
-    let read_later = is_ok-part size (iso_from next (drop size rest)) part in (
-      omega (arith, found, c.loop-place.invariant.0),
-      omega (arith, left, small, more),
-      subst (λ (text : List ℕ). IsOk (iso_from next text)) left_text read_later,
-    )
+    search (rules, holds, left, more, small, step, later, drop-drop size place body, is_ok-part)
 
 pub returns-after-loop-place-clause-place : goal.returns-after-loop-place-clause-place
 returns-after-loop-place-clause-place c = search (rules, length-drop, first_item-done)
@@ -94,11 +74,8 @@ returns-in_default-clause-place c =
     let rest = drop place body in
     let sums = sums_parts c.loop-place.sums in
     let more : place < length body = grind (arith, nat_tests, c.loop-place-test.true) in
-    let left : length rest ≡ length body - place = length-drop place body in
+    let some : 0 < length rest = omega (arith, length-drop place body, more) in
     let refuse = shifted place placed in
-    let some : 0 < length rest = omega (arith, left, more) in
     let front_of = λ (text : List ℕ). item_front_or refuse sums (item_at text) in
     let item = c.in_default.ensures.item ∙ ap front_of (take_rest body place) in
-    let refused = iso_from-refused refuse sums rest c.in_default.field-0 some item in
-    absurd (is_ok-err refuse (iso_from sums rest) c.in_default.field-0 refused
-    c.loop-place.invariant.2)
+    search (rules, iso_from-refused refuse sums rest c.in_default.field-0 some item)
