@@ -52,10 +52,6 @@ between-lanes n lowest lanes highest most one two three small few ordered =
       length-zip2 ltb room above,
       length-zip2 less lanes lowest,
       length-zip2 less highest lowest,
-      most,
-      one,
-      two,
-      three,
     ) in
     rw (mask_l-mod tests 64 many)
     (no_bits tests ∙ run n lowest lanes highest one two three small few ordered)

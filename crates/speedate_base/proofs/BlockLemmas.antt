@@ -3,8 +3,7 @@ use Rattle.std.proofs.Common.{◌≡◌, ℕ, ◌+◌, ◌-◌, ◌*◌, ◌<◌
 use Rattle.std.specs.Char.{is_ascii_digit}
 use Rattle.std.specs.List.{prefix_len, list_all}
 use Rattle.std.proofs.lemmas.Bool.Decides.{nat_tests}
-use Rattle.std.proofs.lemmas.List.{length-take-le, length-drop, take_rest, take-append-drop, drop-drop}
-use Rattle.std.proofs.lemmas.List.Folds.{prefix_len-append}
+use Rattle.std.proofs.lemmas.List.{length-take-le, length-drop, take_rest, drop-drop}
 use Rattle.std.proofs.lemmas.List.Sums.{prefix_len-le-length}
 use Rattle.speedate_base.specs.Digits.{run_length, digits_value}
 use Rattle.speedate_base.proofs.DigitRunLemmas.{run-front, run-on, digits_value-append, run-whole}
@@ -30,17 +29,7 @@ pub prefix_on : (p : ℕ → Bool) (bytes : List ℕ) (place next : ℕ) → nex
     then Some (prefix_len p (take 16 (drop place bytes))) else None)
     → prefix_len p (drop place bytes) ≡ 16 + prefix_len p (drop next bytes)
 prefix_on p bytes place next after within full =
-    grind (
-      arith,
-      nat_tests,
-      after,
-      take-append-drop 16 (drop place bytes),
-      prefix_len-append p (take 16 (drop place bytes)) (drop 16 (drop place bytes)),
-      prefix_len-le-length p (take 16 (drop place bytes)),
-      length-take-le 16 (drop place bytes),
-      length-drop place bytes,
-      drop-drop 16 place bytes,
-    )
+    grind (arith, nat_tests, drop-drop 16 place bytes)
 
 -- a run goes on after digits
 digits_on : (bytes : List ℕ) (place count : ℕ) → place + count ≤ length bytes

@@ -84,7 +84,6 @@ pub run-front : (bytes : List ℕ) (count : ℕ)
 run-front bytes count ends =
     grind (
       arith,
-      nat_tests,
       take-append-drop count bytes,
       prefix_len-append is_ascii_digit (take count bytes) (drop count bytes),
     )
@@ -96,7 +95,6 @@ pub run-on : (bytes : List ℕ) (count : ℕ) → count ≤ length bytes
 run-on bytes count within all =
     grind (
       arith,
-      nat_tests,
       take-append-drop count bytes,
       prefix_len-append is_ascii_digit (take count bytes) (drop count bytes),
       run-whole (take count bytes),
@@ -111,9 +109,7 @@ pub run_length-ended : (bytes : List ℕ) (count : ℕ) → count ≤ length byt
 run_length-ended bytes count within all ended =
     grind (
       arith,
-      nat_tests,
       run-on bytes count,
-      cases_lt count (length bytes),
       prefix_len-drop_no is_ascii_digit bytes count,
       prefix_len-drop_all is_ascii_digit bytes count,
     )

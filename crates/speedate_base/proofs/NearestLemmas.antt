@@ -37,15 +37,7 @@ halved negative twice = if negative then twice / 2 else (twice + 1) / 2
 
 -- a number below zero is rounded up by its size
 down : (n d : ℕ) → 0 < d → nearest (neg_ℤ (pos n)) d ≡ neg_ℤ (pos ((2 * n + (d - 1)) / (2 * d)))
-down n d some =
-    grind (
-      arith,
-      ints,
-      nat_tests,
-      cases_lt d (2 * n),
-      add-mul-div_right (2 * n - d - 1) 1,
-      div-eq_of_lt,
-    )
+down n d some = grind (arith, add-mul-div_right (2 * n - d - 1) 1, div-eq_of_lt)
 
 -- the nearest number, by its size
 pub nearest-halved : (negative : Bool) (n d : ℕ) → 0 < d

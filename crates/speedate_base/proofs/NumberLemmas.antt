@@ -2,7 +2,7 @@
 use Rattle.std.proofs.Common.{◌≡◌, ℕ, ◌+◌, ◌-◌, ◌<◌, ◌≤◌, Bool, true, false, ◌&&◌, ◌==◌, List, [], ◌∷◌, ◌++◌, length, take, drop, slice_index, if◌then◌else◌, Option, Some, None, ℤ, refl, arith, rules, ap, sym, ◌∙◌, append_assoc, get_or}
 use Rattle.std.specs.Char.{is_ascii_digit}
 use Rattle.std.specs.List.{list_all, prefix_len}
-use Rattle.std.proofs.lemmas.Bool.{cases_lt, eqb-true, and_parts, false≢true, false_from_ne_true}
+use Rattle.std.proofs.lemmas.Bool.{eqb-true, and_parts, false≢true}
 use Rattle.std.proofs.lemmas.List.Sums.{prefix_len_passes, take_while-cons}
 use Rattle.std.proofs.lemmas.List.{get_or-drop, take-append-drop, drop-drop, drop_more, take_all, length-drop, length-take-le}
 use Rattle.speedate_base.specs.Ascii.{full_stop}
@@ -105,8 +105,7 @@ whole_number-other text place after within other =
 is_decimal-other : (text : List ℕ) (place : ℕ) → 1 ≤ place → place < length text
     → is_ascii_digit (get_or text place 0) ≡ false
     → (get_or text place 0 == full_stop) ≡ false → is_decimal text ≡ false
-is_decimal-other text place after within other no_point =
-    search (rules, and_parts, eqb-true, cases_lt, false≢true, false_from_ne_true, run-passes, sign_size-small)
+is_decimal-other text place after within other no_point = search (rules, run-passes)
 
 -- so it is no number
 pub number_answer-other : (text : List ℕ) (place : ℕ) → 1 ≤ place → place < length text

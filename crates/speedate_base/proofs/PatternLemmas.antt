@@ -92,11 +92,4 @@ pub lowest_bit_set : (tests : List Bool) (count : ℕ) → length tests ≡ coun
     (count_trailing_zeros 64 (mask_l tests % 18446744073709551616))
     ≡ (if nat_lt (prefix_len not tests) count then Some (prefix_len not tests) else None)
 lowest_bit_set tests count long few =
-    grind (
-      arith,
-      nat_tests,
-      lowest_bit tests count long few,
-      mask_l-mod tests 64,
-      no_bits_whole tests,
-      prefix_len-le-length not tests,
-    )
+    grind (arith, lowest_bit tests count long few, mask_l-mod tests 64, no_bits_whole tests)

@@ -95,22 +95,14 @@ block-taken up unit digits place value later twice some within is taken_later ta
     let there : place - 8 + 8 ≡ place = omega arith in
     let both_dropped = drop-drop 8 (place - 8) digits in
     let behind : drop 8 all ≡ rest = both_dropped ∙ ap (λ (n : ℕ). drop n digits) there in
-    let whole : digits_value all ≡ value * scale + digits_value rest = grind (
-      arith,
-      take-append-drop 8 all,
-      behind,
-      digits_value-append (take 8 all) rest,
-    ) in
+    let whole : digits_value all ≡ value * scale + digits_value rest =
+    grind (arith, digits_value-append (take 8 all) rest) in
     let long : length all ≡ length rest + 8 = omega (
       arith,
       length-drop place digits,
       length-drop (place - 8) digits,
     ) in
-    let power : 10 ^ length all ≡ scale * 100000000 = grind (
-      arith,
-      long,
-      pow-add 10 (length rest) 8,
-    ) in
+    let power : 10 ^ length all ≡ scale * 100000000 = grind (arith, pow-add 10 (length rest) 8) in
     let block = 2 * (value * unit) in
     let after = 2 * (digits_value rest * unit) in
     let sum : after + block * scale ≡ 2 * (digits_value all * unit) = rw whole (grind arith) in
@@ -151,14 +143,7 @@ rest-up : (unit : ℕ) (digits : List ℕ) → list_all is_ascii_digit digits �
     ≤ quotient true (2 * (digits_value digits * unit)) (10 ^ length digits))
     × (quotient true (2 * (digits_value digits * unit)) (10 ^ length digits)
     ≤ (rest_bounds true unit digits).1)
-rest-up unit digits all =
-    grind (
-      arith,
-      nat_tests,
-      rest-within true unit digits all,
-      rest-some unit digits,
-      rest-none unit digits,
-    )
+rest-up unit digits all = grind (arith, rest-within true unit digits all, rest-some unit digits)
 
 pub rest-bounded : (up : Bool) (unit : ℕ) (digits : List ℕ) → list_all is_ascii_digit digits ≡ true
     → ((rest_bounds up unit digits).0
@@ -191,12 +176,8 @@ sixteen-told up unit digits value smallest largest least most long is more less 
     let scale = 10 ^ length rest in
     let size = 2 * (value * unit) in
     let later = quotient up (2 * (digits_value rest * unit)) scale in
-    let whole : digits_value digits ≡ value * scale + digits_value rest = grind (
-      arith,
-      is,
-      take-append-drop 16 digits,
-      digits_value-append (take 16 digits) rest,
-    ) in
+    let whole : digits_value digits ≡ value * scale + digits_value rest =
+    grind (arith, digits_value-append (take 16 digits) rest) in
     let count : length digits ≡ length rest + 16 = omega (arith, length-drop 16 digits) in
     let product = pow-add 10 (length rest) 16 in
     let power : 10 ^ length digits ≡ scale * 10 ^ 16 = rw (count, product) refl in

@@ -62,7 +62,6 @@ left-small places fraction all =
       digits_value-lt rest (rest_all fraction count all),
       length-drop count fraction,
       powers places fraction,
-      mul-le-mul_right,
       scale-some,
     )
 

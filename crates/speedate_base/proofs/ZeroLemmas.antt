@@ -2,7 +2,7 @@
 use Rattle.std.proofs.Common.{rules, ◌≡◌, ℕ, ◌+◌, ◌-◌, ◌*◌, ◌^◌, ◌<◌, ◌≤◌, ◌==◌, true, List, [], ◌∷◌, length, take, drop, min, Ok, refl, arith, lit<, mul-le-mul_right}
 use Rattle.std.specs.Char.{is_ascii_digit}
 use Rattle.std.specs.List.{list_all}
-use Rattle.std.proofs.lemmas.Bool.{and_parts, cases_lt}
+use Rattle.std.proofs.lemmas.Bool.{and_parts}
 use Rattle.std.proofs.lemmas.Bool.Decides.{nat_tests}
 use Rattle.std.proofs.lemmas.List.{take-append-drop, length-drop}
 use Rattle.std.proofs.lemmas.List.Sums.{take_while-cons, prefix_len_stops, prefix_len-drop_no, prefix_len-drop_all}
@@ -49,8 +49,6 @@ zeros-none : (bytes : List ℕ) → zeros_length (drop (zeros_length bytes) byte
 zeros-none bytes =
     grind (
       arith,
-      nat_tests,
-      cases_lt (zeros_length bytes) (length bytes),
       prefix_len_stops is_digit_zero bytes 0,
       prefix_len-drop_no is_digit_zero bytes (zeros_length bytes) 0,
       prefix_len-drop_all is_digit_zero bytes (zeros_length bytes),
@@ -76,12 +74,7 @@ long-capped digits within ends many =
     let rest : List ℕ = drop (zeros_length digits) digits in
     let run = zeros-run digits within in
     let left = length-drop (zeros_length digits) digits in
-    let all : list_all is_ascii_digit rest ≡ true = grind (
-      arith,
-      nat_tests,
-      run-whole rest,
-      left,
-    ) in
+    let all : list_all is_ascii_digit rest ≡ true = grind (arith, run-whole rest) in
     let large = large-digits rest all (zeros-none digits) (omega (arith, left)) in
     grind (arith, nat_tests, run, large, zeros-value digits)
 
@@ -119,13 +112,6 @@ zeros-whole (digit ∷ digits) all =
     let scale = 10 ^ length digits in
     let value = one_digit_value digit in
     let more : 1 ≤ value → 1 * scale ≤ value * scale = mul-le-mul_right scale in
-    grind (
-      arith,
-      nat_tests,
-      parts.0,
-      more,
-      scale-some (length digits),
-      zeros-whole digits parts.1,
-    )
+    grind (arith, scale-some (length digits), zeros-whole digits parts.1)
 
 pub ruleset zero_tests = (nat_tests, zeros-whole)

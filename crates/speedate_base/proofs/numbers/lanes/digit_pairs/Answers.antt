@@ -3,7 +3,7 @@ use Rattle.std.specs.Int.{from_le_bytes, to_le_bytes}
 use Rattle.std.proofs.lemmas.Bool.Decides.{nat_tests}
 use Rattle.std.proofs.lemmas.Nat.{and_mask, mod-pow-add, pow-add, pow_pos}
 use Rattle.std.proofs.lemmas.Simd.{length-zip2}
-use Rattle.std.proofs.Math.Nat.{zero-mod, add-mul-div_right, div-eq_of_lt}
+use Rattle.std.proofs.Math.Nat.{zero-mod}
 use lib.Lanes.{Each1, zip2, number_l}
 use Rattle.speedate_base.specs.Digits.{fits_byte, fit_length, fit_digits, digit_pairs}
 use Rattle.speedate_base.proofs.PatternLemmas.{less, by_eight, from_le_bytes-number, first-fits}
@@ -70,15 +70,7 @@ mask-is : (count : ℕ) → 1 ≤ count → count ≤ 8
 mask-is count some few =
     let low = 64 - 8 * count in
     let high = 8 * count in
-    grind (
-      arith,
-      nat_tests,
-      pow_pos low,
-      pow_pos high,
-      pow-add 2 low high,
-      add-mul-div_right (2 ^ low - 1) (2 ^ high - 1) (pow_pos low),
-      div-eq_of_lt,
-    )
+    grind (arith, pow_pos low, pow-add 2 low high)
 
 -- what the code computes
 record Computed (digits : List ℕ) (masked : ℕ) : Type 0 where

@@ -40,8 +40,6 @@ returns c =
       length-zip2 ltb (map largest forms) differences,
       length-map forms largest,
       length-zip2 less lanes forms,
-      long,
-      c.fits-lanes.0,
     ) in
     record {
       count = rw (
