@@ -84,12 +84,6 @@ pub clock-many : {E : Type 0} (refuse : ParseError → ℕ → E) (behavior : Be
 clock-many refuse behavior text colon count read same more =
     search (rules, refusal-value, hours-count, clock_form-seen, refusal-all)
 
--- the answer to what follows the hours, by the place of the colon and by how many there are
-abbrev hours_rest : {E : Type 0} → (ParseError → ℕ → E) → Behavior → List ℕ → ℕ → ℕ
-    → Result UnsignedDuration E
-hours_rest refuse behavior text colon count =
-    seen_as (shifted (colon + 1) refuse) (after_hours behavior count (drop (colon + 1) text))
-
 -- otherwise what follows them decides
 pub clock-rest : {E : Type 0} (refuse : ParseError → ℕ → E) (behavior : Behavior) (text : List ℕ)
     (colon count : ℕ)

@@ -208,9 +208,6 @@ pub record IsLeft (at_end : Bool) (text rest : List ℕ) (lines : ℕ) : Type 0 
   pub unfinished : at_end ≡ false
       → unfinished_line (drop (length text - length rest) text) ≡ unfinished_line text
 
-pub IsLeft-all : (at_end : Bool) (text : List ℕ) → IsLeft at_end text text 0
-IsLeft-all at_end text = search rules
-
 pub IsLeft-more : (config : LineConfig) (text rest read : List ℕ) (size lines : ℕ)
     → length rest ≤ length text → IsLeft config.at_end text rest lines
     → IsFirstLineOf config rest read size

@@ -4,9 +4,7 @@ use Rattle.std.proofs.lemmas.Bool.Decides.{nat_tests}
 use Rattle.std.proofs.lemmas.List.{drop_all}
 use Rattle.std.proofs.Math.Seq.{drop-cons}
 use Rattle.speedate_civil.specs.Base.{Behavior}
-use Rattle.speedate.specs.DayForm.{IsWholeDays}
-use Rattle.speedate.specs.DayForm.{has_whole_ending}
-use Rattle.speedate.specs.DayForm.{after_days, day_form}
+use Rattle.speedate.specs.DayForm.{IsWholeDays, has_whole_ending, after_days, day_form}
 
 ended : has_whole_ending [] ≡ true
 ended = refl

@@ -9,13 +9,10 @@ use Rattle.speedate_base.specs.Refused.{seen_as, without_place}
 use Rattle.speedate_base.specs.declared.refusal.Refused.{Refused}
 use Rattle.speedate_base.specs.Requirement.{fault_alone, first_fault_or, result_and_then}
 use Rattle.speedate_base.proofs.RefusalLemmas.{seen-from, seen-table}
-use Rattle.speedate.specs.Duration.{days_or_clock, duration_answer, iso_after}
-use Rattle.speedate.specs.Duration.{unsigned_answer}
-use Rattle.speedate.specs.DurationNumbers.{DurationNumbers, UnsignedDuration}
-use Rattle.speedate.specs.DurationNumbers.{signed_form}
+use Rattle.speedate.specs.Duration.{days_or_clock, duration_answer, iso_after, unsigned_answer}
+use Rattle.speedate.specs.DurationNumbers.{DurationNumbers, UnsignedDuration, signed_form}
 use Rattle.speedate.specs.IsoForm.{Item, item_text, IsoSums, item_at, item_table, no_sums}
-use Rattle.speedate.specs.IsoForm.{with_item}
-use Rattle.speedate.specs.IsoForm.{sums_amount}
+use Rattle.speedate.specs.IsoForm.{with_item, sums_amount}
 
 -- Answers with their faults alone.
 

@@ -9,7 +9,7 @@ use Rattle.speedate_base.specs.declared.refusal.Refused.{Refused}
 use Rattle.speedate_base.specs.Requirement.{shifted}
 use Rattle.speedate_base.proofs.RefusalLemmas.{first_refusal_or-next, refusal-all, refusal-value}
 use Rattle.speedate_base.proofs.RefusalLemmas.{seen-part, seen-read, seen-table, seen_then}
-use Rattle.speedate.specs.Duration.{days_or_clock, iso_after, iso_form, iso_from, unsigned_answer}
+use Rattle.speedate.specs.Duration.{iso_after, iso_from, unsigned_answer}
 use Rattle.speedate.specs.DurationNumbers.{DurationNumbers, UnsignedDuration}
 use Rattle.speedate.specs.DurationPlace.{amount_numbers, first_item_after}
 use Rattle.speedate.specs.IsoForm.{IsoSums, TimeDesignator, item_at, item_table, item_text}
@@ -153,11 +153,6 @@ first_item-rest test (suc skipped) sums [] within = absurd (omega arith)
 first_item-rest test (suc skipped) sums (byte ∷ rest) within =
     omega (arith, first_item-rest test skipped sums rest (omega arith))
 
--- the place of the item from sums on, before which an item of a size stands
-abbrev place_from : (DurationNumbers → Bool) → ℕ → IsoSums → List ℕ → ℕ
-place_from test size sums rest =
-    if test (amount_numbers (sums_amount sums)) then size + first_item_after test 0 sums rest else 0
-
 pub first_item-step : {E : Type 0} (refuse : ParseError → ℕ → E) (test : DurationNumbers → Bool)
     (sums next : IsoSums) (text : List ℕ) (size : ℕ) → 0 < length text → size ≤ length text
     → Ok (next, size) ≡ item_front_or refuse sums (item_at text)
@@ -183,11 +178,6 @@ pub first_item-done : (test : DurationNumbers → Bool) (sums : IsoSums) (text :
 unfolding first_item_after
 first_item-done test sums [] none = refl
 first_item-done test sums (byte ∷ rest) none = absurd (omega (arith, none))
-
--- an answer in the ISO 8601 form, or else in another
-abbrev answer_by : IsoOrder → Behavior → List ℕ → Bool → Result UnsignedDuration Refused
-answer_by order behavior text iso =
-    if iso then from_byte 1 (iso_form order (drop 1 text)) else days_or_clock behavior text
 
 -- a duration that is read has read items
 pub iso-read : (start : ℕ) (order : IsoOrder) (behavior : Behavior) (text : List ℕ)

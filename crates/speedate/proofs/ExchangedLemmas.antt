@@ -10,8 +10,7 @@ use Rattle.speedate.proofs.DurationAnswerLemmas.{iso_from-item}
 use Rattle.speedate.specs.DurationNumbers.{DurationNumbers, UnsignedDuration}
 use Rattle.speedate.specs.IsoOrder.{IsWhole, AreWhole, IsPlain, AreExchanged}
 use Rattle.speedate.specs.IsoForm.{units, ComponentText, Item, Component, item_text}
-use Rattle.speedate.specs.IsoForm.{item_at, item_table, IsoSums, no_sums, with_item}
-use Rattle.speedate.specs.IsoForm.{with_items}
+use Rattle.speedate.specs.IsoForm.{item_at, item_table, IsoSums, no_sums, with_item, with_items}
 use Rattle.speedate.proofs.IsoItemLemmas.{item_at-component}
 
 -- what is one item by its bytes is read as it, whatever follows

@@ -1,6 +1,6 @@
 -- Where the order of the standard is asked for, a duration is what the lax order makes of it, or is
 -- refused for its order.
-use Rattle.std.proofs.Common.{rules, arith, ap, sym, ◌∙◌, subst, inl, ◌≡◌, ℕ, zero, suc, ◌-◌, Bool, true, false, not, ◌&&◌, List, [], ◌∷◌, ◌++◌, length, take, drop, slice_index, ◌==◌, if◌then◌else◌, Option, Some, Result, Ok, Err, refl, flat_map, is_some}
+use Rattle.std.proofs.Common.{rules, arith, ap, sym, ◌∙◌, subst, inl, ◌≡◌, ℕ, zero, suc, ◌-◌, Bool, true, false, not, ◌&&◌, List, [], ◌∷◌, ◌++◌, length, take, drop, slice_index, ◌==◌, if◌then◌else◌, Option, Result, Ok, Err, refl, flat_map, is_some}
 use Rattle.speedate_civil.specs.Base.{Behavior, IsoOrder, ParseError}
 use Rattle.std.proofs.lemmas.Bool.{eqb-true, false≢true}
 use Rattle.std.proofs.lemmas.Bool.Decides.{nat_tests}
@@ -15,8 +15,7 @@ use Rattle.speedate.specs.Duration.{duration_answer}
 use Rattle.speedate.proofs.DurationAnswerLemmas.{duration_answer-form, iso_from-item}
 use Rattle.speedate.proofs.DurationAnswerLemmas.{duration_answer-iso, duration_fault, fault_after}
 use Rattle.speedate.proofs.DurationAnswerLemmas.{fault_after-byte, fault_after-end}
-use Rattle.speedate.proofs.DurationAnswerLemmas.{fault_after-item}
-use Rattle.speedate.proofs.DurationAnswerLemmas.{fault_form, fault_from}
+use Rattle.speedate.proofs.DurationAnswerLemmas.{fault_after-item, fault_form, fault_from}
 use Rattle.speedate.specs.IsoOrder.{IsLaxOrRefused, IsAnswerInOrder, are_in_order, IsMadeOf, is_iso}
 use Rattle.speedate.specs.IsoForm.{IsoUnit, units, unit_in, ComponentText, Item, TimeDesignator}
 use Rattle.speedate.specs.IsoForm.{Component, item_text, item_at, item_table, units_after, IsoSums}
@@ -72,13 +71,6 @@ pub duration-both : (asked : IsoOrder) (behavior : Behavior) (text : List ℕ)
     → IsLaxOrRefused (duration_fault IsoOrder.Lax behavior text)
     (duration_fault asked behavior text)
 duration-both asked behavior text = grind (arith, nat_tests, duration_answer-form, iso-both)
-
--- the unit of a designator has that designator
-unit-designator : (units : List IsoUnit) (designator : ℕ) (unit : IsoUnit)
-    → unit_in units designator ≡ Some unit → unit.designator ≡ designator
-unit-designator [] designator unit same = absurd (cc)
-unit-designator (one ∷ units) designator unit same =
-    grind (arith, nat_tests, same, unit-designator units designator unit)
 
 -- a component with a unit adds to the sums of the strict order what it adds to the others, and
 -- leaves what follows its unit

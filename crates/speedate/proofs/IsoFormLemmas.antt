@@ -12,8 +12,7 @@ use Rattle.speedate_base.specs.Refused.{without_place}
 use Rattle.speedate.specs.Duration.{days_or_clock, IsGrammarAnswer}
 use Rattle.speedate.proofs.DurationAnswerLemmas.{duration_answer-form, duration_fault, fault_after}
 use Rattle.speedate.proofs.DurationAnswerLemmas.{fault_after-byte, fault_after-end}
-use Rattle.speedate.proofs.DurationAnswerLemmas.{fault_after-item}
-use Rattle.speedate.proofs.DurationAnswerLemmas.{fault_form}
+use Rattle.speedate.proofs.DurationAnswerLemmas.{fault_after-item, fault_form}
 use Rattle.speedate.specs.DurationNumbers.{DurationNumbers, UnsignedDuration, signed_form}
 use Rattle.speedate.specs.IsoForm.{Item, item_text, IsItem, item_at, IsoSums, no_sums, with_item}
 use Rattle.speedate.specs.IsoForm.{with_items, item_table, AreGood, sums_amount, Ends, IsEndedFront}

@@ -16,8 +16,7 @@ use Rattle.speedate_base.specs.Requirement.{fault_alone, AllHold}
 use Rattle.speedate_base.proofs.TextLemmas.{text-distinct}
 use Rattle.speedate.specs.Duration.{duration_answer, counted_text}
 use Rattle.speedate.specs.Duration.{without_last_zeros, short_fraction_text, seconds_text}
-use Rattle.speedate.specs.Duration.{hours_text, days_text, rest_text, is_whole_days}
-use Rattle.speedate.specs.Duration.{duration_text}
+use Rattle.speedate.specs.Duration.{hours_text, days_text, rest_text, is_whole_days, duration_text}
 use Rattle.speedate.proofs.DurationAnswerLemmas.{duration_answer-form, duration_fault, fault_form}
 use Rattle.speedate.proofs.DurationAnswerLemmas.{fault_from, iso_from-end, iso_from-item}
 use Rattle.speedate.proofs.IsoItemLemmas.{item_at-component}

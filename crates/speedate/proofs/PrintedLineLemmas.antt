@@ -6,15 +6,14 @@ use Rattle.speedate_civil.specs.Base.{Behavior, ParseError}
 use Rattle.std.proofs.lemmas.Fmt.{decimal_by_steps}
 use Rattle.std.proofs.lemmas.List.Elements.{All-append, All-cons, All-get_or, All-head, All-nil, All-tail}
 use Rattle.std.proofs.lemmas.Bool.Decides.{nat_tests}
-use Rattle.speedate_base.specs.Ascii.{HasNoControl, space}
+use Rattle.speedate_base.specs.Ascii.{HasNoControl, space, capital_d}
 use Rattle.speedate_base.specs.Refused.{without_place}
 use Rattle.speedate_base.specs.declared.refusal.Refused.{Refused}
 use Rattle.speedate_base.specs.Offset.{IsWholeMinutes}
 use Rattle.speedate_civil.specs.Calendar.{Ymd, IsDate, days_between}
 use Rattle.speedate_civil.specs.Date.{date_text}
 use Rattle.speedate_civil.specs.DateTime.{DateAndTime, IsDateAndTime, date_time_front}
-use Rattle.speedate_civil.specs.DateTime.{date_time_text, local_microsecond}
-use Rattle.speedate_civil.specs.DateTime.{utc_microsecond}
+use Rattle.speedate_civil.specs.DateTime.{date_time_text, local_microsecond, utc_microsecond}
 use Rattle.speedate_civil.specs.Time.{IsTime, TimeOfDay, microsecond_of_day, time_text}
 use Rattle.speedate_civil.specs.Time.{timestamp_answer}
 use Rattle.speedate_civil.proofs.DateLemmas.{date_text-reads}
@@ -22,12 +21,9 @@ use Rattle.speedate_civil.proofs.DateTimeLemmas.{date_time_text-front, date_time
 use Rattle.speedate_civil.proofs.NoControlLemmas.{date_time_front-no_control}
 use Rattle.speedate_civil.proofs.TimeLemmas.{nothing-after, time_text-reads}
 use Rattle.speedate.specs.declared.column.date_time.DateTimeParser.{DateTimeParser}
-use Rattle.speedate.specs.Column.{LineError}
-use Rattle.speedate.specs.Column.{date_time_of_line, epoch, taken_answer}
+use Rattle.speedate.specs.Column.{LineError, date_time_of_line, epoch, taken_answer}
 use Rattle.speedate.specs.ColumnText.{IsRelaxed, IsShownLine, ReadsClocks, ReadsDates}
-use Rattle.speedate.specs.ColumnText.{ReadsDateTimes, ReadsTimes}
-use Rattle.speedate.specs.ColumnText.{least_of_64_bits, number_or}
-use Rattle.speedate_base.specs.Ascii.{capital_d}
+use Rattle.speedate.specs.ColumnText.{ReadsDateTimes, ReadsTimes, least_of_64_bits, number_or}
 use Rattle.speedate_base.specs.Ascii.{capital_y, digit_zero, full_stop}
 use Rattle.speedate_base.specs.Digits.{six_digit_text}
 use Rattle.speedate.specs.Column.{number_of_amount}

@@ -81,12 +81,6 @@ pub without_return-front : (drops : Bool) (text : List ℕ) (size : ℕ) → siz
     × (length (without_return drops (take size text)) ≤ length text)
 without_return-front drops text size inside = search (rules, length-take, take-take, length-take-le)
 
--- a text begins with a line, without its return
-abbrev BeginsWith : Bool → List ℕ → List ℕ → Type 0
-BeginsWith drops text line =
-    (take (length (without_return drops line)) text ≡ without_return drops line)
-    × (length (without_return drops line) ≤ length text)
-
 pub without_return-whole : (drops : Bool) (text : List ℕ)
     → (take (length (without_return drops text)) text ≡ without_return drops text)
     × (length (without_return drops text) ≤ length text)

@@ -5,8 +5,7 @@ use Rattle.std.specs.Option.{option_map}
 use Rattle.std.specs.Result.{result_and}
 use Rattle.speedate_base.specs.Requirement.{AllHold, ParseError, Requirement, TextRow}
 use Rattle.speedate_base.specs.Requirement.{first_place, first_refusal_or, moved, or_number}
-use Rattle.speedate_base.specs.Requirement.{refusal_map}
-use Rattle.speedate_base.specs.Requirement.{result_and_then, result_map, shifted}
+use Rattle.speedate_base.specs.Requirement.{refusal_map, result_and_then, result_map, shifted}
 use Rattle.speedate_base.specs.Requirement.{with_no_more_or}
 use Rattle.speedate_base.specs.Refused.{Refused, alone_or, first_refused_or, from_byte, placed}
 use Rattle.speedate_base.specs.Refused.{refused_place, seen_as, without_place}

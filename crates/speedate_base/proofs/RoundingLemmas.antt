@@ -14,7 +14,7 @@ use Rattle.speedate_base.proofs.DigitRunLemmas.{below-power, digits_value-append
 use Rattle.speedate_base.specs.Nearest.{quotient, rest_bounds, sixteen_digits_suffice}
 use Rattle.speedate_base.proofs.NearestLemmas.{part_below, part_down, part_some, part_up}
 use Rattle.speedate_base.proofs.NearestLemmas.{quotient-carried, quotient-filled, quotient-le}
-use Rattle.speedate_base.proofs.NearestLemmas.{quotient-none, scale-some}
+use Rattle.speedate_base.proofs.NearestLemmas.{scale-some}
 
 split : (digits : List ℕ) (count : ℕ) → list_all is_ascii_digit digits ≡ true
     → (list_all is_ascii_digit (take count digits) && list_all is_ascii_digit (drop count digits))
@@ -132,10 +132,6 @@ rest-below unit digits all =
 pub rest-some : (unit : ℕ) (digits : List ℕ) → (digits_value digits ≡ 0 → ⊥)
     → min unit 1 ≤ quotient true (2 * (digits_value digits * unit)) (10 ^ length digits)
 rest-some unit digits other = search (rules, cases_lt, part_some, scale-some)
-
-pub rest-none : (unit : ℕ) (digits : List ℕ) → digits_value digits ≡ 0
-    → quotient true (2 * (digits_value digits * unit)) (10 ^ length digits) ≡ 0
-rest-none unit digits none = grind (arith, none, quotient-none true _ (scale-some (length digits)))
 
 -- so they lie between their bounds
 rest-up : (unit : ℕ) (digits : List ℕ) → list_all is_ascii_digit digits ≡ true

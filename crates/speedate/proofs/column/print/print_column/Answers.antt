@@ -1,10 +1,8 @@
 use Rattle.std.proofs.Common.{rules, ◌+◌, ◌-◌, ◌≡◌, ◌<◌, ◌∙◌, ◌∷◌, ℕ, List, length, drop, take, ap, arith, refl, sym}
 use Rattle.std.proofs.lemmas.List.{drop_more, take_more}
 use Rattle.speedate.specs.ColumnText.{column_text}
-use Rattle.speedate.proofs.ColumnTextLemmas.{IsPrintedSoFar-more}
-use Rattle.speedate.proofs.ColumnTextLemmas.{IsReadSoFar-more}
-use Rattle.speedate.proofs.ColumnTextLemmas.{column_text-more}
-use Rattle.speedate.proofs.ColumnTextLemmas.{text_column-read}
+use Rattle.speedate.proofs.ColumnTextLemmas.{IsPrintedSoFar-more, IsReadSoFar-more}
+use Rattle.speedate.proofs.ColumnTextLemmas.{column_text-more, text_column-read}
 use Rattle.speedate.proofs.column.print.print_column.Goals as goal
 
 pub loop-lines-preserved : goal.loop-lines-preserved
