@@ -21,6 +21,12 @@ abbrev pub end_status : FileEnd → Bool → ℕ
 end_status None is_without_value = 3
 end_status (Some ended) is_without_value = file_status ended is_without_value
 
+-- the output failed, if that ended the run over the file
+abbrev pub is_write : Result (Unit {0}) RunError → Bool
+is_write (Ok done) = false
+is_write (Err RunError.Read) = false
+is_write (Err RunError.Write) = true
+
 -- of a command: what it does with a line, what is known of the lines, what is known when a file
 -- begins, what is said of its lines, and what else a run has to know
 module _ {S : Type 0} (machine : Machine S) (scan : S → Scan) (begun : S → Bor (List ℕ) → S)

@@ -1,7 +1,7 @@
 //! Runs of a command over files, one after the other, and what is told of them on standard error.
 
-ghost use Rattle.std.specs.Prelude.{◌≡◌, ℕ, [], List, OnOk, Option, Some, true};
-ghost use Rattle.speedate_cli.specs.Files.{Leaves, Prints, RunsFile, RunsFiles, is_over};
+ghost use Rattle.std.specs.Prelude.{◌≡◌, ◌==◌, ℕ, [], List, OnOk, Option, Some, false, true};
+ghost use Rattle.speedate_cli.specs.Files.{Leaves, Prints, RunsFile, RunsFiles, is_over, is_write};
 ghost use Rattle.speedate_stream.specs.Run.{Writes};
 
 use crate::input::{Input, Reasoned, open_input};
@@ -105,6 +105,8 @@ pub fn run_each<'a, C: Command<'a>, R: Read + Seek + Drop, F: Files<R>, W: Write
 ) -> u8
     ensures ran { RunsFiles C.machine C.scan C.begun C.Says C.about (F.contents files.now) names.now
         command.old command.new (W.contents output.old.inner) (W.contents output.new.inner) 0 result }
+    // If the output had not failed before, it has failed if and only if the status says so.
+    ensures failed { output.old.failed ≡ false → output.new.failed ≡ (result == WRITE) }
 {
     let mut status = 0;
     for name in names {
@@ -149,6 +151,7 @@ fn run_file<'a, C: Command<'a>, R: Read + Seek + Drop, F: Files<R>, W: Write>(
     ensures ran { RunsFile C.machine C.scan C.begun C.Says C.about name.now
         (F.contents files.now name.now) command.old command.new
         (W.contents output.old.inner) (W.contents output.new.inner) result }
+    ensures failed { output.old.failed ≡ false → output.new.failed ≡ (result == WRITE) }
 {
     command.begin(name.as_bytes());
     let Some(input) = files.open(name) else {
@@ -175,6 +178,7 @@ fn run_input<'a, C: Command<'a>, R: Read + Seek + Drop, W: Write, O: Observer<C>
     ensures left { Leaves C.machine C.scan C.begun C.Says C.about (Some result.0)
         command.old command.new (R.remaining input)
         (W.contents output.old.inner) (W.contents output.new.inner) }
+    ensures failed { output.old.failed ≡ false → output.new.failed ≡ is_write result.0 }
 {
     if command.about().is_in_order {
         return search_input(command, input, output, observer);
@@ -188,7 +192,9 @@ fn search_input<'a, C: Command<'a>, R: Read + Seek + Drop, W: Write, O: Observer
     mut input: R,
     output: &mut Watched<W>,
     observer: &mut O,
-) -> (Result<(), RunError>, Option<Reason>) {
+) -> (Result<(), RunError>, Option<Reason>)
+    ensures failed { output.old.failed ≡ false → output.new.failed ≡ is_write result.0 }
+{
     let Ok(size) = input.seek(SeekFrom::End(0)) else {
         return read_input(command, input, output, observer);
     };
@@ -207,6 +213,7 @@ fn read_input<'a, C: Command<'a>, R: Read + Drop, W: Write, O: Observer<C>>(
     ensures left { (rest : Option (List ℕ)) × Prints C.machine C.scan C.begun C.Says C.about result.0
         command.old command.new (R.remaining input) rest
         (W.contents output.old.inner) (W.contents output.new.inner) }
+    ensures failed { output.old.failed ≡ false → output.new.failed ≡ is_write result.0 }
 {
     let mut input = Watched::new(Reasoned::new(input));
     let ended = command.print(&mut input, output, observer);

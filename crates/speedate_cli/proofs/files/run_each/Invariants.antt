@@ -1,4 +1,4 @@
-use Rattle.std.proofs.Common.{ℕ, List, Option, drop}
+use Rattle.std.proofs.Common.{◌≡◌, ◌==◌, ◌≤◌, false, ℕ, List, Option, drop}
 use Rattle.speedate_cli.specs.Files.{RunsFiles}
 use Rattle.speedate_cli.proofs.files.run_each.Given as goal
 
@@ -12,4 +12,6 @@ invariant-loop-name g l = record {
       → RunsFiles g.C.LineMachine.machine g.C.Command.scan g.C.Command.begun g.C.Command.Says
       g.C.Command.about (g.F.Files.contents l.files) l.names l.initial.command after
       (g.W.Write.contents l.initial.output.inner) new 0 last;
+  most : l.status ≤ 4;
+  failed : l.initial.output.failed ≡ false → l.output.failed ≡ (l.status == 4);
 }
