@@ -21,9 +21,10 @@ use Rattle.speedate_commands.specs.Base.{LineKind, Prefix, Reader, Scan}
 use Rattle.speedate_commands.specs.Between.{Between, Bounds, awaits_header, between_after}
 use Rattle.speedate_commands.specs.Between.{between_lines, between_machine, entries_text, file_text}
 use Rattle.speedate_commands.specs.Between.{is_begun, is_open}
-use Rattle.speedate_commands.specs.InOrder.{AreInOrder, EndsAt, EndsFirstLine, EndsFound, EndsPart}
-use Rattle.speedate_commands.specs.InOrder.{HasValueAt, IsInOrder, IsNumber, PrintsFile, PrintsRest}
-use Rattle.speedate_commands.specs.InOrder.{StartsAt, is_searched, known_part, scan_after}
+use Rattle.speedate_commands.specs.InOrder.{AreInOrder, EndsAt, EndsBounded, EndsFirstLine}
+use Rattle.speedate_commands.specs.InOrder.{EndsPart, HasValueAt, IsInOrder, IsNumber, PrintsFile}
+use Rattle.speedate_commands.specs.InOrder.{PrintsRest, StartsAt, bounded, is_searched}
+use Rattle.speedate_commands.specs.InOrder.{known_part, recounted, scan_after}
 use Rattle.speedate_commands.proofs.EntryLemmas.{between_prints, header_passed, line_is_header}
 use Rattle.speedate_commands.proofs.EntryLemmas.{nothing}
 use Rattle.speedate_commands.proofs.InOrderLemmas.{BeginsEntry, BeginsWith, Runs, asks}
@@ -339,25 +340,38 @@ module _ (between : Between) (text : List ℕ) (begin start end number : ℕ)
       (there.ordered, there.goes_on)
       ∙ sym (rw all_parts (text_plain between _ came kept))
 
+-- lines that are counted, or passed over, do not end a run
+recounted-stop : (before found : Between) (skipped : ℕ)
+    → (recounted before found skipped).scan.stop ≡ found.scan.stop
+recounted-stop before found skipped = grind arith
+
+bounded-stop : (end : ℕ) (found : Between) → (bounded end found).scan.stop ≡ found.scan.stop
+bounded-stop end found = grind arith
+
 -- a run over the part that was found prints what a run over all lines prints
 pub prints-rest : (before after : Between) (known old new : Option (List ℕ))
     (begin start end number : ℕ) → begin ≤ start → before.scan.number < 2 ^ 64
     → StartsAt before known begin start
     → EndsAt before known start end
     → IfSome known (λ text. IsNumber before text begin start number)
-    → IfSome known (λ text. EndsFound (record before {
+    → IfSome known (λ text. EndsBounded (record before {
       scan = record before.scan { number = number };
-    }) after old new (part text start end))
+    }) after old new text begin start end)
     → awaits_header before.scan ≡ false
     → IfSome known (λ text. PrintsRest before after old new text (lines (drop begin text)))
 prints-rest before after None old new begin start end number ordered fits starts ends number_is
     sent came =
     tt
 prints-rest before after (Some text) old new begin start end number ordered fits starts ends
-    number_is sent came = λ searched short goes_on in_order. elim sent [
-      | inl stopped ↦ absurd (true≢false (sym stopped ∙ goes_on))
-      | inr sent ↦ subst (Appends old new) (part_printed before text begin start end number searched
-          came short fits ordered starts ends number_is in_order) sent
+    number_is sent came = λ searched short goes_on in_order.
+    let stop = ap (λ (b : Between). b.scan.stop) sent.2 ∙ bounded-stop end sent.0
+    ∙ ap (λ (b : Between). b.scan.stop) sent.1.reports
+    ∙ recounted-stop (record before { scan = record before.scan { number = number } })
+    sent.1.found (min (length (complete_lines (part text begin start))) (2 ^ 64 - 1)) in
+    elim sent.1.ended [
+      | inl stopped ↦ absurd (true≢false (sym stopped ∙ ap is_stopped (sym stop) ∙ goes_on))
+      | inr printed ↦ subst (Appends old new) (part_printed before text begin start end number
+          searched came short fits ordered starts ends number_is in_order) printed.1
     ]
 
 -- A file that is not searched.

@@ -1,6 +1,6 @@
 -- A file whose values are in order: a line is found in it by its value, and what stands before that
 -- line need not be read.
-use Rattle.std.specs.Prelude.{◌≡◌, ℕ, zero, suc, ℤ, ◌+◌, ◌-◌, ◌<◌, ◌≤◌, ◌^◌, ◌⊎◌, ◌&&◌, not, Bool, true, false, List, [], ◌∷◌, length, min, take, drop, slice_index, int_le, int_lt, Option, Some, None, Result, Ok, Err, IfOk, IfSome, if◌then◌else◌}
+use Rattle.std.specs.Prelude.{◌≡◌, ℕ, zero, suc, ℤ, ◌+◌, ◌-◌, ◌<◌, ◌≤◌, ◌^◌, ◌⊎◌, ◌&&◌, not, Bool, true, false, List, [], ◌∷◌, length, min, take, drop, slice_index, int_le, int_lt, nat_lt, Option, Some, None, Result, Ok, Err, IfOk, IfSome, if◌then◌else◌}
 use Rattle.std.specs.Io.KnownBytes.{Appends}
 use Rattle.speedate.specs.Ascii.{line_feed}
 use Rattle.speedate.specs.Lines.{IsLineEnd, complete_lines, lines}
@@ -152,16 +152,43 @@ entry_passed between = record between {
   is_kept = false;
 }
 
--- the lines of a part of a file were printed, unless the run has ended
-abbrev pub EndsFound : Between → Between → Option (List ℕ) → Option (List ℕ) → List ℕ → Type 0
-EndsFound before after old new text = (is_stopped after.scan.stop ≡ true)
-    ⊎ Appends old new (file_text before (lines text))
-
--- the same, and what is known after them
+-- the lines of a part of a file were printed, unless the run has ended; what is known after them
 abbrev pub EndsPart : Between → Between → Option (List ℕ) → Option (List ℕ) → List ℕ → Type 0
 EndsPart before after old new text = (is_stopped after.scan.stop ≡ true)
     ⊎ ((after ≡ state_after between_machine before (lines text))
     × Appends old new (file_text before (lines text)))
+
+-- what is known after a part of a file, once the lines before it are counted for the reports of its
+-- bad values; if numbers are printed, they have been counted
+abbrev pub recounted : Between → Between → ℕ → Between
+recounted before found skipped =
+    if nat_lt before.scan.bad found.scan.bad && not found.prefix.has_number
+    then record found {
+      scan = renumbered found.scan skipped
+          (moved 10 before.scan.bad skipped found.scan.reports);
+    }
+    else found
+
+-- the same, once the lines after the part are passed over, which ends before the last place
+abbrev pub bounded : ℕ → Between → Between
+bounded end found =
+    if nat_lt end (2 ^ 64 - 1) && not (is_stopped found.scan.stop) then entry_passed found
+    else found
+
+-- the lines of a part of a file were printed, and those before it are counted for its reports
+pub record EndsFound (before after : Between) (old new : Option (List ℕ)) (text : List ℕ)
+    (begin start end : ℕ) : Type 0 where
+  pub found : Between
+  pub ended : EndsPart before found old new (part text start end)
+  pub reports : after ≡ recounted before found
+      (min (length (complete_lines (part text begin start))) (2 ^ 64 - 1))
+
+-- the same, and the lines after it are passed over
+abbrev pub EndsBounded : Between → Between → Option (List ℕ) → Option (List ℕ) → List ℕ
+    → ℕ → ℕ → ℕ → Type 0
+EndsBounded before after old new text begin start end =
+    (found : Between) × EndsFound before found old new text begin start end
+    × (after ≡ bounded end found)
 
 -- If the values of a file are in order, and no line ends the run, then what is printed is what
 -- `between` prints of all its lines.

@@ -4,8 +4,8 @@ ghost use Rattle.std.specs.Prelude.{◌≡◌, ℕ, ℤ, ◌+◌, ◌-◌, ◌^�
 ghost use Rattle.std.specs.Io.KnownBytes.{Appends};
 ghost use Rattle.speedate.specs.Lines.{lines};
 ghost use Rattle.speedate_commands.specs.Between.{awaits_header, file_text};
-ghost use Rattle.speedate_commands.specs.InOrder.{EndsAt, EndsFound, EndsPart, FailsBy, IsNumber};
-ghost use Rattle.speedate_commands.specs.InOrder.{PrintsFile, PrintsRest, StartsAt, entry_passed};
+ghost use Rattle.speedate_commands.specs.InOrder.{EndsAt, EndsBounded, EndsFound, EndsPart, FailsBy};
+ghost use Rattle.speedate_commands.specs.InOrder.{IsNumber, PrintsFile, PrintsRest, StartsAt, entry_passed};
 ghost use Rattle.speedate_commands.specs.InOrder.{is_searched, is_settled, later, moved, renumbered};
 ghost use Rattle.speedate_scan.specs.Reading.{part};
 ghost use Rattle.speedate_scan.specs.Scan.{has_offsets};
@@ -194,8 +194,9 @@ fn print_found<S: ReadAt, W: Write>(
     output: &mut Watched<W>,
 ) -> Result<(), RunError>
     requires ordered { begin ≤ start }
-    ensures ended { OnOk result (IfSome (S.text source.now) (λ text. EndsFound command.old command.new
-        (W.contents output.old.inner) (W.contents output.new.inner) (part text start end))) }
+    ensures ended { OnOk result (IfSome (S.text source.now) (λ text.
+        EndsFound command.old command.new (W.contents output.old.inner)
+        (W.contents output.new.inner) text begin start end)) }
     ensures flushed { OnOk result (output.new.flushed ≡ true) }
     ensures failed { output.old.failed ≡ false →
         FailsBy result failed.old failed.new output.new.failed }
@@ -231,8 +232,9 @@ fn print_bounded<S: ReadAt, W: Write>(
     output: &mut Watched<W>,
 ) -> Result<(), RunError>
     requires ordered { begin ≤ start }
-    ensures ended { OnOk result (IfSome (S.text source.now) (λ text. EndsFound command.old command.new
-        (W.contents output.old.inner) (W.contents output.new.inner) (part text start end))) }
+    ensures ended { OnOk result (IfSome (S.text source.now) (λ text.
+        EndsBounded command.old command.new (W.contents output.old.inner)
+        (W.contents output.new.inner) text begin start end)) }
     ensures flushed { OnOk result (output.new.flushed ≡ true) }
     ensures failed { output.old.failed ≡ false →
         FailsBy result failed.old failed.new output.new.failed }
