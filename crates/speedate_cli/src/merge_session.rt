@@ -68,6 +68,12 @@ struct FirstBad<'r> {
 }
 
 impl Reporter for FirstBad<'_> {
+    ghost use Rattle.std.specs.Prelude.{◌+◌, ◌-◌, ◌^◌, min};
+
+    ghost reported = { λ first_bad scan told. record first_bad {
+      told = min (first_bad.told + (scan.bad - told)) (2 ^ 64 - 1);
+    } };
+
     fn report(&mut self, scan: &Scan<'_>, told: u64) {
         let reports = Reports {
             rt: self.rt,

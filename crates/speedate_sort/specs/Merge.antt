@@ -178,6 +178,13 @@ StaysSettled Offsets.Any after = Unit {0}
 StaysSettled Offsets.AsFirst after = Unit {0}
 StaysSettled (Offsets.AsBounds first) after = Unit {0}
 
+-- which values fit, once those of a source are known: as is settled, or else as they have it
+abbrev pub settled_by : Offsets → Offsets → Offsets
+settled_by (Offsets.Only first) own = Offsets.Only first
+settled_by Offsets.Any own = own
+settled_by Offsets.AsFirst own = own
+settled_by (Offsets.AsBounds first) own = own
+
 -- the values of all sources have offsets as they are to have them
 abbrev pub AreAlike : {R : Type 0} → Offsets → List (Source R) → Type 0
 AreAlike offsets sources =

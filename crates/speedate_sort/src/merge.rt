@@ -1,12 +1,12 @@
 //! The command `merge`: the lines of files that are each in order.
 
-ghost use Rattle.std.specs.Prelude.{◌≡◌, ◌<◌, ◌++◌, ◌||◌, Err, IfErr, IfOk, IfSome, IsNone, IsSome, None, Ok, OnErr, OnOk, false, is_err, is_some, length, true};
+ghost use Rattle.std.specs.Prelude.{◌≡◌, ◌<◌, ◌++◌, ◌==◌, ◌||◌, Err, IfErr, IfOk, IfSome, IsNone, IsSome, None, Ok, OnErr, OnOk, false, if◌then◌else◌, is_err, is_ok, is_some, length, true};
 ghost use Rattle.std.specs.Io.KnownBytes.{Appends};
 ghost use Rattle.speedate_sort.specs.Merge.{AreAlike, AreAllInOrder, AreKnown, Halt, IsLate};
 ghost use Rattle.speedate_sort.specs.Merge.{IsLateIn, IsNumbered, IsUnread, IsUnreadIn, Merges, Moves, ReadsLine};
 ghost use Rattle.speedate_sort.specs.Merge.{StaysSettled, are_unlike, bare, best_of, better, due};
 ghost use Rattle.speedate_sort.specs.Merge.{ended, files_left, instant_of, instants, merged_text};
-ghost use Rattle.speedate_sort.specs.Merge.{number_of, printed_first};
+ghost use Rattle.speedate_sort.specs.Merge.{number_of, printed_first, settled_by};
 ghost use Rattle.speedate_scan.specs.Scan.{is_stopped};
 ghost use Rattle.speedate_sort.specs.Sort.{key_after, key_of, name_text};
 ghost use Rattle.speedate_stream.specs.Run.{AppendsBeginning, OnlyWrites};
@@ -61,8 +61,15 @@ pub struct Halted {
 
 /// What is told of bad values as soon as they are read.
 pub trait Reporter {
+    ghost use Rattle.std.specs.Prelude.{◌≡◌, ℕ};
+    ghost use Rattle.speedate_sort.specs.Base.{Scan};
+
+    // The reporter, once the values of a source are told that are bad after so many others.
+    ghost reported: { Self → Scan → ℕ → Self };
+
     /// Tells the values of a source that are bad after so many others, by what is known of its lines.
-    fn report(&mut self, scan: &Scan<'_>, told: u64);
+    fn report(&mut self, scan: &Scan<'_>, told: u64)
+        ensures reported { self.new ≡ reported self.old scan.now told };
 }
 
 /// A file of which one line is in memory.
@@ -170,6 +177,13 @@ impl<R: BufRead> Source<'_, R> {
             are_unlike offsets.old self.new.keys.scan.offsets ≡ true }
         ensures alike { OnOk result (are_unlike offsets.old self.new.keys.scan.offsets ≡ false) }
         ensures settled { StaysSettled offsets.old offsets.new }
+        // The first value of all sources decides whether values have offsets.
+        ensures offsets { offsets.new ≡ (if is_ok result
+            then settled_by offsets.old self.new.keys.scan.offsets else offsets.old) }
+        // Bad values are told that were read now.
+        ensures told { reporter.new ≡ (if self.new.keys.scan.bad == self.old.keys.scan.bad
+            then reporter.old
+            else P.reported reporter.old self.new.keys.scan self.old.keys.scan.bad) }
         // A read has failed if and only if the answer says so.
         ensures intact { OnOk result (self.new.failed ≡ self.old.failed) }
         ensures unread { IfErr result (λ halt. IsUnread halt self.new.failed) }

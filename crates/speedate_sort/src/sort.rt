@@ -336,6 +336,7 @@ fn read_all<R: Read>(input: &mut Watched<R>, text: &mut Vec<u8>) -> Result<(), U
     ensures kept { IsBegun text.old.items text.new.items }
     ensures ended { OnOk result (IsAtEnd (R.remaining input.new.inner)) }
     ensures failed { FailsRead result input.old.failed input.new.failed }
+    ensures memory { result ≡ Err Unread.Memory → input.new.failed ≡ input.old.failed }
 {
     let mut block = [0; BLOCK];
     loop {

@@ -132,6 +132,12 @@ struct Told {
 }
 
 impl Reporter for Told {
+    ghost use Rattle.std.specs.Prelude.{◌+◌, ◌-◌, ◌^◌, min};
+
+    ghost reported = { λ tally scan told. record tally {
+      count = min (tally.count + (scan.bad - told)) (2 ^ 64 - 1);
+    } };
+
     fn report(&mut self, scan: &Scan<'_>, told: u64) {
         self.count = self.count.saturating_add(scan.bad.saturating_sub(told));
     }
