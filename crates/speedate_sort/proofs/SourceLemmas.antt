@@ -1,5 +1,5 @@
 -- The lines of a source, read one by one.
-use Rattle.std.proofs.Common.{◌≡◌, ◌∙◌, ◌⊎◌, ap, sym, refl, ℕ, ℤ, zero, suc, ◌-◌, ◌<◌, true, false, ◌==◌, List, [], ◌∷◌, ◌++◌, length, take, get_or, arith, append_assoc, append-nil, inl, inr, map, set, Option, Some, None, is_some, IfSome, IsSome}
+use Rattle.std.proofs.Common.{◌≡◌, ◌∙◌, ◌⊎◌, ap, sym, refl, ℕ, ℤ, zero, suc, ◌-◌, ◌<◌, true, false, ◌==◌, List, [], ◌∷◌, ◌++◌, length, take, get_or, arith, append_assoc, append-nil, inl, inr, set, Option, Some, None, is_some, IfSome, IsSome}
 use Rattle.std.specs.Prelude.{int_lt, slice_get}
 use Rattle.std.specs.Io.KnownBytes.{Appends, Keeps}
 use Rattle.std.specs.Io.BufRead.{DropsThrough, drop_through, take_through}
@@ -21,8 +21,8 @@ use Rattle.speedate_scan.specs.Scan.{keeps, line_of, passed}
 use Rattle.speedate_sort.specs.Base.{LineKind, Offsets, Scan}
 use Rattle.speedate_sort.specs.Sort.{Keyed, Keys, file_lines, instant_after, key_after, key_of}
 use Rattle.speedate_sort.specs.Sort.{name_text}
-use Rattle.speedate_sort.specs.Merge.{AreAllInOrder, AreKnown, Best, Halt, Halted, IsLate, IsLateIn}
-use Rattle.speedate_sort.specs.Merge.{IsUnread, IsUnreadIn, Merges, Moves, ReadsLine, Source}
+use Rattle.speedate_sort.specs.Merge.{AreAllInOrder, AreKnown, Best, Halt, Halted, IsHalt, IsHaltIn}
+use Rattle.speedate_sort.specs.Merge.{Merges, Moves, ReadsLine, Source}
 use Rattle.speedate_sort.specs.Merge.{StaysSettled, are_unlike, bare, best_of, bytes_of, due, ended}
 use Rattle.speedate_sort.specs.Merge.{files_left, instant_of, instants, line_and, lines_left}
 use Rattle.speedate_sort.specs.Merge.{merged_text, number_after, number_of, printed_first, unread}
@@ -336,28 +336,25 @@ settled-alike (Offsets.Only has) second own one two = rw one at two
 settled-alike other second own one two = refl
 
 -- the source that is named
-what-at : {R A : Type 0} (what : Source R → A) (sources : List (Source R)) (index : ℕ)
-    (new : Source R) → index < length sources
-    → slice_get (map what (set sources index new)) index ≡ Some (what new)
-what-at what [] index new below = absurd (omega (arith, below))
-what-at what (source ∷ sources) zero new below = refl
-what-at what (source ∷ sources) (suc index) new below =
-    what-at what sources index new (omega (arith, below))
+named-at : {R : Type 0} (sources : List (Source R)) (index : ℕ) (new : Source R)
+    → index < length sources → slice_get (set sources index new) index ≡ Some new
+named-at [] index new below = absurd (omega (arith, below))
+named-at (source ∷ sources) zero new below = refl
+named-at (source ∷ sources) (suc index) new below =
+    named-at sources index new (omega (arith, below))
 
--- its last value is late, if that ended the merge
-pub late-in : {R : Type 0} (halt : Halt) (sources : List (Source R)) (index : ℕ) (old : Keys)
-    (number : ℕ) (new : Source R) → index < length sources → IsLate halt old number new.keys
-    → IsLateIn (record { index = index; halt = halt }) (set sources index new)
-late-in (Halt.Late before) sources index old number new below late =
-    rw (what-at (λ source. source.keys.instant) sources index new below) late.1
-late-in other sources index old number new below late = tt
-
--- a read of it has failed, if that ended the merge
-pub unread-in : {R : Type 0} (halt : Halt) (sources : List (Source R)) (index : ℕ)
-    (new : Source R) → index < length sources → IsUnread halt new.failed
-    → IsUnreadIn (record { index = index; halt = halt }) (set sources index new)
-unread-in halt sources index new below unread =
-    rw (what-at (λ source. source.failed) sources index new below) unread
+-- it is one whose lines ended
+pub halt-in : {R : Type 0} (offsets now : Offsets) (halt : Halt) (sources : List (Source R))
+    (index : ℕ) (new : Source R) → index < length sources → StaysSettled offsets now
+    → IsHalt now halt new
+    → IsHaltIn offsets (record { index = index; halt = halt }) (set sources index new)
+halt-in offsets now halt sources index new below settled halts = inr (record {
+  source = new;
+  named = named-at sources index new below;
+  now = now;
+  settled = settled;
+  halt = halts;
+})
 
 -- The end of a merge.
 

@@ -1,11 +1,11 @@
 -- The command `merge`: the lines of files that are each in order.
-use Rattle.std.specs.Prelude.{◌≡◌, ℕ, ◌+◌, ◌-◌, ◌==◌, ℤ, Bool, true, false, not, List, [], ◌∷◌, ◌++◌, length, map, take, slice_index, int_lt, Option, Some, None, All, IfSome, IsNone, IsSome, slice_get, if◌then◌else◌}
+use Rattle.std.specs.Prelude.{◌≡◌, ℕ, ◌+◌, ◌-◌, ◌==◌, ◌⊎◌, ℤ, Bool, true, false, not, List, [], ◌∷◌, ◌++◌, length, map, take, slice_index, int_lt, Option, Some, None, All, IsNone, IsSome, slice_get, if◌then◌else◌}
 use Rattle.speedate.specs.Ascii.{line_feed}
 use Rattle.speedate.specs.Lines.{lines}
 use Rattle.speedate_stream.specs.Machine.{head}
 use Rattle.speedate_stream.specs.Run.{AppendsBut}
 use Rattle.speedate_stream.specs.Watch.{one_more}
-use Rattle.speedate_scan.specs.Scan.{is_value, line_of}
+use Rattle.speedate_scan.specs.Scan.{is_stopped, is_value, line_of}
 use Rattle.speedate_sort.specs.Base.{LineKind, Offsets, Scan}
 use Rattle.speedate_sort.specs.Sort.{Keyed, Keys, Unread, file_lines, key_after, name_text}
 use Rattle.speedate_sort.specs.Sort.{sorted_text}
@@ -234,21 +234,25 @@ pub record Merges (files : List (List Keyed)) (before after : Option (List ℕ))
   pub sent : AppendsBut (waiting ++ left) before after (waited ++ due files)
   pub all : IsNone halted → (left ≡ []) × AreAllInOrder files
 
--- the last value of a source is earlier than another, if that ended its lines
-abbrev pub IsLateAs : Halt → Option ℤ → Type 0
-IsLateAs (Halt.Late before) instant =
-    IfSome instant (λ instant. int_lt instant before.instant ≡ true)
-IsLateAs (Halt.Unread cause) instant = Unit {0}
-IsLateAs Halt.Bad instant = Unit {0}
-IsLateAs Halt.Unlike instant = Unit {0}
+-- why the lines of a source ended: a read has failed, a bad value ended the run, the last value is
+-- earlier than the one before it, or unlike those of other sources
+abbrev pub IsHalt : {R : Type 0} → Offsets → Halt → Source R → Type 0
+IsHalt offsets (Halt.Unread Unread.Read) source = source.failed ≡ true
+IsHalt offsets (Halt.Unread Unread.Memory) source = Unit {0}
+IsHalt offsets Halt.Bad source = is_stopped source.keys.scan.stop ≡ true
+IsHalt offsets (Halt.Late before) source = int_lt source.keys.instant before.instant ≡ true
+IsHalt offsets Halt.Unlike source = are_unlike offsets source.keys.scan.offsets ≡ true
 
--- of the source that is named the last value is earlier than the value before it, if that ended the
--- merge
-abbrev pub IsLateIn : {R : Type 0} → Halted → List (Source R) → Type 0
-IsLateIn halted sources = IsLateAs halted.halt
-    (slice_get (map (λ source. source.keys.instant) sources) halted.index)
+-- it is so of the source that is named, by what was settled then
+pub record NamesHalt {R : Type 0} (offsets : Offsets) (halted : Halted)
+    (sources : List (Source R)) : Type 0 where
+  pub source : Source R
+  pub named : slice_get sources halted.index ≡ Some source
+  pub now : Offsets
+  pub settled : StaysSettled offsets now
+  pub halt : IsHalt now halted.halt source
 
--- of the source that is named a read has failed, if that ended the merge
-abbrev pub IsUnreadIn : {R : Type 0} → Halted → List (Source R) → Type 0
-IsUnreadIn halted sources =
-    IfSome (slice_get (map (λ source. source.failed) sources) halted.index) (IsUnread halted.halt)
+-- the same, unless memory ran out
+abbrev pub IsHaltIn : {R : Type 0} → Offsets → Halted → List (Source R) → Type 0
+IsHaltIn offsets halted sources =
+    (halted.halt ≡ Halt.Unread Unread.Memory) ⊎ NamesHalt offsets halted sources

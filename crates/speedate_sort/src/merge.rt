@@ -2,8 +2,8 @@
 
 ghost use Rattle.std.specs.Prelude.{◌≡◌, ◌<◌, ◌++◌, ◌==◌, ◌||◌, Err, IfErr, IfOk, IfSome, IsNone, IsSome, None, Ok, OnErr, OnOk, false, if◌then◌else◌, is_err, is_ok, is_some, length, true};
 ghost use Rattle.std.specs.Io.KnownBytes.{Appends};
-ghost use Rattle.speedate_sort.specs.Merge.{AreAlike, AreAllInOrder, AreKnown, Halt, IsLate};
-ghost use Rattle.speedate_sort.specs.Merge.{IsLateIn, IsNumbered, IsUnread, IsUnreadIn, Merges, Moves, ReadsLine};
+ghost use Rattle.speedate_sort.specs.Merge.{AreAlike, AreAllInOrder, AreKnown, Halt, IsHalt};
+ghost use Rattle.speedate_sort.specs.Merge.{IsHaltIn, IsLate, IsNumbered, IsUnread, Merges, Moves, ReadsLine};
 ghost use Rattle.speedate_sort.specs.Merge.{StaysSettled, are_unlike, bare, best_of, better, due};
 ghost use Rattle.speedate_sort.specs.Merge.{ended, files_left, instant_of, instants, merged_text};
 ghost use Rattle.speedate_sort.specs.Merge.{number_of, printed_first, settled_by};
@@ -341,7 +341,8 @@ fn step<R: BufRead, W: Write, P: Reporter>(
     ensures alike { IfOk result (λ halt. IsNone halt →
         are_unlike offsets.old source.new.keys.scan.offsets ≡ false) }
     ensures settled { StaysSettled offsets.old offsets.new }
-    ensures unread { IfOk result (λ halt. IfSome halt (λ halt. IsUnread halt source.new.failed)) }
+    ensures halted { IfOk result (λ halt. IfSome halt (λ halt.
+        IsHalt offsets.old halt source.new)) }
 {
     pass_named(&source.keys, &source.line, pending, output)?;
     Ok(match source.next(offsets, reporter) {
@@ -366,10 +367,10 @@ fn merge_lines<R: BufRead, W: Write, P: Reporter>(
         (W.contents output.old.inner) (W.contents output.new.inner)
         (pending.old.items ++ due (files_left R.remaining sources.old))) }
     ensures failed { output.new.failed ≡ (output.old.failed || is_err result) }
-    ensures late { IfOk result (λ halted. IfSome halted (λ halted. IsLateIn halted sources.new)) }
+    ensures halted { IfOk result (λ halted. IfSome halted (λ halted.
+        IsHaltIn offsets.old halted sources.new)) }
     ensures alike { IfOk result (λ halted. IsNone halted → AreAlike offsets.old sources.old
         → AreAlike offsets.old sources.new) }
-    ensures unread { IfOk result (λ halted. IfSome halted (λ halted. IsUnreadIn halted sources.new)) }
 {
     for _ in 0..u64::MAX {
         let Some(best) = choose(sources) else {
@@ -414,10 +415,10 @@ pub fn merge<R: BufRead, W: Write, P: Reporter>(
         (due (files_left R.remaining sources.old)) }
     // All values that were read have offsets as they are to have them.
     ensures alike { result ≡ Ok None → AreAlike offsets sources.old → AreAlike offsets sources.new }
-    // The last line of the source that is named is earlier than the line before it.
-    ensures late { IfOk result (λ halted. IfSome halted (λ halted. IsLateIn halted sources.new)) }
-    // A read of the source that is named has failed.
-    ensures unread { IfOk result (λ halted. IfSome halted (λ halted. IsUnreadIn halted sources.new)) }
+    // Of the source that is named a read has failed, a bad value ended the run, or the last value is
+    // earlier than the one before it or unlike those of other sources.
+    ensures halted { IfOk result (λ halted. IfSome halted (λ halted.
+        IsHaltIn offsets halted sources.new)) }
     ensures flushed { OnOk result (output.new.flushed ≡ true) }
     ensures failed { output.new.failed ≡ (output.old.failed || is_err result) }
 {

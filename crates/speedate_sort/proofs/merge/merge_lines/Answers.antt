@@ -6,8 +6,8 @@ use Rattle.speedate_stream.proofs.SentLemmas.{AppendsBeginning-left, AppendsBegi
 use Rattle.speedate_stream.proofs.SentLemmas.{AppendsBut-more, AppendsBut-same, AppendsBut-trans}
 use Rattle.speedate_stream.proofs.SentLemmas.{on_err}
 use Rattle.speedate_sort.specs.Merge.{AreKnown, Best, are_unlike, due, files_left}
-use Rattle.speedate_sort.proofs.SourceLemmas.{late-in, settled-alike, settled-trans, source-known}
-use Rattle.speedate_sort.proofs.SourceLemmas.{sources-line, sources-none, sources-step, unread-in}
+use Rattle.speedate_sort.proofs.SourceLemmas.{halt-in, settled-alike, settled-trans, source-known}
+use Rattle.speedate_sort.proofs.SourceLemmas.{sources-line, sources-none, sources-step}
 use Rattle.speedate_sort.proofs.merge.merge_lines.Goals as goal
 
 pub returns-in_default-clause-merged : goal.returns-in_default-clause-merged
@@ -46,17 +46,11 @@ returns-in-Some-2-clause-merged g c =
       all = λ none. absurd (true≢false none);
     }
 
-pub returns-in-Some-2-clause-late : goal.returns-in-Some-2-clause-late
-returns-in-Some-2-clause-late g c =
-    let best : Best = c.in-Some.best in
-    let source = get_or c.loop.sources best.index c.index-sources-best.result in
-    late-in c.in-Some-2.halt c.loop.sources best.index source.keys source.number c.step.new.source
-    c.in-Some.ensures.within (rw c.in-Some-2.is at c.in_ok-halt.ensures.late)
-
-pub returns-in-Some-2-clause-unread : goal.returns-in-Some-2-clause-unread
-returns-in-Some-2-clause-unread g c =
-    unread-in c.in-Some-2.halt c.loop.sources c.in-Some.best.index c.step.new.source
-    c.in-Some.ensures.within (rw c.in-Some-2.is at c.in_ok-halt.ensures.unread)
+pub returns-in-Some-2-clause-halted : goal.returns-in-Some-2-clause-halted
+returns-in-Some-2-clause-halted g c =
+    halt-in c.args.offsets.now c.loop.offsets c.in-Some-2.halt c.loop.sources c.in-Some.best.index
+    c.step.new.source c.in-Some.ensures.within c.loop.invariant.settled
+    (rw c.in-Some-2.is at c.in_ok-halt.ensures.halted)
 
 pub loop-preserved : goal.loop-preserved
 loop-preserved g c =
