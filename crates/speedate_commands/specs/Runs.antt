@@ -16,6 +16,10 @@ pub record SaysLines {S : Type 0} (Says : S → List (List ℕ) → S → List �
   pub said : Says before (lines text) after printed
   pub sent : Appends old new printed
 
+-- a command that searches no file leaves all as it is
+abbrev pub SearchesNone : {S : Type 0} → S → S → Option (List ℕ) → Option (List ℕ) → List ℕ → Type 0
+SearchesNone before after old new text = (after ≡ before) × (new ≡ old)
+
 -- how a run ends that nothing failed: all was said of the lines, or the command wants no further
 -- line
 abbrev pub EndsSaying : {S : Type 0} → Machine S → (S → List (List ℕ) → S → List ℕ → Type 0)

@@ -190,12 +190,15 @@ impl LineMachine for Between<'_> {
 impl<'a> Command<'a> for Between<'a> {
     ghost use Rattle.std.specs.Prelude.{[]};
     ghost use Rattle.speedate_commands.specs.Between.{between_about, between_begun, between_says};
+    ghost use Rattle.speedate_commands.specs.InOrder.{PrintsFile};
 
     ghost scan = { λ between. between.scan };
 
     ghost begun = { between_begun };
 
     ghost Says = { between_says };
+
+    ghost Searches = { PrintsFile };
 
     ghost about = { between_about };
 

@@ -218,12 +218,15 @@ impl LineMachine for Check<'_> {
 impl<'a> Command<'a> for Check<'a> {
     ghost use Rattle.std.specs.Prelude.{[]};
     ghost use Rattle.speedate_commands.specs.Check.{check_about, check_begun, check_says};
+    ghost use Rattle.speedate_commands.specs.Runs.{SearchesNone};
 
     ghost scan = { λ check. check.order.scan };
 
     ghost begun = { check_begun };
 
     ghost Says = { check_says };
+
+    ghost Searches = { SearchesNone };
 
     ghost about = { check_about };
 

@@ -27,7 +27,7 @@ pub struct About {
 
 /// A command over the lines of files, one after the other.
 pub trait Command<'a>: LineMachine + Sized {
-    ghost use Rattle.std.specs.Prelude.{◌≡◌, ◌+◌, ◌++◌, ◌≤◌, ℕ, Err, List, OnOk, false, true};
+    ghost use Rattle.std.specs.Prelude.{◌≡◌, ◌+◌, ◌++◌, ◌≤◌, ℕ, Err, IfSome, List, OnOk, Option, false, true};
     ghost use Rattle.std.specs.Borrow.{Bor};
     ghost use Rattle.arrayvec.specs.ArrayVec.{array_vec_len};
     ghost use Rattle.speedate_commands.specs.Base.{Scan};
@@ -43,6 +43,9 @@ pub trait Command<'a>: LineMachine + Sized {
 
     // What is said of the lines of a file: what is known after them, and what is printed.
     ghost Says: { Self → List (List ℕ) → Self → List ℕ → Type 0 };
+
+    // What is printed of the text of a file that is searched, and what is known after it.
+    ghost Searches: { Self → Self → Option (List ℕ) → Option (List ℕ) → List ℕ → Type 0 };
 
     // What a run has to know of the command.
     ghost about: { Self → About };
@@ -98,7 +101,10 @@ pub trait Command<'a>: LineMachine + Sized {
     ) -> Result<(), RunError>
         // If the output had not failed before, a read or the output has failed if and only if the answer says so.
         ensures failed { output.old.failed ≡ false →
-            FailsBy result failed.old failed.new output.new.failed };
+            FailsBy result failed.old failed.new output.new.failed }
+        ensures searched { OnOk result (IfSome (S.text source.now) (λ text.
+            Searches self.old self.new (W.contents output.old.inner)
+            (W.contents output.new.inner) text)) };
 
     /// Appends what is printed after the last file.
     fn push_end(&self, pending: &mut Pending)

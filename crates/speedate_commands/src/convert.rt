@@ -338,12 +338,15 @@ impl LineMachine for Convert<'_> {
 impl<'a> Command<'a> for Convert<'a> {
     ghost use Rattle.std.specs.Prelude.{[]};
     ghost use Rattle.speedate_commands.specs.Convert.{convert_about, convert_begun, convert_says};
+    ghost use Rattle.speedate_commands.specs.Runs.{SearchesNone};
 
     ghost scan = { λ convert. convert.scan };
 
     ghost begun = { convert_begun };
 
     ghost Says = { convert_says };
+
+    ghost Searches = { SearchesNone };
 
     ghost about = { convert_about };
 

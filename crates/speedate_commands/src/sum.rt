@@ -214,12 +214,15 @@ impl LineMachine for Sum<'_> {
 
 impl<'a> Command<'a> for Sum<'a> {
     ghost use Rattle.speedate_commands.specs.Sum.{sum_about, sum_begun, sum_says, total_text};
+    ghost use Rattle.speedate_commands.specs.Runs.{SearchesNone};
 
     ghost scan = { λ sum. sum.scan };
 
     ghost begun = { sum_begun };
 
     ghost Says = { sum_says };
+
+    ghost Searches = { SearchesNone };
 
     ghost about = { sum_about };
 

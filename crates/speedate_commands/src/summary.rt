@@ -368,12 +368,15 @@ impl LineMachine for Summary<'_> {
 
 impl<'a> Command<'a> for Summary<'a> {
     ghost use Rattle.speedate_commands.specs.Summary.{summary_about, summary_begun, summary_says, summary_text};
+    ghost use Rattle.speedate_commands.specs.Runs.{SearchesNone};
 
     ghost scan = { λ summary. summary.order.scan };
 
     ghost begun = { summary_begun };
 
     ghost Says = { summary_says };
+
+    ghost Searches = { SearchesNone };
 
     ghost about = { summary_about };
 
