@@ -1,15 +1,17 @@
 -- What a run of a command over files leaves: what is known of the lines, what was written, and the
 -- status.
-use Rattle.std.specs.Prelude.{◌≡◌, ℕ, ◌==◌, ◌||◌, ◌⊎◌, Bool, true, false, List, [], ◌∷◌, Option, Some, None, Result, Ok, Err}
+use Rattle.std.specs.Prelude.{◌≡◌, ℕ, ◌==◌, ◌||◌, ◌⊎◌, Bool, true, false, List, [], ◌∷◌, Option, Some, None, Result, Ok, Err, if◌then◌else◌}
 use Rattle.std.specs.Borrow.{Bor}
 use Rattle.speedate_stream.specs.Machine.{Machine}
 use Rattle.speedate_stream.specs.Run.{PrintsBeginning, PrintsProgress}
 use Rattle.speedate_stream.specs.declared.run.RunError.{RunError}
+use Rattle.speedate_scan.specs.declared.scan.Offsets.{Offsets}
 use Rattle.speedate_scan.specs.declared.scan.Scan.{Scan}
+use Rattle.speedate_scan.specs.declared.scan.Stop.{Stop}
 use Rattle.speedate_scan.specs.Scan.{is_without_value}
 use Rattle.speedate_commands.specs.declared.command.About.{About}
 use Rattle.speedate_commands.specs.Runs.{EndsSaying}
-use Rattle.speedate_commands.specs.Status.{file_status, worse}
+use Rattle.speedate_commands.specs.Status.{file_status, lines_status, worse}
 
 -- how the run over a file ended: the file was not opened, or it was read up to its end, or up to
 -- where one end failed
@@ -26,6 +28,21 @@ abbrev pub is_write : Result (Unit {0}) RunError → Bool
 is_write (Ok done) = false
 is_write (Err RunError.Read) = false
 is_write (Err RunError.Write) = true
+
+-- the first value did not fit the bounds
+abbrev pub is_unfit : Stop → Offsets → Bool
+is_unfit Stop.No offsets = false
+is_unfit Stop.AtBad offsets = false
+is_unfit Stop.AtUnfit Offsets.Any = false
+is_unfit Stop.AtUnfit Offsets.AsFirst = false
+is_unfit Stop.AtUnfit (Offsets.Only has_offset) = false
+is_unfit Stop.AtUnfit (Offsets.AsBounds has_offset) = true
+
+-- the status by the lines of all files
+abbrev pub about_status : Scan → About → ℕ
+about_status scan about =
+    if is_unfit scan.stop scan.offsets then 2
+    else lines_status scan.bad about.reported about.is_too_large
 
 -- of a command: what it does with a line, what is known of the lines, what is known when a file
 -- begins, what is said of its lines, and what else a run has to know

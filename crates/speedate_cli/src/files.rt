@@ -1,7 +1,8 @@
 //! Runs of a command over files, one after the other, and what is told of them on standard error.
 
-ghost use Rattle.std.specs.Prelude.{◌≡◌, ◌==◌, ℕ, [], List, OnOk, Option, Some, false, true};
-ghost use Rattle.speedate_cli.specs.Files.{Leaves, Prints, RunsFile, RunsFiles, is_over, is_write};
+ghost use Rattle.std.specs.Prelude.{◌≡◌, ◌≤◌, ◌==◌, ℕ, [], List, OnOk, Option, Some, false, true};
+ghost use Rattle.speedate_cli.specs.Files.{Leaves, Prints, RunsFile, RunsFiles, about_status};
+ghost use Rattle.speedate_cli.specs.Files.{is_over, is_write};
 ghost use Rattle.speedate_stream.specs.Run.{Writes};
 
 use crate::input::{Input, Reasoned, open_input};
@@ -82,7 +83,9 @@ impl Files<Input> for System<'_> {
 }
 
 /// Runs a command over files, and returns the exit status. Without files it reads standard input.
-pub fn run_files<'a, C: Command<'a>>(rt: &HostRuntime, command: &mut C, names: &[&'a str]) -> u8 {
+pub fn run_files<'a, C: Command<'a>>(rt: &HostRuntime, command: &mut C, names: &[&'a str]) -> u8
+    ensures lines { about_status (C.scan command.new) (C.about command.new) ≤ result }
+{
     let mut output = standard_output(rt);
     let names = names_or_input(names);
     let mut status = run_each(rt, command, &System { rt }, names, &mut output);
@@ -233,7 +236,9 @@ impl<'a, C: Command<'a>> Observer<C> for Reports<'_, 'a> {
 
 /// Tells on standard error what is to be told at the end, and returns the exit status as far as it is
 /// about the lines.
-fn tell_end<'a, C: Command<'a>>(rt: &HostRuntime, command: &C) -> u8 {
+fn tell_end<'a, C: Command<'a>>(rt: &HostRuntime, command: &C) -> u8
+    ensures status { result ≡ about_status (C.scan command.now) (C.about command.now) }
+{
     let scan = command.scan();
     if let (Stop::AtUnfit, Offsets::AsBounds(has_offset)) = (scan.stop, scan.offsets) {
         tell_unfit(rt, &scan, has_offset);

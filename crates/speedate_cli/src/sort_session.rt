@@ -1,5 +1,9 @@
 //! The inputs of `sort`, and what is told of them on standard error.
 
+ghost use Rattle.std.specs.Prelude.{◌≡◌, IfOk};
+ghost use Rattle.speedate_scan.specs.Scan.{is_without_value};
+ghost use Rattle.speedate_cli.specs.Files.{FileEnd, end_status};
+
 use crate::files::{names_or_input, standard_output};
 use crate::input::{Reasoned, open_input};
 use crate::told::{Reports, tell_counts, tell_file, tell_memory, tell_output};
@@ -41,7 +45,10 @@ fn add_file<'a>(
     keys: &mut Keys<'a>,
     name: &'a str,
     lines: &mut KeyedLines,
-) -> Result<u8, AllocError> {
+) -> Result<u8, AllocError>
+    ensures status { IfOk result (λ status. (ended : FileEnd)
+        × (status ≡ end_status ended (is_without_value keys.new.scan))) }
+{
     keys.scan.begin(name.as_bytes());
     let Some(input) = open_input(rt, name) else {
         return Ok(READ);
