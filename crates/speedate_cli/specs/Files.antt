@@ -12,6 +12,7 @@ use Rattle.speedate_scan.specs.Scan.{is_without_value}
 use Rattle.speedate_commands.specs.declared.command.About.{About}
 use Rattle.speedate_commands.specs.Runs.{EndsSaying}
 use Rattle.speedate_commands.specs.Status.{file_status, lines_status, worse}
+use Rattle.speedate_sort.specs.declared.merge.Halt.{Halt}
 
 -- how the run over a file ended: the file was not opened, or it was read up to its end, or up to
 -- where one end failed
@@ -43,6 +44,13 @@ abbrev pub about_status : Scan → About → ℕ
 about_status scan about =
     if is_unfit scan.stop scan.offsets then 2
     else lines_status scan.bad about.reported about.is_too_large
+
+-- the status by why a merge ended before its inputs
+abbrev pub halt_status : Halt → ℕ
+halt_status (Halt.Unread cause) = 3
+halt_status Halt.Bad = 1
+halt_status (Halt.Late before) = 1
+halt_status Halt.Unlike = 1
 
 -- of a command: what it does with a line, what is known of the lines, what is known when a file
 -- begins, what is said of its lines, and what else a run has to know

@@ -1,5 +1,8 @@
 //! The inputs of `merge`, and what is told of them on standard error.
 
+ghost use Rattle.std.specs.Prelude.{◌≡◌, ◌<◌, ◌≤◌, IfSome, length};
+ghost use Rattle.speedate_cli.specs.Files.{halt_status};
+
 use crate::files::{names_or_input, standard_output};
 use crate::input::{Input, Reasoned, open_input};
 use crate::told::{Reports, tell_counts, tell_file, tell_line, tell_memory, tell_output};
@@ -130,7 +133,10 @@ fn tell_end(
     files: &[&str],
     sources: &[FileSource<'_>],
     halted: Option<Halted>,
-) -> u8 {
+) -> u8
+    ensures halted { IfSome halted (λ halted. halted.index < length files.now →
+        halted.index < length sources.now → halt_status halted.halt ≤ result) }
+{
     let mut status = 0;
     let mut bad = 0u64;
     let mut before = 0u64;
@@ -159,7 +165,9 @@ fn is_unread(halted: Option<Halted>, source: usize) -> bool {
 }
 
 /// Tells why a source ended a merge, and returns the exit status for that.
-fn tell_halt(rt: &HostRuntime, name: &str, source: &FileSource<'_>, halt: Halt) -> u8 {
+fn tell_halt(rt: &HostRuntime, name: &str, source: &FileSource<'_>, halt: Halt) -> u8
+    ensures status { result ≡ halt_status halt }
+{
     match halt {
         Halt::Unread(Unread::Memory) => return tell_memory(rt, ""),
         Halt::Unread(Unread::Read) => {

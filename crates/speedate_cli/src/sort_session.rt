@@ -1,6 +1,7 @@
 //! The inputs of `sort`, and what is told of them on standard error.
 
-ghost use Rattle.std.specs.Prelude.{◌≡◌, IfOk};
+ghost use Rattle.std.specs.Prelude.{◌≡◌, ◌≤◌, IfOk, false};
+ghost use Rattle.speedate_commands.specs.Status.{lines_status};
 ghost use Rattle.speedate_scan.specs.Scan.{is_without_value};
 ghost use Rattle.speedate_cli.specs.Files.{FileEnd, end_status};
 
@@ -17,7 +18,9 @@ use std::alloc::AllocError;
 const NOTHING: &str = ", and nothing is printed";
 
 /// Runs `sort` over files, and returns the exit status. Without files it sorts standard input.
-pub fn run_sort<'a>(rt: &HostRuntime, keys: &mut Keys<'a>, files: &[&'a str]) -> u8 {
+pub fn run_sort<'a>(rt: &HostRuntime, keys: &mut Keys<'a>, files: &[&'a str]) -> u8
+    ensures lines { lines_status keys.new.scan.bad 0 false ≤ result }
+{
     let mut lines = KeyedLines::new(rt.alloc());
     let mut status = 0;
     for name in names_or_input(files) {

@@ -13,7 +13,9 @@ use speedate_stream::{Pending, push_bytes};
 use std::io::Write;
 
 /// Tells that the output failed, unless its reader has gone, and returns the exit status.
-pub fn tell_output(rt: &HostRuntime, is_closed: bool) -> u8 {
+pub fn tell_output(rt: &HostRuntime, is_closed: bool) -> u8
+    ensures status { result ≡ WRITE }
+{
     if !is_closed {
         let _ = eprintln!(rt; "speedate: output failed");
     }
@@ -21,7 +23,9 @@ pub fn tell_output(rt: &HostRuntime, is_closed: bool) -> u8 {
 }
 
 /// Tells that memory ran out, and what follows from it, and returns the exit status.
-pub fn tell_memory(rt: &HostRuntime, consequence: &str) -> u8 {
+pub fn tell_memory(rt: &HostRuntime, consequence: &str) -> u8
+    ensures status { result ≡ READ }
+{
     let _ = eprintln!(rt; "speedate: memory ran out{consequence}");
     READ
 }
