@@ -7,7 +7,7 @@ use Rattle.std.proofs.lemmas.Bool.{cases_Bool, eqb-false, eqb-true, false≢true
 use Rattle.std.proofs.lemmas.Bool.Decides.{nat_tests}
 use Rattle.std.proofs.lemmas.Int.{ints}
 use Rattle.std.proofs.lemmas.List.{get_or-map, length_push, map-set}
-use Rattle.std.proofs.lemmas.List.Elements.{All-cons, All-get_or, All-nil}
+use Rattle.std.proofs.lemmas.List.Elements.{All-cons, All-get_or, All-nil, All-weaker}
 use Rattle.std.proofs.Math.Seq.{get_or-append_seam, take-append_seam}
 use Rattle.speedate.specs.Ascii.{line_feed}
 use Rattle.speedate.specs.Lines.{Pieces, last_line, lines}
@@ -21,9 +21,9 @@ use Rattle.speedate_scan.specs.Scan.{keeps, line_of, passed}
 use Rattle.speedate_sort.specs.Base.{LineKind, Offsets, Scan}
 use Rattle.speedate_sort.specs.Sort.{Keyed, Keys, file_lines, instant_after, key_after, key_of}
 use Rattle.speedate_sort.specs.Sort.{name_text}
-use Rattle.speedate_sort.specs.Merge.{AreAllInOrder, AreKnown, Best, Halt, Halted, IsHalt, IsHaltIn}
-use Rattle.speedate_sort.specs.Merge.{Merges, Moves, ReadsLine, Source}
-use Rattle.speedate_sort.specs.Merge.{StaysSettled, are_unlike, bare, best_of, bytes_of, due, ended}
+use Rattle.speedate_sort.specs.Merge.{AreAlike, AreAllInOrder, AreKnown, Best, Halt, Halted}
+use Rattle.speedate_sort.specs.Merge.{IsAlike, IsHalt, IsHaltIn, Merges, Moves, ReadsLine, Source}
+use Rattle.speedate_sort.specs.Merge.{StaysSettled, bare, best_of, bytes_of, due, ended}
 use Rattle.speedate_sort.specs.Merge.{files_left, instant_of, instants, line_and, lines_left}
 use Rattle.speedate_sort.specs.Merge.{merged_text, number_after, number_of, printed_first, unread}
 use Rattle.speedate_sort.specs.Merge.{with_feed}
@@ -329,11 +329,17 @@ pub settled-trans : (first second third : Offsets) → StaysSettled first second
 settled-trans (Offsets.Only has) second third one two = rw one at two
 settled-trans other second third one two = tt
 
--- values that are as they are to be then are as they were to be
-pub settled-alike : (first second own : Offsets) → StaysSettled first second
-    → are_unlike second own ≡ false → are_unlike first own ≡ false
-settled-alike (Offsets.Only has) second own one two = rw one at two
-settled-alike other second own one two = refl
+-- values that are as it is settled stay so
+settled-alike : (first second own : Offsets) → StaysSettled first second → IsAlike first own
+    → IsAlike second own
+settled-alike first second (Offsets.Only own) one two = rw two at one
+settled-alike first second other one two = tt
+
+pub settled-alike_all : {R : Type 0} (first second : Offsets) (sources : List (Source R))
+    → StaysSettled first second → AreAlike first sources → AreAlike second sources
+settled-alike_all first second sources one two =
+    All-weaker (λ s. IsAlike first s.keys.scan.offsets) (λ s. IsAlike second s.keys.scan.offsets)
+    (λ s. settled-alike first second s.keys.scan.offsets one) sources two
 
 -- the source that is named
 named-at : {R : Type 0} (sources : List (Source R)) (index : ℕ) (new : Source R)

@@ -185,10 +185,16 @@ settled_by Offsets.Any own = own
 settled_by Offsets.AsFirst own = own
 settled_by (Offsets.AsBounds first) own = own
 
--- the values of all sources have offsets as they are to have them
+-- values that have offsets, or have none, are as it is settled
+abbrev pub IsAlike : Offsets → Offsets → Type 0
+IsAlike offsets (Offsets.Only own) = offsets ≡ Offsets.Only own
+IsAlike offsets Offsets.Any = Unit {0}
+IsAlike offsets Offsets.AsFirst = Unit {0}
+IsAlike offsets (Offsets.AsBounds own) = Unit {0}
+
+-- so are those of all sources
 abbrev pub AreAlike : {R : Type 0} → Offsets → List (Source R) → Type 0
-AreAlike offsets sources =
-    All (λ source. are_unlike offsets source.keys.scan.offsets ≡ false) sources
+AreAlike offsets sources = All (λ source. IsAlike offsets source.keys.scan.offsets) sources
 
 -- The source with the least line.
 

@@ -2,12 +2,13 @@
 
 ghost use Rattle.std.specs.Prelude.{◌≡◌, ◌<◌, ◌++◌, ◌==◌, ◌||◌, Err, IfErr, IfOk, IfSome, IsNone, IsSome, None, Ok, OnErr, OnOk, false, if◌then◌else◌, is_err, is_ok, is_some, length, true};
 ghost use Rattle.std.specs.Io.KnownBytes.{Appends};
-ghost use Rattle.speedate_sort.specs.Merge.{AreAlike, AreAllInOrder, AreKnown, Halt, IsHalt};
+ghost use Rattle.speedate_sort.specs.Merge.{AreAlike, AreAllInOrder, AreKnown, Halt, IsAlike, IsHalt};
 ghost use Rattle.speedate_sort.specs.Merge.{IsHaltIn, IsLate, IsNumbered, IsUnread, Merges, Moves, ReadsLine};
 ghost use Rattle.speedate_sort.specs.Merge.{StaysSettled, are_unlike, bare, best_of, better, due};
 ghost use Rattle.speedate_sort.specs.Merge.{ended, files_left, instant_of, instants, merged_text};
 ghost use Rattle.speedate_sort.specs.Merge.{number_of, printed_first, settled_by};
 ghost use Rattle.speedate_scan.specs.Scan.{is_stopped};
+ghost use Rattle.speedate_sort.specs.Base.{Offsets};
 ghost use Rattle.speedate_sort.specs.Sort.{key_after, key_of, name_text};
 ghost use Rattle.speedate_stream.specs.Run.{AppendsBeginning, OnlyWrites};
 
@@ -339,7 +340,7 @@ fn step<R: BufRead, W: Write, P: Reporter>(
     ensures late { IfOk result (λ halt. IfSome halt (λ halt.
         IsLate halt source.old.keys source.old.number source.new.keys)) }
     ensures alike { IfOk result (λ halt. IsNone halt →
-        are_unlike offsets.old source.new.keys.scan.offsets ≡ false) }
+        IsAlike offsets.new source.new.keys.scan.offsets) }
     ensures settled { StaysSettled offsets.old offsets.new }
     ensures halted { IfOk result (λ halt. IfSome halt (λ halt.
         IsHalt offsets.old halt source.new)) }
@@ -370,7 +371,8 @@ fn merge_lines<R: BufRead, W: Write, P: Reporter>(
     ensures halted { IfOk result (λ halted. IfSome halted (λ halted.
         IsHaltIn offsets.old halted sources.new)) }
     ensures alike { IfOk result (λ halted. IsNone halted → AreAlike offsets.old sources.old
-        → AreAlike offsets.old sources.new) }
+        → AreAlike offsets.new sources.new) }
+    ensures settled { StaysSettled offsets.old offsets.new }
 {
     for _ in 0..u64::MAX {
         let Some(best) = choose(sources) else {
@@ -413,8 +415,9 @@ pub fn merge<R: BufRead, W: Write, P: Reporter>(
     ensures beginning { AreKnown R.remaining sources.old → AppendsBeginning
         (W.contents output.old.inner) (W.contents output.new.inner)
         (due (files_left R.remaining sources.old)) }
-    // All values that were read have offsets as they are to have them.
-    ensures alike { result ≡ Ok None → AreAlike offsets sources.old → AreAlike offsets sources.new }
+    // All values that were read have offsets, or none has one, as it was settled if it was.
+    ensures alike { result ≡ Ok None → AreAlike offsets sources.old → (now : Offsets)
+        × StaysSettled offsets now × AreAlike now sources.new }
     // Of the source that is named a read has failed, a bad value ended the run, or the last value is
     // earlier than the one before it or unlike those of other sources.
     ensures halted { IfOk result (λ halted. IfSome halted (λ halted.

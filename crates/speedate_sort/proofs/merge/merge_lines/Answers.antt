@@ -1,12 +1,12 @@
-use Rattle.std.proofs.Common.{◌≡◌, ◌∙◌, ◌++◌, ap, sym, List, ℕ, [], IsSome, false, get_or, is_some, refl, set}
+use Rattle.std.proofs.Common.{◌∙◌, ◌++◌, ap, sym, List, ℕ, [], IsSome, get_or, is_some, refl, set}
 use Rattle.std.proofs.Math.Bool.{or-false}
 use Rattle.std.proofs.lemmas.Bool.{true≢false}
 use Rattle.std.proofs.lemmas.List.Elements.{All-set}
 use Rattle.speedate_stream.proofs.SentLemmas.{AppendsBeginning-left, AppendsBeginning-more}
 use Rattle.speedate_stream.proofs.SentLemmas.{AppendsBut-more, AppendsBut-same, AppendsBut-trans}
 use Rattle.speedate_stream.proofs.SentLemmas.{on_err}
-use Rattle.speedate_sort.specs.Merge.{AreKnown, Best, are_unlike, due, files_left}
-use Rattle.speedate_sort.proofs.SourceLemmas.{halt-in, settled-alike, settled-trans, source-known}
+use Rattle.speedate_sort.specs.Merge.{AreKnown, Best, IsAlike, due, files_left}
+use Rattle.speedate_sort.proofs.SourceLemmas.{halt-in, settled-alike_all, settled-trans, source-known}
 use Rattle.speedate_sort.proofs.SourceLemmas.{sources-line, sources-none, sources-step}
 use Rattle.speedate_sort.proofs.merge.merge_lines.Goals as goal
 
@@ -78,9 +78,8 @@ loop-preserved g c =
           ∙ c.loop.invariant.failed;
       settled = settled-trans c.args.offsets.now c.loop.offsets c.step.new.offsets
           c.loop.invariant.settled c.in_ok-halt.ensures.settled;
-      alike = λ alike. All-set (λ s. are_unlike c.args.offsets.now s.keys.scan.offsets ≡ false)
-          c.loop.sources best.index new
-          (settled-alike c.args.offsets.now c.loop.offsets new.keys.scan.offsets
-          c.loop.invariant.settled (c.in_ok-halt.ensures.alike goes_on))
-          (c.loop.invariant.alike alike);
+      alike = λ alike. All-set (λ s. IsAlike c.step.new.offsets s.keys.scan.offsets)
+          c.loop.sources best.index new (c.in_ok-halt.ensures.alike goes_on)
+          (settled-alike_all c.loop.offsets c.step.new.offsets c.loop.sources
+          c.in_ok-halt.ensures.settled (c.loop.invariant.alike alike));
     }

@@ -17,5 +17,5 @@ invariant-loop g l = record {
       → AreAllInOrder (files_left g.R.Read.remaining l.initial.sources);
   failed : l.output.failed ≡ l.initial.output.failed;
   settled : StaysSettled l.initial.offsets l.offsets;
-  alike : AreAlike l.initial.offsets l.initial.sources → AreAlike l.initial.offsets l.sources;
+  alike : AreAlike l.initial.offsets l.initial.sources → AreAlike l.offsets l.sources;
 }
