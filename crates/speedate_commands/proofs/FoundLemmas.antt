@@ -1,6 +1,6 @@
 -- What `between` prints of the part of a file that it reads is what it prints of the whole file.
-use Rattle.std.proofs.Common.{◌≡◌, ◌∙◌, ℕ, ℤ, ◌+◌, ◌-◌, ◌^◌, ◌<◌, ◌≤◌, Bool, true, false, List, [], ◌∷◌, ◌++◌, refl, ap, sym, subst, arith, append_assoc, append-nil, length, take, drop, min, slice_index, inl, inr}
-use Rattle.std.proofs.lemmas.Bool.{and_parts, cases_lt, not-true, true≢false}
+use Rattle.std.proofs.Common.{◌≡◌, ◌∙◌, ℕ, ℤ, ◌+◌, ◌-◌, ◌^◌, ◌<◌, ◌≤◌, Bool, true, false, List, [], ◌∷◌, ◌++◌, refl, ap, sym, subst, arith, append_assoc, append-nil, length, take, drop, min, slice_index, inl, inr, zero-add}
+use Rattle.std.proofs.lemmas.Bool.{and_parts, cases_lt, le-ltb, lt-ltb, not-true, true≢false}
 use Rattle.std.proofs.lemmas.Bool.Decides.{nat_tests}
 use Rattle.std.proofs.lemmas.Int.{ints}
 use Rattle.std.proofs.lemmas.List.{append_cancel_right, drop-drop, drop_all, drop_more, take-append-drop}
@@ -22,9 +22,9 @@ use Rattle.speedate_commands.specs.Between.{Between, Bounds, awaits_header, betw
 use Rattle.speedate_commands.specs.Between.{between_lines, between_machine, entries_text, file_text}
 use Rattle.speedate_commands.specs.Between.{is_begun, is_open}
 use Rattle.speedate_commands.specs.InOrder.{AreInOrder, EndsAt, EndsBounded, EndsFirstLine}
-use Rattle.speedate_commands.specs.InOrder.{EndsPart, HasValueAt, IsInOrder, IsNumber, PrintsFile}
+use Rattle.speedate_commands.specs.InOrder.{EndsPart, HasNumbers, HasValueAt, IsInOrder, IsNumber, PrintsFile}
 use Rattle.speedate_commands.specs.InOrder.{PrintsRest, StartsAt, bounded, is_searched}
-use Rattle.speedate_commands.specs.InOrder.{known_part, recounted, scan_after}
+use Rattle.speedate_commands.specs.InOrder.{known_part, moved, recounted, renumbered, scan_after}
 use Rattle.speedate_commands.proofs.EntryLemmas.{between_prints, header_passed, line_is_header}
 use Rattle.speedate_commands.proofs.EntryLemmas.{nothing}
 use Rattle.speedate_commands.proofs.InOrderLemmas.{BeginsEntry, BeginsWith, Runs, asks}
@@ -347,6 +347,30 @@ recounted-stop before found skipped = grind arith
 
 bounded-stop : (end : ℕ) (found : Between) → (bounded end found).scan.stop ≡ found.scan.stop
 bounded-stop end found = grind arith
+
+-- the lines before a part are counted; they are not if no report is new or numbers are printed
+pub numbers-moved : (before found : Between) (known : Option (List ℕ)) (begin start skipped : ℕ)
+    (scan : Scan) → before.scan.bad < found.scan.bad → found.prefix.has_number ≡ false
+    → IfSome known (λ text.
+    skipped ≡ min (0 + length (complete_lines (part text begin start))) (2 ^ 64 - 1))
+    → scan ≡ renumbered found.scan skipped (moved 10 before.scan.bad skipped found.scan.reports)
+    → IfSome known (λ text. HasNumbers before (record found { scan = scan }) text begin start)
+numbers-moved before found None begin start skipped scan more none count is = tt
+numbers-moved before found (Some text) begin start skipped scan more none count is =
+    let new = lt-ltb before.scan.bad found.scan.bad more in
+    let all : skipped ≡ min (length (complete_lines (part text begin start))) (2 ^ 64 - 1) =
+    rw zero-add at count in
+    inr (found, rw (is, all, new, none) refl)
+
+pub numbers-kept : (before found : Between) (known : Option (List ℕ)) (begin start : ℕ)
+    → (found.scan.bad ≤ before.scan.bad) ⊎ (found.prefix.has_number ≡ true)
+    → IfSome known (λ text. HasNumbers before found text begin start)
+numbers-kept before found None begin start why = tt
+numbers-kept before found (Some text) begin start (inl none) =
+    let new = le-ltb before.scan.bad found.scan.bad none in
+    inr (found, rw new refl)
+numbers-kept before found (Some text) begin start (inr shown) =
+    inr (found, grind arith)
 
 -- a run over the part that was found prints what a run over all lines prints
 pub prints-rest : (before after : Between) (known old new : Option (List ℕ))

@@ -169,7 +169,13 @@ recounted before found skipped =
     }
     else found
 
--- the same, once the lines after the part are passed over, which ends before the last place
+-- no bad value is noted of a part of a file, or those that are have the numbers of their lines
+abbrev pub HasNumbers : Between → Between → List ℕ → ℕ → ℕ → Type 0
+HasNumbers before after text begin start = (after.scan.bad ≡ before.scan.bad)
+    ⊎ ((found : Between) × (after ≡ recounted before found
+    (min (length (complete_lines (part text begin start))) (2 ^ 64 - 1))))
+
+-- what is known once the lines after a part are passed over, which ends before the last place
 abbrev pub bounded : ℕ → Between → Between
 bounded end found =
     if nat_lt end (2 ^ 64 - 1) && not (is_stopped found.scan.stop) then entry_passed found

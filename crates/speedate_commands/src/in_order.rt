@@ -4,7 +4,7 @@ ghost use Rattle.std.specs.Prelude.{◌≡◌, ℕ, ℤ, ◌+◌, ◌-◌, ◌^�
 ghost use Rattle.std.specs.Io.KnownBytes.{Appends};
 ghost use Rattle.speedate.specs.Lines.{lines};
 ghost use Rattle.speedate_commands.specs.Between.{awaits_header, file_text};
-ghost use Rattle.speedate_commands.specs.InOrder.{EndsAt, EndsBounded, EndsFound, EndsPart, FailsBy};
+ghost use Rattle.speedate_commands.specs.InOrder.{EndsAt, EndsBounded, EndsFound, EndsPart, FailsBy, HasNumbers};
 ghost use Rattle.speedate_commands.specs.InOrder.{IsNumber, PrintsFile, PrintsRest, StartsAt, entry_passed};
 ghost use Rattle.speedate_commands.specs.InOrder.{is_searched, is_settled, later, moved, renumbered};
 ghost use Rattle.speedate_scan.specs.Reading.{part};
@@ -197,6 +197,9 @@ fn print_found<S: ReadAt, W: Write>(
     ensures ended { OnOk result (IfSome (S.text source.now) (λ text.
         EndsFound command.old command.new (W.contents output.old.inner)
         (W.contents output.new.inner) text begin start end)) }
+    // Also if an end fails.
+    ensures numbers { IfSome (S.text source.now) (λ text.
+        HasNumbers command.old command.new text begin start) }
     ensures flushed { OnOk result (output.new.flushed ≡ true) }
     ensures failed { output.old.failed ≡ false →
         FailsBy result failed.old failed.new output.new.failed }

@@ -418,8 +418,8 @@ pub fn merge<R: BufRead, W: Write, P: Reporter>(
     // All values that were read have offsets, or none has one, as it was settled if it was.
     ensures alike { result ≡ Ok None → AreAlike offsets sources.old → (now : Offsets)
         × StaysSettled offsets now × AreAlike now sources.new }
-    // Of the source that is named a read has failed, a bad value ended the run, or the last value is
-    // earlier than the one before it or unlike those of other sources.
+    // Of the source that is named a read has failed, a bad value ended the run, or the last value
+    // is earlier than the one before it or unlike those of other sources.
     ensures halted { IfOk result (λ halted. IfSome halted (λ halted.
         IsHaltIn offsets halted sources.new)) }
     ensures flushed { OnOk result (output.new.flushed ≡ true) }
