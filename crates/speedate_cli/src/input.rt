@@ -45,6 +45,15 @@ pub fn hold_input(rt: &HostRuntime) -> Option<File> {
     OpenOptions::new().write(true).open(rt, "/dev/null").ok()
 }
 
+/// Opens something that cannot be written in place of standard output, if that is closed: the first file that is opened
+/// would be standard output, too.
+pub fn hold_output(rt: &HostRuntime) -> Option<File> {
+    if fs::metadata(rt, "/dev/stdout").is_ok() {
+        return None;
+    }
+    fs::open(rt, "/dev/null").ok()
+}
+
 /// Opens a file, or tells why it cannot be read.
 pub fn open_input(rt: &HostRuntime, name: &str) -> Option<Input> {
     if is_output(rt, if name == "-" { "/dev/stdin" } else { name }) {

@@ -91,7 +91,8 @@ fn tell_argument(rt: &HostRuntime) -> Result<(), AllocError> {
 
 /// Runs a command by its name and what it was given, and returns the exit status.
 fn run(rt: &HostRuntime, name: &str, given: &ArgMatches<'_>) -> Result<u8, Refusal> {
-    let _held = input::hold_input(rt);
+    let _input = input::hold_input(rt);
+    let _output = input::hold_output(rt);
     let files = given.get_strs("FILE").unwrap_or(&[]);
     Ok(match name {
         "between" => files::run_files(rt, &mut first_between(given)?, files),
