@@ -202,7 +202,8 @@ pub seen_alone : {A E : Type 0} (refuse : ParseError → ℕ → E) (fault : A �
     ≡ result_and_then (with_no_more_or refuse fault text) (seen_as refuse front)
 seen_alone refuse fault text front = search rules
 
--- so what is alone is the value, what is longer is refused where the value ends, and a refusal stays
+-- so what is alone is the value, what is longer is refused where the value ends, and a refusal
+-- stays
 pub seen_whole : {A E : Type 0} (refuse : ParseError → ℕ → E) (fault : A → ParseError)
     (text : List ℕ) (value : A) (size : ℕ) (front : Result (A × ℕ) Refused)
     → size ≡ length text → Ok (value, size) ≡ seen_as refuse front

@@ -27,7 +27,8 @@ first_day = record { year = 1970; month = 1; day = 1 }
 abbrev pub date_form : ℤ → Option (DateForm × CallKind)
 date_form form =
     if int_eq form text_form then Some (DateForm.Text, CallKind.Date)
-    else (if int_eq form or_timestamp_form then Some (DateForm.OrTimestamp, CallKind.DateOrTimestamp)
+    else (if int_eq form or_timestamp_form
+    then Some (DateForm.OrTimestamp, CallKind.DateOrTimestamp)
     else (if int_eq form front_form then Some (DateForm.Front, CallKind.Date)
     else None))
 

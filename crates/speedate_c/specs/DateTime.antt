@@ -44,7 +44,8 @@ shown_date_time value = record { date = shown_date value.date; time = shown_time
 abbrev pub date_time_form : ℤ → Option (DateTimeForm × CallKind)
 date_time_form form =
     if int_eq form text_form then Some (DateTimeForm.Text, CallKind.DateTime)
-    else (if int_eq form or_timestamp_form then Some (DateTimeForm.OrTimestamp, CallKind.DateTimeOrTimestamp)
+    else (if int_eq form or_timestamp_form
+    then Some (DateTimeForm.OrTimestamp, CallKind.DateTimeOrTimestamp)
     else (if int_eq form strict_form then Some (DateTimeForm.Strict, CallKind.DateTimeStrict)
     else (if int_eq form front_form then Some (DateTimeForm.Front, CallKind.DateTime)
     else None)))

@@ -22,8 +22,8 @@ use Rattle.speedate_commands.specs.Between.{Between, Bounds, awaits_header, betw
 use Rattle.speedate_commands.specs.Between.{between_lines, between_machine, entries_text, file_text}
 use Rattle.speedate_commands.specs.Between.{is_begun, is_open}
 use Rattle.speedate_commands.specs.InOrder.{AreInOrder, EndsAt, EndsBounded, EndsFirstLine}
-use Rattle.speedate_commands.specs.InOrder.{EndsPart, HasNumbers, HasValueAt, IsInOrder, IsNumber, PrintsFile}
-use Rattle.speedate_commands.specs.InOrder.{PrintsRest, StartsAt, bounded, is_searched}
+use Rattle.speedate_commands.specs.InOrder.{EndsPart, HasNumbers, HasValueAt, IsInOrder, IsNumber}
+use Rattle.speedate_commands.specs.InOrder.{PrintsFile, PrintsRest, StartsAt, bounded, is_searched}
 use Rattle.speedate_commands.specs.InOrder.{known_part, moved, recounted, renumbered, scan_after}
 use Rattle.speedate_commands.proofs.EntryLemmas.{between_prints, header_passed, line_is_header}
 use Rattle.speedate_commands.proofs.EntryLemmas.{nothing}

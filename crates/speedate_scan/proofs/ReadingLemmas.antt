@@ -53,7 +53,7 @@ pub strict_is_front : (behavior : Behavior) (text : List ℕ) (front : DateAndTi
 unfolding library_front strict_whole strict_front
 strict_is_front behavior text front read within holds =
     let alone = date_time_front-alone behavior text front read within in
-    let all = refusal-ok {A = Unit {0}} fault_alone (strict_date_time (take front.1 text)) (Ok tt) tt
-    holds in
+    let all = refusal-ok {A = Unit {0}} fault_alone (strict_date_time (take front.1 text))
+    (Ok tt) tt holds in
     let whole = refusal-all placed (strict_date_time (take front.1 text)) (Ok front.0) all.0 in
     rw (read, alone, whole) refl

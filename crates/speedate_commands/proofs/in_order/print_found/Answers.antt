@@ -1,6 +1,9 @@
 use Rattle.std.proofs.Common.{inl, inr, rules}
 use Rattle.speedate_commands.proofs.FoundLemmas.{numbers-kept, numbers-moved}
-use Rattle.speedate_commands.proofs.in_order.print_found.Goals.{else-command-told-via-then-command-told+else-not-command, else-command-told-via-else-command-told}
+use Rattle.speedate_commands.proofs.in_order.print_found.Goals.{
+  else-command-told-via-then-command-told+else-not-command,
+  else-command-told-via-else-command-told,
+}
 use Rattle.speedate_commands.proofs.in_order.print_found.Goals as goal
 
 pub returns-in-Ok-clause-numbers : goal.returns-in-Ok-clause-numbers

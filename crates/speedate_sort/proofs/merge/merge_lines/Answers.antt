@@ -6,8 +6,9 @@ use Rattle.speedate_stream.proofs.SentLemmas.{AppendsBeginning-left, AppendsBegi
 use Rattle.speedate_stream.proofs.SentLemmas.{AppendsBut-more, AppendsBut-same, AppendsBut-trans}
 use Rattle.speedate_stream.proofs.SentLemmas.{on_err}
 use Rattle.speedate_sort.specs.Merge.{AreKnown, Best, IsAlike, due, files_left}
-use Rattle.speedate_sort.proofs.SourceLemmas.{halt-in, settled-alike_all, settled-trans, source-known}
-use Rattle.speedate_sort.proofs.SourceLemmas.{sources-line, sources-none, sources-step}
+use Rattle.speedate_sort.proofs.SourceLemmas.{halt-in, settled-alike_all, settled-trans}
+use Rattle.speedate_sort.proofs.SourceLemmas.{source-known, sources-line, sources-none}
+use Rattle.speedate_sort.proofs.SourceLemmas.{sources-step}
 use Rattle.speedate_sort.proofs.merge.merge_lines.Goals as goal
 
 pub returns-in_default-clause-merged : goal.returns-in_default-clause-merged

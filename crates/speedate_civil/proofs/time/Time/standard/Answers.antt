@@ -35,4 +35,5 @@ within-here size (Some place) within = omega (arith, within)
 pub returns-in-Err-clause-placed : goal.returns-in-Err-clause-placed
 returns-in-Err-clause-placed g c behavior read =
     let size = length c.args.bytes.now in
-    c.in-Err.ensures.placed size (within-here size _ (strict-within behavior c.args.bytes.now _ read))
+    c.in-Err.ensures.placed size
+    (within-here size _ (strict-within behavior c.args.bytes.now _ read))
