@@ -532,7 +532,7 @@ for (const [path, entry, all] of [["speedate", "speedate", core], ["speedate/col
   assert.ok(compiled[0].equals(inPackage(`${entry}.wasm`)));
   assert.deepEqual(inside.parseDate("2020-02-29"), date);
   for (const [kind, isInside] of [["js", true], ["node.js", false], ["cjs", false], ["bare.js", false]])
-    assert.equal(/"[^"]{100000}/.test(inPackage(`${entry}.${kind}`)), isInside, `${entry}.${kind} has the module, or has it not`);
+    assert.equal(/"[^"]{50000}/.test(inPackage(`${entry}.${kind}`)), isInside, `${entry}.${kind} has the module, or has it not`);
 }
 // The module with columns has the functions of the other one too.
 (await copy("more", "speedate.bare.js")).init(wasm);
