@@ -1,5 +1,5 @@
 -- A list of which each item is less than the one before it is sorted if it is turned round.
-use Rattle.std.proofs.Common.{◌≡◌, ◌∙◌, ◌++◌, ◌+◌, ◌-◌, ◌<◌, ◌&&◌, [], ◌∷◌, ℕ, zero, suc, Bool, List, add-one, ap, ap₂, append-nil, arith, cond, false, filter, length, not, refl, reverse, slice_index_or, sym, true, true≢false}
+use Rattle.std.proofs.Common.{◌≡◌, ◌∙◌, ◌++◌, ◌+◌, ◌-◌, ◌<◌, [], ◌∷◌, ℕ, zero, suc, Bool, List, add-one, ap, ap₂, append-nil, arith, false, filter, length, refl, reverse, slice_index_or, sym, true}
 use Rattle.std.proofs.lemmas.Grind.{reverse_onto}
 use Rattle.std.proofs.lemmas.List.{get_or-reverse, length-reverse}
 use Rattle.std.proofs.lemmas.List.Elements.{filter-append}
@@ -14,11 +14,7 @@ Falls lt xs = AllAdjacentBelow (λ item next. true ≡ lt next item) xs (length 
 module _ {X : Type 0} (lt : X → X → Bool) (order : IsStrictWeakOrder lt) where
   less-then : (first second third : X) → lt first second ≡ true → lt third second ≡ false
       → lt first third ≡ true
-  less-then first second third less least = by (lt first third) refl
-    where
-      by : (answer : Bool) → lt first third ≡ answer → lt first third ≡ true
-      by true is = is
-      by false is = absurd (true≢false (sym less ∙ order.chain first third second is least))
+  less-then first second third less least = grind (arith, order.chain first third second)
 
   rest-falls : (first : X) (rest : List X) → Falls lt (first ∷ rest) → Falls lt rest
   rest-falls first rest falls k d within =
@@ -38,25 +34,12 @@ module _ {X : Type 0} (lt : X → X → Bool) (order : IsStrictWeakOrder lt) whe
       less-then _ _ first next below
 
   ties-first : (item other : X) → ties lt item other ≡ true → lt item other ≡ false
-  ties-first item other tie = by (lt item other) refl
-    where
-      by : (answer : Bool) → lt item other ≡ answer → lt item other ≡ false
-      by true is =
-          absurd (true≢false (sym tie ∙ ap (λ answer. not answer && not (lt other item)) is))
-      by false is = is
+  ties-first item other tie = grind arith
 
   -- what ties with an item does not tie with one that is less
   no-third : (item first next : X) → lt next first ≡ true → ties lt item first ≡ true
       → ties lt item next ≡ false
-  no-third item first next less tie = by (lt item next) (lt next item) refl refl
-    where
-      by : (before after : Bool) → lt item next ≡ before → lt next item ≡ after
-          → ties lt item next ≡ false
-      by true after is back = ap (λ answer. not answer && not (lt next item)) is
-      by false true is back = (λ i. not (is i) && not (back i))
-      by false false is back =
-          let least = order.chain next item first back (ties-first item first tie) in
-          absurd (true≢false (sym less ∙ least))
+  no-third item first next less tie = grind (arith, order.chain next item first)
 
   -- so no item after the first of a list that falls ties with what ties with the first
   no-ties : (item first : X) (rest : List X)
@@ -64,32 +47,14 @@ module _ {X : Type 0} (lt : X → X → Bool) (order : IsStrictWeakOrder lt) whe
       → ties lt item first ≡ true → filter (ties lt item) rest ≡ []
   no-ties item first [] below tie = refl
   no-ties item first (next ∷ rest) below tie =
-      let tied = no-third item first next (below 0 (omega arith)) tie in
-      let kept = filter (ties lt item) rest in
-      ap (λ answer. cond answer (next ∷ kept) kept) tied
-      ∙ no-ties item first rest (λ k within. below (suc k) (omega arith)) tie
+      rw (no-third item first next (below 0 (omega arith)) tie)
+      (no-ties item first rest (λ k within. below (suc k) (omega arith)) tie)
 
   last-kept : (item first : X) (rest : List X)
       → (ties lt item first ≡ true → filter (ties lt item) rest ≡ [])
       → filter (ties lt item) rest ++ filter (ties lt item) (first ∷ [])
       ≡ filter (ties lt item) (first ∷ rest)
-  last-kept item first rest alone = by (ties lt item first) refl
-    where
-      kept : List X
-      kept = filter (ties lt item) rest
-
-      by : (answer : Bool) → ties lt item first ≡ answer
-          → kept ++ cond (ties lt item first) (first ∷ []) []
-          ≡ cond (ties lt item first) (first ∷ kept) kept
-      by true is =
-          ap (λ (answer : Bool). kept ++ cond answer (first ∷ []) []) is
-          ∙ ap (λ (items : List X). items ++ first ∷ []) (alone is)
-          ∙ ap (λ (items : List X). first ∷ items) (sym (alone is))
-          ∙ ap (λ (answer : Bool). cond answer (first ∷ kept) kept) (sym is)
-      by false is =
-          ap (λ (answer : Bool). kept ++ cond answer (first ∷ []) []) is
-          ∙ append-nil kept
-          ∙ ap (λ (answer : Bool). cond answer (first ∷ kept) kept) (sym is)
+  last-kept item first rest alone = grind (arith, append-nil (filter (ties lt item) rest))
 
   -- no two items tie, so none changes its place beside one that it ties with
   pub reversed-stable : (xs : List X) → Falls lt xs → IsStableBy lt xs (reverse xs)

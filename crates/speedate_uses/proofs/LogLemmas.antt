@@ -1,5 +1,5 @@
 -- Keys of instants, and what a sort that may fail leaves.
-use Rattle.std.proofs.Common.{◌≡◌, ◌∙◌, ◌+◌, ◌<◌, ℕ, ℤ, List, length, reverse, slice_index_or, subst, Result, OnErr, OnOk, Ok, Err, Ordering, Less, Equal, Greater, Some, ap, false, is_le, is_lt, is_ok, refl, sym, true, true≢false}
+use Rattle.std.proofs.Common.{◌≡◌, ◌∙◌, ◌+◌, ◌<◌, ℕ, ℤ, List, length, reverse, slice_index_or, subst, Result, OnErr, OnOk, Ok, Err, Ordering, Some, ap, arith, false, is_le, is_lt, is_ok, sym, true, true≢false}
 use Rattle.std.proofs.lemmas.Cmp.{int_cmp_total, nat_cmp_total, on_total, then_total}
 use Rattle.std.proofs.lemmas.List.{get_or_default}
 use Rattle.std.proofs.lemmas.List.Sorted.{ranks_by}
@@ -23,16 +23,12 @@ instant_key_order-total =
     (on_total (λ (key : ℤ × ℕ). key.1) nat_cmp_total)
 
 not-less : (answer : Ordering) → is_le answer ≡ true → is_lt (ordering_reverse answer) ≡ false
-not-less Less is = refl
-not-less Equal is = refl
-not-less Greater is = absurd (true≢false (sym is))
+not-less answer is = grind arith
 
 as-order : (second micro : Ordering)
     → true ≡ is_some_and is_le (partial_ordering_then (Some second) (Some micro))
     → is_le (ordering_then second micro) ≡ true
-as-order Less micro is = refl
-as-order Equal micro is = sym is
-as-order Greater micro is = absurd (true≢false is)
+as-order second micro is = grind arith
 
 -- a key that comes after another, or equals it, is not before it
 not-before : (key next : ℤ × ℕ)

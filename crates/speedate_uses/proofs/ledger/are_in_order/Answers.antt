@@ -23,10 +23,9 @@ returns-then-not-are_dates_in_order c = record {
 
 pub loop-place-preserved : goal.loop-place-preserved
 loop-place-preserved c =
-    let last = result_map (with_size ymd) c.loop-place.last in
     let next = result_map (with_size ymd) c.front_at-next.result in
     read-next (λ (line : Bor (List ℕ)). without_place (date_front line.now)) dates_in_order
-    c.args.lines.now last
+    c.args.lines.now (result_map (with_size ymd) c.loop-place.last)
     next c.loop-place.place c.loop-place.invariant c.front_at-next.ensures.front
     (sym (c.if-not-are_dates_in_order.ensures.order))
 
