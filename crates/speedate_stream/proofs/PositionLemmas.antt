@@ -1,5 +1,5 @@
 -- Where a machine is after a text that goes on, from where it was before.
-use Rattle.std.proofs.Common.{◌≡◌, ◌∙◌, ap, sym, subst, refl, inl, inr, ℕ, ◌<◌, ◌&&◌, Bool, true, false, List, [], ◌∷◌, ◌++◌, length, drop, get_or, min, append_assoc, append-nil, nat_lt, Option, Some, None, is_some, arith}
+use Rattle.std.proofs.Common.{◌≡◌, ◌∙◌, ap, sym, subst, refl, inl, inr, ℕ, ◌<◌, Bool, true, false, List, [], ◌∷◌, ◌++◌, length, drop, get_or, min, append_assoc, append-nil, nat_lt, Option, Some, None, is_some, arith}
 use Rattle.std.proofs.lemmas.Bool.{cases_lt, lt-ltb, le-ltb}
 use Rattle.std.proofs.lemmas.List.{take_all, length-take, length-take-le, take-append-le, drop-append-le, length-append}
 use Rattle.std.proofs.lemmas.List.Elements.{All-take, All-nil, All-get_or}
@@ -29,13 +29,7 @@ head-kept line more long =
 -- what was printed before what was printed before
 twice : {S : Type 0} (first second : List ℕ) (position : Position S)
     → printed_after first (printed_after second position) ≡ printed_after (first ++ second) position
-twice first second position =
-    ap (λ (bytes : List ℕ). record {
-      state = position.state;
-      passes = position.passes;
-      kept = position.kept;
-      printed = bytes;
-    }) (sym (append_assoc first second position.printed))
+twice first second position = simp append_assoc
 
 -- complete lines, and then pieces
 after_pieces-append : {S : Type 0} (m : Machine S) (state : S) (some others : List (List ℕ))
@@ -52,10 +46,7 @@ after_pieces-append m state some others last =
 
 line-quiet : {S : Type 0} (m : Machine S) (state : S) (line seen : List ℕ) → head line ≡ seen
     → m.rest state seen ≡ None → line_output m state line ≡ m.text state seen
-line-quiet m state line seen is none =
-    ap (λ (front : List ℕ). m.text state front ++ rest_of (m.rest state front) line) is
-    ∙ ap (λ (rest : Option ℕ). m.text state seen ++ rest_of rest line) none
-    ∙ append-nil (m.text state seen)
+line-quiet m state line seen is none = rw (is, none) (append-nil (m.text state seen))
 
 -- a machine prints a line as it comes
 abbrev passing : {S : Type 0} → S → List ℕ → Position S
@@ -66,14 +57,10 @@ abbrev waiting : {S : Type 0} → S → List ℕ → Position S
 waiting state kept = record { state = state; passes = false; kept = kept; printed = [] }
 
 in_line-quiet : {S : Type 0} (m : Machine S) (state : S) (line seen : List ℕ) → head line ≡ seen
-    → m.rest state seen ≡ None
-    → in_line m state line (is_passed m state line) ≡ waiting state seen
+    → m.rest state seen ≡ None → in_line m state line (is_passed m state line) ≡ waiting state seen
 in_line-quiet m state line seen is none =
-    let is_none = ap (λ (front : List ℕ). is_some (m.rest state front)) is ∙ ap is_some none in
-    let not_passed = ap (λ (test : Bool). nat_lt longest_line (length line) && test) is_none
-    ∙ and-false (nat_lt longest_line (length line)) in
-    ap (λ (test : Bool). in_line m state line test) not_passed
-    ∙ ap (λ (front : List ℕ). waiting state front) is
+    rw (is, none, and-false (nat_lt longest_line (length line)))
+    (ap (λ (front : List ℕ). waiting state front) is)
 
 -- the position after pieces whose first line has this head, after which the line is not printed
 abbrev quietly : {S : Type 0} → Machine S → S → List ℕ → List (List ℕ) → List ℕ → Position S
@@ -134,8 +121,7 @@ passed-onto_first m state from line [] last long some =
     let is = head-longer line last long in
     let longer : 4096 < length whole = omega (arith, length-append line last) in
     let is_some' = ap (λ (front : List ℕ). is_some (m.rest state front)) is ∙ ap is_some some in
-    let passes : is_passed m state whole ≡ true =
-    rw (lt-ltb 4096 (length whole) longer) is_some' in
+    let passes : is_passed m state whole ≡ true = rw (lt-ltb 4096 (length whole) longer) is_some' in
     ap (λ (test : Bool). printed_after [] (in_line m state whole test)) passes
     ∙ ap (λ (front : List ℕ). passing (m.after state front)
     (m.text state front ++ part_of (m.rest state front) whole)) is
@@ -174,10 +160,8 @@ in_longer : {S : Type 0} (m : Machine S) (state : S) (line more : List ℕ) (res
     → IsFree line → 4096 < length line → m.rest state (head line) ≡ rest
     → GoesOn m state line more (is_passed m state line)
 in_longer m state line more None free long none =
-    let is_none = ap is_some none in
     let not_passed : is_passed m state line ≡ false =
-    ap (λ (test : Bool). nat_lt longest_line (length line) && test) is_none
-    ∙ and-false (nat_lt longest_line (length line)) in
+    rw none (and-false (nat_lt longest_line (length line))) in
     subst (GoesOn m state line more) (sym not_passed) (quiet-kept m state line more free long none)
 in_longer m state line more (Some from) free long some =
     let passes : is_passed m state line ≡ true =
@@ -198,8 +182,7 @@ in_line-more : {S : Type 0} (m : Machine S) (state : S) (line more : List ℕ) �
 in_line-more m state line more free = elim (cases_lt 4096 (length line)) [
   | inl long ↦ in_longer m state line more (m.rest state (head line)) free long refl
   | inr short ↦
-      let not_passed : is_passed m state line ≡ false =
-      rw (le-ltb 4096 (length line) short) refl in
+      let not_passed : is_passed m state line ≡ false = rw (le-ltb 4096 (length line) short) refl in
       subst (GoesOn m state line more) (sym not_passed)
       (ap (λ (front : List ℕ). position_after m state (front ++ more))
       (sym (take_all 4097 line (omega arith))))
@@ -285,10 +268,8 @@ ends_longer : {S : Type 0} (m : Machine S) (state : S) (byte : ℕ) (bytes : Lis
     → EndsLine m state (byte ∷ bytes) (is_passed m state (byte ∷ bytes))
 ends_longer m state byte bytes None long none =
     let line = byte ∷ bytes in
-    let is_none = ap is_some none in
     let not_passed : is_passed m state line ≡ false =
-    ap (λ (test : Bool). nat_lt longest_line (length line) && test) is_none
-    ∙ and-false (nat_lt longest_line (length line)) in
+    rw none (and-false (nat_lt longest_line (length line))) in
     let same = line-quiet m state line (head line) refl none
     ∙ sym (line-quiet m state (head line) (head line) (head-head line) none) in
     subst (EndsLine m state line) (sym not_passed) (ends_kept m state byte bytes same)
@@ -311,8 +292,7 @@ ends_line m state (byte ∷ bytes) = elim (cases_lt 4096 (length (byte ∷ bytes
       ends_longer m state byte bytes (m.rest state (head (byte ∷ bytes))) long refl
   | inr short ↦
       let line = byte ∷ bytes in
-      let not_passed : is_passed m state line ≡ false =
-      rw (le-ltb 4096 (length line) short) refl in
+      let not_passed : is_passed m state line ≡ false = rw (le-ltb 4096 (length line) short) refl in
       let same = ap (line_output m state) (sym (take_all 4097 line (omega arith))) in
       subst (EndsLine m state line) (sym not_passed) (ends_kept m state byte bytes same)
 ]

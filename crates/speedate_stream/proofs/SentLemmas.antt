@@ -1,5 +1,5 @@
 -- What has gone out of some bytes, step by step.
-use Rattle.std.proofs.Common.{rules, ◌≡◌, ◌∙◌, ap, sym, List, [], ◌++◌, ℕ, refl, append_assoc, append-nil, take, drop, take-append-drop, Bool, true, false, ◌||◌, Result, Ok, Err, is_err, Option, OnErr}
+use Rattle.std.proofs.Common.{rules, ◌≡◌, ◌∙◌, ap, sym, Bool, List, [], ◌++◌, ℕ, refl, append_assoc, append-nil, take, drop, take-append-drop, true, ◌||◌, Result, Ok, Err, is_err, Option, OnErr}
 use Rattle.std.specs.Io.KnownBytes.{Appends, Keeps}
 use Rattle.std.proofs.lemmas.Bool.{false≢true}
 use Rattle.std.proofs.lemmas.List.{take_rest}
@@ -70,14 +70,8 @@ pub OnlyWrites-failed : {W A B E F : Type 0} {contents : W
     → OnlyWrites {A = B} contents b c (Err reason) others front
     → OnlyWrites contents a c result rest bytes
 OnlyWrites-failed more (Ok value) fails sent failed flushes call = absurd (false≢true fails)
-OnlyWrites-failed more (Err fault) fails sent failed flushes call = record {
-  writes = record {
-    failed = call.writes.failed ∙ ap (λ (before : Bool). before || true) failed;
-    sent = search rules;
-    beginning = AppendsBeginning-left sent (AppendsBeginning-more more call.writes.beginning);
-  };
-  unflushed = call.unflushed ∙ flushes;
-}
+OnlyWrites-failed more (Err fault) fails sent failed flushes call =
+    search (rules, AppendsBeginning-left, AppendsBeginning-more)
 
 -- a fact that holds at an error
 pub on_err : {T E P : Type 0} (result : Result T E) → P → OnErr result P
@@ -98,30 +92,14 @@ pub ruleset writing = (
 pub OnlyWrites-more : {W A E : Type 0} {contents : W → Option (List ℕ)} {a b : Watch W} {value : A}
     {left bytes : List ℕ} (more : List ℕ) → OnlyWrites {E = E} contents a b (Ok value) left bytes
     → OnlyWrites {E = E} contents a b (Ok value) (left ++ more) (bytes ++ more)
-OnlyWrites-more more call = record {
-  writes = record {
-    failed = call.writes.failed;
-    sent = AppendsBut-more more call.writes.sent;
-    beginning = search rules;
-  };
-  unflushed = call.unflushed;
-}
+OnlyWrites-more more call = search (rules, AppendsBut-more)
 
 -- a call had to write what another left
 pub OnlyWrites-then : {W A B E F : Type 0} {contents : W → Option (List ℕ)} {a b c : Watch W}
     {value : A} {left rest bytes : List ℕ} (result : Result B F)
     → OnlyWrites {E = E} contents a b (Ok value) left bytes
-    → OnlyWrites contents b c result rest left
-    → OnlyWrites contents a c result rest bytes
-OnlyWrites-then (Ok other) first second = record {
-  writes = record {
-    failed = second.writes.failed
-        ∙ ap (λ (failed : Bool). failed || false) (first.writes.failed ∙ or-false _);
-    sent = AppendsBut-trans first.writes.sent second.writes.sent;
-    beginning = search rules;
-  };
-  unflushed = second.unflushed ∙ first.unflushed;
-}
+    → OnlyWrites contents b c result rest left → OnlyWrites contents a c result rest bytes
+OnlyWrites-then (Ok other) first second = search (rules, or-false, AppendsBut-trans)
 OnlyWrites-then (Err fault) first second = record {
   writes = record {
     failed = second.writes.failed
@@ -137,14 +115,7 @@ pub OnlyWrites-value : {W A B E F : Type 0} {contents : W → Option (List ℕ)}
     {value : A} {left bytes : List ℕ} (other : B)
     → OnlyWrites {E = E} contents a b (Ok value) left bytes
     → OnlyWrites {E = F} contents a b (Ok other) left bytes
-OnlyWrites-value other call = record {
-  writes = record {
-    failed = call.writes.failed;
-    sent = call.writes.sent;
-    beginning = search rules;
-  };
-  unflushed = call.unflushed;
-}
+OnlyWrites-value other call = search rules
 
 -- a call had to write what another left, and more
 pub OnlyWrites-next : {W A B E F : Type 0} {contents : W → Option (List ℕ)} {a b c : Watch W}
@@ -161,14 +132,7 @@ pub OnlyWrites-front : {W A B E F : Type 0} {contents : W → Option (List ℕ)}
     → is_err result ≡ true → OnlyWrites {A = B} contents a b (Err reason) left front
     → bytes ≡ front ++ more → OnlyWrites contents a b result rest bytes
 OnlyWrites-front rest more (Ok value) fails call same = absurd (false≢true fails)
-OnlyWrites-front rest more (Err fault) fails call same = record {
-  writes = record {
-    failed = call.writes.failed;
-    sent = search rules;
-    beginning = rw same (AppendsBeginning-more more call.writes.beginning);
-  };
-  unflushed = call.unflushed;
-}
+OnlyWrites-front rest more (Err fault) fails call same = search (rules, AppendsBeginning-more)
 
 -- a line was printed: a text before it, a part of it, and its end
 pub OnlyWrites-line : {W A B C E F G : Type 0} {contents : W → Option (List ℕ)} {a b c d : Watch W}
@@ -179,10 +143,8 @@ pub OnlyWrites-line : {W A B C E F G : Type 0} {contents : W → Option (List �
     → OnlyWrites contents c d result three (two ++ end)
     → OnlyWrites contents a d result three (old ++ line)
 OnlyWrites-line old text part end line result is before itself after =
-    let both = OnlyWrites-next part (Ok _) before itself refl in
-    let same = ap (λ (bytes : List ℕ). old ++ bytes) is
-    ∙ sym (append_assoc (old ++ text) part end ∙ append_assoc old text (part ++ end)) in
-    OnlyWrites-next end result both after same
+    OnlyWrites-next end result (OnlyWrites-next part (Ok _) before itself refl) after
+    (rw is (simp append_assoc))
 
 -- a part of a line was not printed, after the text before it
 pub OnlyWrites-part : {W A B C E F G : Type 0} {contents : W → Option (List ℕ)} {a b c : Watch W}
@@ -192,10 +154,8 @@ pub OnlyWrites-part : {W A B C E F G : Type 0} {contents : W → Option (List �
     → OnlyWrites {A = B} contents b c (Err reason) two (one ++ part)
     → OnlyWrites contents a c result three (old ++ line)
 OnlyWrites-part old three text part end line result fails is before itself =
-    let both = OnlyWrites-next part (Err _) before itself refl in
-    let same = ap (λ (bytes : List ℕ). old ++ bytes) is
-    ∙ sym (append_assoc (old ++ text) part end ∙ append_assoc old text (part ++ end)) in
-    OnlyWrites-front three end result fails both same
+    OnlyWrites-front three end result fails (OnlyWrites-next part (Err _) before itself refl)
+    (rw is (simp append_assoc))
 
 -- a call that fails with another error writes the same
 pub OnlyWrites-fails : {W A B E F : Type 0} {contents : W → Option (List ℕ)} {a b : Watch W}
@@ -217,13 +177,5 @@ pub Writes-flushed : {W A B E F : Type 0} {contents : W → Option (List ℕ)} {
     → OnlyWrites {E = E} contents a b (Ok value) [] bytes
     → Keeps (contents b.inner) (contents c.inner) → c.failed ≡ (b.failed || is_err result)
     → Writes contents a c result [] bytes
-Writes-flushed (Ok other) call kept failed = record {
-  failed = failed ∙ ap (λ (before : Bool). before || false) (call.writes.failed ∙ or-false _);
-  sent = AppendsBut-kept call.writes.sent kept;
-  beginning = search rules;
-}
-Writes-flushed (Err fault) call kept failed = record {
-  failed = failed ∙ ap (λ (before : Bool). before || true) (call.writes.failed ∙ or-false _);
-  sent = search rules;
-  beginning = record { left = []; sent = AppendsBut-kept call.writes.sent kept };
-}
+Writes-flushed (Ok other) call kept failed = search (rules, or-false, AppendsBut-kept)
+Writes-flushed (Err fault) call kept failed = search (rules, or-false, AppendsBut-kept)

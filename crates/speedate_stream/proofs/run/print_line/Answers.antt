@@ -9,16 +9,14 @@ pub returns-in_err-rest-clause-printed : goal.returns-in_err-rest-clause-printed
 returns-in_err-rest-clause-printed g c =
     let m = g.M.LineMachine.machine in
     let line : List ℕ = c.args.line.now in
-    let text = m.text c.args.machine.now (head line) in
     let rest = rest_of (m.rest c.args.machine.now (head line)) line in
     OnlyWrites-front _ rest _ (search rules) c.in_err-rest.ensures.printed
-    (sym (append_assoc c.args.pending.now.items text rest))
+    (sym (append_assoc c.args.pending.now.items (m.text c.args.machine.now (head line)) rest))
 
 pub returns-in_err-pass_rest-clause-printed : goal.returns-in_err-pass_rest-clause-printed
 returns-in_err-pass_rest-clause-printed g c =
-    let m = g.M.LineMachine.machine in
     let line : List ℕ = c.args.line.now in
-    let text = m.text c.args.machine.now (head line) in
+    let text = g.M.LineMachine.machine.text c.args.machine.now (head line) in
     let part = part_of c.in_ok-rest.rest line in
     let some : is_none c.in_ok-rest.rest ≡ false = search rules in
     let rest = rest_of-part c.in_ok-rest.rest _ line some c.in_ok-rest.ensures.rest in
@@ -28,9 +26,8 @@ returns-in_err-pass_rest-clause-printed g c =
 
 pub returns-clause-printed : goal.returns-clause-printed
 returns-clause-printed g c =
-    let m = g.M.LineMachine.machine in
     let line : List ℕ = c.args.line.now in
-    let text = m.text c.args.machine.now (head line) in
+    let text = g.M.LineMachine.machine.text c.args.machine.now (head line) in
     let part = part_of c.in_ok-rest.rest line in
     let some : is_none c.in_ok-rest.rest ≡ false = search rules in
     let rest = rest_of-part c.in_ok-rest.rest _ line some c.in_ok-rest.ensures.rest in
