@@ -1,6 +1,6 @@
 -- What `check` does with a line where no values are compared and all fit.
-use Rattle.std.proofs.Common.{◌≡◌, ◌∙◌, ℕ, ℤ, ◌++◌, Bool, true, false, List, [], refl, sym, ap, append-nil, if◌then◌else◌}
-use Rattle.std.proofs.lemmas.Bool.{and_parts, not-true, true≢false}
+use Rattle.std.proofs.Common.{◌≡◌, ◌∙◌, ℕ, ℤ, ◌++◌, Bool, true, false, List, [], refl, sym, ap, append-nil, if◌then◌else◌, arith}
+use Rattle.std.proofs.lemmas.Bool.{and_parts, true≢false}
 use Rattle.std.specs.Prelude.{Option, Some, None, is_some, int_lt, ◌&&◌, ◌||◌}
 use Rattle.speedate_scan.specs.Scan.{bad_of, counted, first_after, first_found, is_found}
 use Rattle.speedate_scan.specs.Scan.{is_stopped, line_of, passed, settled, valued}
@@ -22,14 +22,11 @@ record IsPlain (check : Check) : Type 0 where
 
 plain : (check : Check) → is_plain check ≡ true → IsPlain check
 plain check is =
-    let first = and_parts _ _ is in
-    let second = and_parts _ _ first.1 in
-    let third = and_parts _ _ second.1 in
     record {
-      alone = not-true (compares check) first.0;
-      any = second.0;
-      came = third.0;
-      goes_on = not-true (is_stopped check.order.scan.stop) third.1;
+      alone = grind (arith, is);
+      any = grind (arith, is);
+      came = grind (arith, is);
+      goes_on = grind (arith, is);
     }
 
 any_of : (offsets : Offsets) → takes_any offsets ≡ true → offsets ≡ Offsets.Any
@@ -46,9 +43,7 @@ no_report : (late : Bool) (gap : Option ℤ) (instant : ℤ) (latest : Latest) (
     → (late || is_some gap) ≡ false
     → (if late && int_lt instant latest.instant then first
     else if is_after_gap gap instant (Some latest) then second else []) ≡ []
-no_report true gap instant latest first second is = cc
-no_report false (Some gap) instant latest first second is = cc
-no_report false None instant latest first second is = refl
+no_report late gap instant latest first second is = grind arith
 
 no_value_report : (check : Check) (instant : ℤ) (latest : Option Latest) → compares check ≡ false
     → value_report check instant latest ≡ []
@@ -80,9 +75,7 @@ pub plain_bad_text : (check : Check) (line items : List ℕ) (bad : Bad)
     → bad_of (line_of check.order.scan line) ≡ Some bad
     → items ++ bad_report check.order.scan bad
     ≡ items ++ check_text check (line_of check.order.scan line)
-plain_bad_text check line items bad is =
-    ap (λ (what : LineKind). items ++ check_text check what)
-    (bad_line (line_of check.order.scan line) bad is)
+plain_bad_text check line items bad is = rw (← bad_line (line_of check.order.scan line) bad is) refl
 
 -- What is known after a line.
 
@@ -126,8 +119,7 @@ line_after check line is = rw is refl
 
 pub plain_after : (check : Check) (line : List ℕ) → is_plain check ≡ true
     → bad_of (line_of check.order.scan line) ≡ None
-    → with_scan check (counted check.order.scan)
-    ≡ check_after check (line_of check.order.scan line)
+    → with_scan check (counted check.order.scan) ≡ check_after check (line_of check.order.scan line)
 plain_after check line is none =
     let parts = plain check is in
     let what : LineKind = line_of check.order.scan line in

@@ -1,5 +1,5 @@
 -- What the machine of `between` prints is entries, kept or dropped whole.
-use Rattle.std.proofs.Common.{◌≡◌, ℕ, Bool, true, false, List, [], ◌∷◌, ◌++◌, refl, ap, sym, arith, append_assoc, length, drop, min}
+use Rattle.std.proofs.Common.{◌≡◌, ℕ, Bool, true, false, List, [], ◌∷◌, ◌++◌, refl, sym, arith, append_assoc, length, drop, min}
 use Rattle.std.proofs.lemmas.Bool.{and_parts, and_right, both_ways, ne_eqb, not-true}
 use Rattle.std.specs.Prelude.{◌&&◌, ◌==◌, not, Some, None, if◌then◌else◌}
 use Rattle.speedate.specs.Ascii.{line_feed}
@@ -42,9 +42,7 @@ pub line_is_header : (scan : Scan) (line : List ℕ) → awaits_header scan ≡ 
 unfolding line_of
 line_is_header scan line awaited =
     let parts = and_parts _ _ awaited in
-    let goes_on = not-true (is_stopped scan.stop) parts.0 in
-    let header = parts.1 in
-    rw (goes_on, header) refl
+    rw (not-true (is_stopped scan.stop) parts.0, parts.1) refl
 
 -- What is printed of one line.
 
@@ -56,26 +54,20 @@ from_front line = let none : min 0 (length (head line)) ≡ 0 = omega arith in r
 whole_line : (test : Bool) (prefix line : List ℕ)
     → (if test then prefix else []) ++ rest_of (if test then Some 0 else None) line
     ≡ (if test then prefix ++ (line ++ line_feed ∷ []) else [])
-whole_line true prefix line =
-    ap (λ (text : List ℕ). prefix ++ (text ++ line_feed ∷ [])) (from_front line)
+whole_line true prefix line = rw (from_front line) refl
 whole_line false prefix line = refl
 
 -- a line with a value begins an entry
 begins_entry : (lies is_kept : Bool) (text rest others : List ℕ)
     → (if lies then text else []) ++ ((if lies then rest else []) ++ others)
     ≡ (if is_kept then [] else []) ++ ((if lies then text ++ rest else []) ++ others)
-begins_entry true true text rest others = sym (append_assoc text rest others)
-begins_entry true false text rest others = sym (append_assoc text rest others)
-begins_entry false true text rest others = refl
-begins_entry false false text rest others = refl
+begins_entry lies is_kept text rest others = grind (arith, append_assoc text rest others)
 
 -- a line without a value belongs to the entry before it
 joins_entry : (is_kept kept : Bool) (text rest others : List ℕ)
     → (if is_kept && kept then text else []) ++ ((if is_kept then rest else []) ++ others)
     ≡ (if is_kept then (if kept then text else []) ++ rest else []) ++ others
-joins_entry true true text rest others = sym (append_assoc text rest others)
-joins_entry true false text rest others = refl
-joins_entry false kept text rest others = refl
+joins_entry is_kept kept text rest others = grind (arith, append_assoc text rest others)
 
 -- what a line that is no header adds to what is printed of the lines after it
 one_line : (between : Between) (line : List ℕ) (what : LineKind) (lines : List Marked)
@@ -100,8 +92,7 @@ one_line between line what lines came may =
 
 -- what is printed of no lines
 pub nothing : (is_kept : Bool) → let none : List ℕ = [] in (if is_kept then [] else []) ++ [] ≡ none
-nothing true = refl
-nothing false = refl
+nothing is_kept = grind arith
 
 -- after the header the machine prints entries
 prints_entries : (between : Between) (lines : List (List ℕ)) → awaits_header between.scan ≡ false
@@ -120,10 +111,9 @@ prints_file : (between : Between) (line : List ℕ) (lines : List (List ℕ)) (a
     → awaits_header between.scan ≡ awaits
     → lines_output between_machine between (line ∷ lines) ≡ file_text between (line ∷ lines)
 prints_file between line lines true awaited =
-    let is_header = line_is_header between.scan (head line) awaited in
     let later = prints_entries (between_after between LineKind.Header) lines
     (header_passed between.scan) in
-    rw (awaited, is_header, later, from_front) refl
+    rw (awaited, line_is_header between.scan (head line) awaited, later, from_front) refl
 prints_file between line lines false came = rw came (prints_entries between (line ∷ lines) came)
 
 -- `between` prints of a file its header, and the entries whose value lies between the bounds

@@ -131,8 +131,7 @@ number_after scan (line ∷ lines) goes_on fits =
     let what : LineKind = line_of scan (head line) in
     let one = line_number scan what (line_of_may scan (head line))
     (went_on scan (line ∷ lines) goes_on) in
-    let later = number_after (passed scan what) lines goes_on (omega (arith, one)) in
-    omega (arith, one, later)
+    omega (arith, one, number_after (passed scan what) lines goes_on (omega (arith, one)))
 
 -- after the header no smaller number of lines is known
 more_came : (stopped header : Bool) (one other : ℕ)
@@ -301,23 +300,16 @@ module _ (between : Between) (text : List ℕ) (begin start end number : ℕ)
   counted = ap length (lines_complete (part text begin start) start_parts.0)
 
   more : between.scan.number ≤ number
-  more = elim number_is [
-    | inl is ↦ omega (arith, is, fits)
-    | inr (is, none) ↦ omega (arith, is)
-  ]
+  more = grind (arith, number_is, fits)
 
   none_number : skipped ≡ [] → number ≡ between.scan.number
-  none_number none = elim number_is [
-    | inl is ↦ omega (arith, is, counted, ap length none, fits)
-    | inr (is, none) ↦ is
-  ]
+  none_number none = grind (arith, number_is, counted, ap length none, fits)
 
   shown_number : is_stopped (scan_after between.scan skipped).stop ≡ false
       → between.prefix.has_number ≡ true → (scan_after between.scan skipped).number ≡ number
-  shown_number goes_on shown = elim number_is [
-    | inl is ↦ omega (arith, is, counted, number_after between.scan skipped goes_on fits)
-    | inr (is, none) ↦ absurd (true≢false (sym shown ∙ none))
-  ]
+  shown_number goes_on shown =
+      let after = number_after between.scan skipped goes_on fits in
+      grind (arith, number_is, counted, after, shown)
 
   part_printed : IsInOrder between (lines (drop begin text))
       → file_text (record between { scan = record between.scan { number = number } }) middle
@@ -357,26 +349,22 @@ pub numbers-moved : (before found : Between) (known : Option (List ℕ)) (begin 
     → IfSome known (λ text. HasNumbers before (record found { scan = scan }) text begin start)
 numbers-moved before found None begin start skipped scan more none count is = tt
 numbers-moved before found (Some text) begin start skipped scan more none count is =
-    let new = lt-ltb before.scan.bad found.scan.bad more in
     let all : skipped ≡ min (length (complete_lines (part text begin start))) (2 ^ 64 - 1) =
     rw zero-add at count in
-    inr (found, rw (is, all, new, none) refl)
+    inr (found, rw (is, all, lt-ltb before.scan.bad found.scan.bad more, none) refl)
 
 pub numbers-kept : (before found : Between) (known : Option (List ℕ)) (begin start : ℕ)
     → (found.scan.bad ≤ before.scan.bad) ⊎ (found.prefix.has_number ≡ true)
     → IfSome known (λ text. HasNumbers before found text begin start)
 numbers-kept before found None begin start why = tt
 numbers-kept before found (Some text) begin start (inl none) =
-    let new = le-ltb before.scan.bad found.scan.bad none in
-    inr (found, rw new refl)
-numbers-kept before found (Some text) begin start (inr shown) =
-    inr (found, grind arith)
+    inr (found, rw (le-ltb before.scan.bad found.scan.bad none) refl)
+numbers-kept before found (Some text) begin start (inr shown) = inr (found, grind arith)
 
 -- a run over the part that was found prints what a run over all lines prints
 pub prints-rest : (before after : Between) (known old new : Option (List ℕ))
     (begin start end number : ℕ) → begin ≤ start → before.scan.number < 2 ^ 64
-    → StartsAt before known begin start
-    → EndsAt before known start end
+    → StartsAt before known begin start → EndsAt before known start end
     → IfSome known (λ text. IsNumber before text begin start number)
     → IfSome known (λ text. EndsBounded (record before {
       scan = record before.scan { number = number };

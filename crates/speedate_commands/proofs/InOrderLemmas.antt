@@ -6,7 +6,7 @@ use Rattle.std.proofs.lemmas.Option.{cond_some}
 use Rattle.std.specs.Prelude.{◌&&◌, ◌==◌, not, int_le, Option, Some, None, is_some, decimal, if◌then◌else◌}
 use Rattle.speedate_stream.specs.Machine.{head}
 use Rattle.speedate_stream.specs.Watch.{one_more}
-use Rattle.speedate_scan.specs.Print.{prefix_text, shown_name, with_colon}
+use Rattle.speedate_scan.specs.Print.{prefix_text, with_colon}
 use Rattle.speedate_scan.specs.Reading.{read}
 use Rattle.speedate_scan.specs.Scan.{fits, has_as, has_offsets, is_stopped, judged, keeps, line_of}
 use Rattle.speedate_scan.specs.Scan.{passed, settled, stop_at_bad}
@@ -14,8 +14,7 @@ use Rattle.speedate_scan.specs.Entries.{Entry, Marked, entries, entry_and, mark,
 use Rattle.speedate_scan.specs.Entries.{up_to_value}
 use Rattle.speedate_scan.specs.declared.scan.BadLines.{BadLines}
 use Rattle.speedate_commands.specs.Base.{Found, LineKind, Offsets, Prefix, Reading, Scan, Stop}
-use Rattle.speedate_commands.specs.Between.{Bounds, awaits_header, entries_text, entry_text}
-use Rattle.speedate_commands.specs.Between.{is_begun, is_open}
+use Rattle.speedate_commands.specs.Between.{Bounds, awaits_header, entries_text, is_begun, is_open}
 use Rattle.speedate_commands.specs.InOrder.{AreInOrder, NoneIsBefore, is_settled, line_value}
 use Rattle.speedate_commands.specs.InOrder.{scan_after, value_in}
 use Rattle.speedate_commands.proofs.EntryLemmas.{header_came}
@@ -76,8 +75,7 @@ after_second bounds [] entry others after ordered =
     let lies = and_right (is_begun bounds.from entry.instant) _ after in
     rw lies (none_open bounds entry.instant others after ordered.0)
 after_second bounds (first ∷ some) entry others after ordered =
-    ap (λ (text : List ℕ). entry_text bounds first ++ text)
-    (after_second bounds some entry others after ordered.1)
+    rw (after_second bounds some entry others after ordered.1) refl
 
 -- Marked lines whose first one has a value begin an entry.
 
@@ -85,8 +83,7 @@ after_second bounds (first ∷ some) entry others after ordered =
 up_to_value-append : (some others : List Marked) → up_to_value others ≡ []
     → up_to_value (some ++ others) ≡ up_to_value some
 up_to_value-append [] others begins = begins
-up_to_value-append (line ∷ some) others begins =
-    rw (up_to_value-append some others begins) refl
+up_to_value-append (line ∷ some) others begins = rw (up_to_value-append some others begins) refl
 
 entry_and-append : (what : LineKind) (line : Marked) (some others : List Marked)
     (first second : List Entry) → up_to_value others ≡ []
@@ -115,8 +112,7 @@ pub record BeginsEntry (P : ℤ → Type 0) (lines : List Marked) : Type 0 where
 -- the entries of lines before lines that begin with an entry
 apart : (P : ℤ → Type 0) (some lines : List Marked) (begins : BeginsEntry P lines)
     → entries (some ++ lines) ≡ entries some ++ begins.entry ∷ begins.later
-apart P some lines begins =
-    entries-append some lines begins.none ∙ ap (λ (l : List Entry). entries some ++ l) begins.are
+apart P some lines begins = entries-append some lines begins.none ∙ rw begins.are refl
 
 -- the lines before an entry whose value is before the first bound are not printed
 pub skipped_lines : (bounds : Bounds) (some lines : List Marked)
@@ -151,8 +147,7 @@ pub marked-append : (prefix : Prefix) (scan : Scan) (some others : List (List �
 marked-append prefix scan [] others = refl
 marked-append prefix scan (line ∷ some) others =
     let what : LineKind = line_of scan (head line) in
-    ap (λ (l : List Marked). mark prefix scan line what ∷ l)
-    (marked-append prefix (passed scan what) some others)
+    rw (marked-append prefix (passed scan what) some others) refl
 
 pub scan_after-append : (scan : Scan) (some others : List (List ℕ))
     → scan_after scan (some ++ others) ≡ scan_after (scan_after scan some) others
@@ -280,9 +275,8 @@ value_line : (start scan : Scan) (line : List ℕ) (instant : ℤ)
 unfolding line_of
 value_line start scan line instant value runs goes_on =
     let came : (scan.has_header && (scan.number == 0)) ≡ false = rw goes_on at runs.came in
-    let reader = ap (λ (now : Scan). now.reader) (sym runs.same) in
     let fit = runs.asked.fit value.found ∙ value.has in
-    rw (goes_on, came, reader, value.reads, fit) refl
+    rw (goes_on, came, ap (λ (now : Scan). now.reader) (sym runs.same), value.reads, fit) refl
 
 -- and begins an entry
 pub begins_entry : (prefix : Prefix) (start : Scan) (P : ℤ → Type 0) (scan : Scan)
@@ -360,9 +354,7 @@ prefix_same : (prefix : Prefix) (name : List ℕ) (one other : ℕ)
     → (prefix.has_number ≡ true → one ≡ other)
     → prefix_text prefix name (one_more one) ≡ prefix_text prefix name (one_more other)
 unfolding prefix_text
-prefix_same prefix name one other same =
-    ap (λ (text : List ℕ). with_colon prefix.has_name (shown_name name) ++ text)
-    (numbered prefix.has_number one other same)
+prefix_same prefix name one other same = rw (numbered prefix.has_number one other same) refl
 
 -- nor does how it is marked
 mark_cleared : (prefix : Prefix) (scan : Scan) (line : List ℕ) (what : LineKind)
@@ -422,11 +414,10 @@ marked_found prefix start P number now (line ∷ lines) others runs begins goes_
     let later = sym (marked_cleared prefix (passed now what) lines (header_came now what runs.came))
     ∙ ap (λ (next : Scan). marked prefix next lines) alike
     ∙ marked_cleared prefix (passed other what) lines (header_came other what begins.came) in
-    let name = ap (λ (scan : Scan). scan.name.now) (sym runs.same) in
     rw (
       value_line start now line begun.0 value runs goes_on,
       value_line start other line begun.0 value begins went,
       later,
-      name,
+      ap (λ (scan : Scan). scan.name.now) (sym runs.same),
       prefix_same prefix start.name.now now.number number same,
     ) refl

@@ -1,5 +1,5 @@
 -- What the machines of `check` and `convert` print of lines.
-use Rattle.std.proofs.Common.{◌≡◌, ℕ, Bool, true, false, List, [], ◌∷◌, ◌++◌, refl, ap, append_assoc, take}
+use Rattle.std.proofs.Common.{◌≡◌, ℕ, Bool, true, false, List, [], ◌∷◌, ◌++◌, refl, append_assoc, take}
 use Rattle.std.proofs.lemmas.List.{append-nil}
 use Rattle.std.specs.Prelude.{Some, None, if◌then◌else◌}
 use Rattle.speedate_stream.specs.Machine.{head, lines_output, rest_of}
@@ -16,15 +16,13 @@ pub check_prints : (check : Check) (lines : List (List ℕ))
 check_prints check [] = refl
 check_prints check (line ∷ lines) =
     let what : LineKind = line_of check.order.scan (head line) in
-    let later = check_prints (check_after check what) lines in
-    rw (append-nil, later) refl
+    rw (append-nil, check_prints (check_after check what) lines) refl
 
 -- a line that is printed as it is, if it is printed
 as_it_is : (test : Bool) (prefix line : List ℕ)
     → (if test then prefix ++ [] else []) ++ rest_of (if test then Some 0 else None) line
     ≡ (if test then prefix ++ rest_of (Some 0) line else [])
-as_it_is true prefix line =
-    ap (λ (text : List ℕ). text ++ rest_of (Some 0) line) (append-nil prefix)
+as_it_is true prefix line = rw (append-nil prefix) refl
 as_it_is false prefix line = refl
 
 joined : (a b c d : List ℕ) → (a ++ (b ++ c)) ++ d ≡ ((a ++ b) ++ c) ++ d
@@ -37,8 +35,7 @@ one_line convert line (LineKind.Value found) =
     joined (line_prefix convert) (take found.from (head line))
     (text_of convert (head line) found (written_of convert (head line) (LineKind.Value found)))
     (rest_of (Some found.to) line)
-one_line convert line what =
-    as_it_is (keeps convert.scan what) (line_prefix convert) line
+one_line convert line what = as_it_is (keeps convert.scan what) (line_prefix convert) line
 
 -- `convert` prints each line with its value written anew
 pub convert_prints : (convert : Convert) (lines : List (List ℕ))

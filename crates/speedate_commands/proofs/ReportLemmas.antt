@@ -1,5 +1,5 @@
 -- Reports of lines before which others were not read.
-use Rattle.std.proofs.Common.{◌≡◌, ap, refl, ℕ, zero, suc, ◌<◌, ◌≤◌, List, [], ◌∷◌, get_or, set, arith}
+use Rattle.std.proofs.Common.{◌≡◌, refl, ℕ, zero, suc, ◌<◌, ◌≤◌, List, [], ◌∷◌, get_or, set, arith}
 use Rattle.speedate.specs.Base.{ParseError}
 use Rattle.speedate_commands.specs.Base.{Report, Why}
 use Rattle.speedate_commands.specs.InOrder.{later, moved}
@@ -15,8 +15,7 @@ moved-kept zero (suc first) skipped [] before = refl
 moved-kept zero (suc first) skipped (report ∷ reports) before = refl
 moved-kept (suc count) (suc first) skipped [] before = refl
 moved-kept (suc count) (suc first) skipped (report ∷ reports) before =
-    ap (λ (l : List Report). report ∷ l)
-    (moved-kept count first skipped reports (omega (arith, before)))
+    rw (moved-kept count first skipped reports (omega (arith, before))) refl
 
 pub moved-next : (count first skipped : ℕ) (reports : List Report) (d : Report) → first ≤ count
     → set (moved count first skipped reports) count
@@ -27,8 +26,6 @@ moved-next zero zero skipped (report ∷ reports) d from = refl
 moved-next zero (suc first) skipped (report ∷ reports) d from = absurd (omega (arith, from))
 moved-next (suc count) first skipped [] d from = refl
 moved-next (suc count) zero skipped (report ∷ reports) d from =
-    ap (λ (l : List Report). later skipped report ∷ l)
-    (moved-next count zero skipped reports d (omega arith))
+    rw (moved-next count zero skipped reports d (omega arith)) refl
 moved-next (suc count) (suc first) skipped (report ∷ reports) d from =
-    ap (λ (l : List Report). report ∷ l)
-    (moved-next count first skipped reports d (omega (arith, from)))
+    rw (moved-next count first skipped reports d (omega (arith, from))) refl

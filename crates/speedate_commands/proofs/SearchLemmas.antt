@@ -1,5 +1,5 @@
 -- Parts of a text, as they are read from it block by block.
-use Rattle.std.proofs.Common.{◌≡◌, ◌∙◌, ℕ, ℤ, ◌+◌, ◌-◌, ◌^◌, ◌<◌, ◌≤◌, Bool, List, [], ◌∷◌, ◌++◌, refl, ap, sym, arith, length, take, take-add, drop, min, slice_index, inl, inr}
+use Rattle.std.proofs.Common.{◌≡◌, ◌∙◌, ℕ, ℤ, ◌+◌, ◌-◌, ◌^◌, ◌<◌, ◌≤◌, Bool, List, [], ◌∷◌, ◌++◌, refl, ap, sym, arith, length, take, take-add, drop, min, slice_index}
 use Rattle.std.proofs.lemmas.List.{take-take, drop-take, drop-drop, length-take, length-drop, length-append, take-append-le, take_all, nil_from_length, get_or-take, get_or-drop}
 use Rattle.std.specs.Prelude.{◌⊎◌, Option, Some, None, IfSome}
 use Rattle.std.specs.Option.{SomeIff}
@@ -18,8 +18,7 @@ pub part-joined : (text : List ℕ) (from count to : ℕ)
     → to - from ≡ count + (to - (from + count))
     → part text from to ≡ take count (drop from text) ++ part text (from + count) to
 part-joined text from count to sizes =
-    ap (λ (n : ℕ). take n (drop from text)) sizes
-    ∙ rw (take-add count (to - (from + count)) (drop from text), drop-drop) refl
+    rw sizes (rw (take-add count (to - (from + count)) (drop from text), drop-drop) refl)
 
 pub part-grown : (text : List ℕ) (from at count : ℕ) → from ≤ at
     → part text from (at + count) ≡ part text from at ++ take count (drop at text)
@@ -30,12 +29,9 @@ part-grown text from at count ordered =
 
 pub part-empty : (text : List ℕ) (from to : ℕ) → (length text ≤ from) ⊎ (to ≤ from)
     → part text from to ≡ []
-part-empty text from to (inl past) =
-    nil_from_length (part text from to)
-    (omega (arith, past, length-take (to - from) (drop from text), length-drop from text))
-part-empty text from to (inr none) =
-    nil_from_length (part text from to)
-    (omega (arith, none, length-take (to - from) (drop from text)))
+part-empty text from to none =
+    let size = length-take (to - from) (drop from text) in
+    nil_from_length (part text from to) (grind (arith, none, size, length-drop from text))
 
 pub part-past : (text : List ℕ) (from to : ℕ) → length text ≤ to
     → part text from to ≡ drop from text
@@ -55,8 +51,7 @@ pub window-read : (known : Option (List ℕ)) (at end count size : ℕ) (buffer 
     → Consumes (known_part known at end) (known_part known (at + count) end)
     (take count (buffer ++ rest))
     × (count ≡ 0 → 0 < length (buffer ++ rest) → IsAtEnd (known_part known (at + count) end))
-window-read None at end count size buffer rest is_read within room whole =
-    (tt, λ none some. tt)
+window-read None at end count size buffer rest is_read within room whole = (tt, λ none some. tt)
 window-read (Some text) at end count size buffer rest is_read within room whole = (
   part-joined text at count end (omega (arith, within, room))
       ∙ ap (λ (l : List ℕ). l ++ part text (at + count) end)
@@ -162,8 +157,7 @@ no_feed-more (Some text) block at count next is_read before here size less = λ 
 
 pub feed-checked : (known : Option (List ℕ)) (block : List ℕ) (at count end : ℕ)
     (result : Option ℕ) (P : Type 0) → IsRead known at count block → HasNoFeed known at
-    → IsLineEnd (take count block) 0 end
-    → SomeIff result P (at + (end + 1))
+    → IsLineEnd (take count block) 0 end → SomeIff result P (at + (end + 1))
     → IfSome result (λ place. IfSome known (λ text. EndsFirstLine text place))
 feed-checked known block at count end None P is_read before found is = tt
 feed-checked None block at count end (Some place) P is_read before found is = tt

@@ -25,8 +25,7 @@ kept_or_not false total numbers later None is = tt
 
 after_one : (total : Option ℤ) (amount : Result DurationNumbers LineKind)
     (later : List DurationNumbers) (after : Option ℤ)
-    → IsExact (total_after total amount) later after
-    → IsExact total (with_first amount later) after
+    → IsExact (total_after total amount) later after → IsExact total (with_first amount later) after
 after_one (Some total) (Ok numbers) later after is = kept_or_not _ total numbers later after is
 after_one None (Ok numbers) later (Some after) is = is
 after_one None (Ok numbers) later None is = tt

@@ -1,11 +1,11 @@
 -- Where the fields of a line are.
 use Rattle.std.proofs.Common.{◌≡◌, ◌≢◌, ◌∙◌, ℕ, ◌+◌, ◌-◌, ◌<◌, ◌≤◌, zero, suc, Bool, List, [], ◌∷◌, length, take, drop, true, false, Some, None, refl, ap, arith, get_or, length-drop, inl, inr}
 use Rattle.std.proofs.Math.ListN.{get_or-eq_default}
-use Rattle.std.proofs.lemmas.Bool.{cases_lt}
+use Rattle.std.proofs.lemmas.Bool.{cases_lt, le-ltb, lt-ltb, ne_eqb}
 use Rattle.std.proofs.lemmas.Bool.Decides.{nat_tests}
-use Rattle.std.specs.Prelude.{◌==◌, nat_lt, slice_index}
+use Rattle.std.specs.Prelude.{◌==◌, slice_index}
 use Rattle.std.specs.List.{position, position_or_len}
-use Rattle.std.proofs.lemmas.List.{drop_all, take_rest}
+use Rattle.std.proofs.lemmas.List.{drop_all, get_or-drop, take_rest}
 use Rattle.std.proofs.lemmas.List.Sums.{prefix_len-le-length}
 use Rattle.speedate_scan.specs.Field.{before_quote, field_after, field_at, next_separator}
 use Rattle.speedate_scan.proofs.WordLemmas.{parts_at}
@@ -17,9 +17,6 @@ quote_within text place is = elim (cases_lt place (length text)) [
   | inr past ↦ let none : slice_index text place ≡ 0 = get_or-eq_default text 0 past in
       omega (arith, is, none)
 ]
-
-is_other : (byte : ℕ) → byte ≢ 34 → (byte == 34) ≡ false
-is_other byte other = grind (arith, nat_tests)
 
 is_quote : (byte : ℕ) → byte ≡ 34 → (byte == 34) ≡ true
 is_quote byte same = grind (arith, nat_tests)
@@ -55,7 +52,7 @@ pub quote_later : (text : List ℕ) (place : ℕ) → place < length text → ge
 quote_later text place within other =
     ap before_quote (parts_at text place within)
     ∙ other_first (get_or text place 0) (drop (place + 1) text)
-    (is_other (get_or text place 0) other)
+    (ne_eqb (get_or text place 0) 34 other)
 
 -- a doubled quote is passed
 pub quote_doubled : (text : List ℕ) (place : ℕ) → place + 1 < length text
@@ -72,17 +69,14 @@ quote_doubled text place within first second =
 
 -- the byte after a place, as the first one of what follows it
 first_after : (text : List ℕ) (place : ℕ) → get_or (drop place text) 0 0 ≡ get_or text place 0
-first_after [] zero = refl
-first_after [] (suc place) = refl
-first_after (byte ∷ bytes) zero = refl
-first_after (byte ∷ bytes) (suc place) = first_after bytes place
+first_after text place = get_or-drop place text 0 0 ∙ ap (λ (n : ℕ). get_or text n 0) (omega arith)
 
 -- a quote that is not doubled closes the field
 pub quote_here : (text : List ℕ) (place : ℕ) → place < length text → get_or text place 0 ≡ 34
     → get_or text (place + 1) 0 ≢ 34 → before_quote (drop place text) ≡ 0
 quote_here text place within first other =
     let next : (get_or (drop (place + 1) text) 0 0 == 34) ≡ false =
-    rw (first_after text (place + 1)) (is_other (get_or text (place + 1) 0) other) in
+    rw (first_after text (place + 1)) (ne_eqb (get_or text (place + 1) 0) 34 other) in
     ap before_quote (parts_at text place within)
     ∙ single_first (get_or text place 0) (drop (place + 1) text)
     (is_quote (get_or text place 0) first) next
@@ -90,8 +84,7 @@ quote_here text place within first other =
 -- without a quote the field goes to the text's end
 pub quote_nowhere : (text : List ℕ) (place : ℕ) → length text ≤ place
     → before_quote (drop place text) ≡ 0
-quote_nowhere text place ended =
-    ap before_quote (drop_all place text ended) ∙ nothing_first
+quote_nowhere text place ended = ap before_quote (drop_all place text ended) ∙ nothing_first
 
 -- The next separator.
 
@@ -113,9 +106,8 @@ pub no_separator_from : (separator : ℕ) (text : List ℕ) (from : ℕ) → fro
     → None ≡ position (λ byte. byte == separator) (drop from text)
     → length text ≡ next_separator separator text from
 no_separator_from separator text from within none =
-    let all = no_separator (λ byte. byte == separator) (drop from text) none in
     let left = length-drop from text in
-    omega (arith, all, left)
+    omega (arith, no_separator (λ byte. byte == separator) (drop from text) none, left)
 
 pub no_separator_after : (separator : ℕ) (text : List ℕ) (from : ℕ) → from ≤ length text
     → None ≡ position (λ byte. byte == separator) (take (length text - from) (drop from text))
@@ -124,12 +116,6 @@ no_separator_after separator text from within none =
     no_separator_from separator text from within (rw take_rest at none)
 
 -- The field after others.
-
-is_less : (one other : ℕ) → one < other → nat_lt one other ≡ true
-is_less one other less = grind (arith, nat_tests)
-
-is_no_less : (one other : ℕ) → other ≤ one → nat_lt one other ≡ false
-is_no_less one other most = grind (arith, nat_tests)
 
 -- a field that is sought after others is sought after the first of them
 pub field_later : (separator : ℕ) (text : List ℕ) (start others : ℕ) → 0 < others
@@ -140,7 +126,7 @@ unfolding field_after
 field_later separator text start zero some within = absurd (omega arith)
 field_later separator text start (suc others) some within =
     let less : suc others - 1 ≡ others = omega arith in
-    rw (less, is_less (field_at separator text start).end (length text) within) refl
+    rw (less, lt-ltb (field_at separator text start).end (length text) within) refl
 
 -- no field comes after one that ends the text
 pub field_missing : (separator : ℕ) (text : List ℕ) (start others : ℕ) → 0 < others
@@ -149,7 +135,7 @@ pub field_missing : (separator : ℕ) (text : List ℕ) (start others : ℕ) →
 unfolding field_after
 field_missing separator text start zero some ended = absurd (omega arith)
 field_missing separator text start (suc others) some ended =
-    rw (is_no_less (field_at separator text start).end (length text) ended) refl
+    rw (le-ltb (field_at separator text start).end (length text) ended) refl
 
 -- a field that is sought after no others is the one that begins there
 pub field_here : (separator : ℕ) (text : List ℕ) (start others : ℕ) → others ≤ 0

@@ -37,8 +37,7 @@ pub run_ends : (text : List ℕ) (place : ℕ) → IsRunUpTo text place → plac
 run_ends text place run within front_is =
     let here : ends_duration (drop place text) ≡ true = rw take_rest at front_is in
     let size = ends_here (drop place text) _ _ (parts_at text place within) here in
-    let all = run.size in
-    omega arith
+    omega (arith, size, run.size)
 
 pub run_goes_on : (text : List ℕ) (place : ℕ) → IsRunUpTo text place → place < length text
     → ends_duration (take (length text - place) (drop place text)) ≡ false
@@ -46,8 +45,7 @@ pub run_goes_on : (text : List ℕ) (place : ℕ) → IsRunUpTo text place → p
 run_goes_on text place run within front_is_not =
     let later : ends_duration (drop place text) ≡ false = rw take_rest at front_is_not in
     let next = ends_later (drop place text) _ _ (parts_at text place within) later in
-    let all = run.size in
-    record { within = omega arith; size = omega arith }
+    record { within = omega arith; size = omega (arith, next, run.size) }
 
 nothing_at_end : length_to_end [] ≡ 0
 unfolding length_to_end
@@ -58,5 +56,4 @@ pub run_to_end : (text : List ℕ) (place : ℕ) → IsRunUpTo text place → le
 run_to_end text place run ended =
     let rest : length_to_end (drop place text) ≡ 0 =
     ap length_to_end (drop_all place text ended) ∙ nothing_at_end in
-    let all = run.size in
-    omega arith
+    omega (arith, rest, run.size)

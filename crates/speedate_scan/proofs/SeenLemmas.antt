@@ -13,10 +13,7 @@ seen_short head = omega (arith, length-take 4096 head)
 -- as many bytes as are within what is looked at
 pub length_before : (head : List ℕ) (from : ℕ) → from ≤ length (seen head)
     → length (take from head) ≡ from
-length_before head from within =
-    let seen_part = seen_within head in
-    let inside : from ≤ length head = omega arith in
-    length-take-le from head inside
+length_before head from within = length-take-le from head (omega (arith, seen_within head))
 
 no_longer : (test : Bool) (size : ℕ) (text : List ℕ)
     → length (if test then take size text else text) ≤ length text

@@ -28,10 +28,11 @@ pub search_begins : (wanted : Wanted) (word text : List ℕ) → IsSearchedUpTo 
 search_begins wanted word text =
     record { within = omega arith; found = nothing_passed (claim_after wanted word text) }
 
-one_further : (place : ℕ) (found : Option ℕ)
-    → moved_place place (moved_place 1 found) ≡ moved_place (place + 1) found
-one_further place None = refl
-one_further place (Some p) = ap Some (omega arith)
+-- what was moved is moved further
+place_after : (one other : ℕ) (found : Option ℕ)
+    → moved_place one (moved_place other found) ≡ moved_place (one + other) found
+place_after one other None = refl
+place_after one other (Some p) = ap Some (omega arith)
 
 -- a word that begins a text ends after itself
 word_here : (wanted : Wanted) (word text bytes : List ℕ) (byte : ℕ) → text ≡ (byte ∷ bytes)
@@ -57,8 +58,7 @@ parts_at text place within = drop-cons text place 0 within ∙ rw add-one refl
 
 -- a search ends where the word begins
 pub search_ends : (wanted : Wanted) (word text : List ℕ) (place : ℕ)
-    → IsSearchedUpTo wanted word text place
-    → place < length text
+    → IsSearchedUpTo wanted word text place → place < length text
     → begins_claim wanted word (take (length text - place) (drop place text)) ≡ true
     → Some (place + length word) ≡ claim_after wanted word text
 search_ends wanted word text place searched within front_is =
@@ -68,8 +68,7 @@ search_ends wanted word text place searched within front_is =
 
 -- a search goes on where the word does not begin
 pub search_goes_on : (wanted : Wanted) (word text : List ℕ) (place : ℕ)
-    → IsSearchedUpTo wanted word text place
-    → place < length text
+    → IsSearchedUpTo wanted word text place → place < length text
     → begins_claim wanted word (take (length text - place) (drop place text)) ≡ false
     → IsSearchedUpTo wanted word text (place + 1)
 search_goes_on wanted word text place searched within front_is_not =
@@ -78,7 +77,7 @@ search_goes_on wanted word text place searched within front_is_not =
     record {
       within = omega arith;
       found = searched.found ∙ ap (moved_place place) next
-          ∙ one_further place (claim_after wanted word (drop (place + 1) text));
+          ∙ place_after place 1 (claim_after wanted word (drop (place + 1) text));
     }
 
 nothing_at_end : (wanted : Wanted) (word : List ℕ) → claim_after wanted word [] ≡ None
@@ -93,21 +92,20 @@ search_fails wanted word text place searched ended =
     sym (searched.found ∙ ap (λ (l : List ℕ). moved_place place (claim_after wanted word l))
     (drop_all place text ended) ∙ ap (moved_place place) (nothing_at_end wanted word))
 
+no_claim : (wanted : Wanted) (word text : List ℕ) → begins_with word text ≡ false
+    → begins_claim wanted word text ≡ false
+no_claim wanted word text other = rw other refl
+
 one_byte_further : (place : ℕ) (found : Option ℕ)
     → moved_place 1 (moved_place place found) ≡ moved_place (suc place) found
 one_byte_further place None = refl
 one_byte_further place (Some p) = ap Some (omega arith)
 
-no_claim : (wanted : Wanted) (word text : List ℕ) → begins_with word text ≡ false
-    → begins_claim wanted word text ≡ false
-no_claim wanted word text other = rw other refl
-
 -- a search passes places at which the word does not begin
 pub search_passes : (wanted : Wanted) (word text : List ℕ) (count : ℕ) → count ≤ length text
     → ((k : ℕ) → k < count → begins_with word (drop k text) ≡ false)
     → claim_after wanted word text ≡ moved_place count (claim_after wanted word (drop count text))
-search_passes wanted word text zero short others =
-    nothing_passed (claim_after wanted word text)
+search_passes wanted word text zero short others = nothing_passed (claim_after wanted word text)
 search_passes wanted word [] (suc count) short others = absurd (omega arith)
 search_passes wanted word (byte ∷ bytes) (suc count) short others =
     let later = search_passes wanted word bytes count (omega arith)
@@ -128,10 +126,8 @@ pub other_byte : (byte : ℕ) (text : List ℕ) (k : ℕ) → k < 16 → 16 ≤ 
 other_byte byte text k within long unmarked =
     let test : ℕ → Bool = λ lane. lane == byte in
     let lanes = take 16 text in
-    let many = length-take-le 16 text long in
-    let lane = get_or-map test lanes k 0 false (omega (arith, many)) in
-    let same = get_or-take 16 text k 0 within in
-    sym (ap test same) ∙ sym lane
+    let lane = get_or-map test lanes k 0 false (omega (arith, length-take-le 16 text long)) in
+    sym (ap test (get_or-take 16 text k 0 within)) ∙ sym lane
     ∙ not_set (get_or (map test lanes) k false) _ (bit_mask_l (map test lanes) k) unmarked
 
 next_byte : (text : List ℕ) (k : ℕ) → get_or (drop 1 text) k 0 ≡ get_or text (k + 1) 0
@@ -175,13 +171,7 @@ pub lower_bit : (marks k : ℕ) → marks < 2 ^ 64 → k < count_trailing_zeros 
     → bit_at marks k ≡ 0
 lower_bit zero k small less = bit_at-zero k
 lower_bit (suc marks) k small less =
-    let lowest = bit_at-trailing_zeros w64 (suc marks) (omega arith) small in
-    lowest.2 k less
-
-place_after : (one other : ℕ) (found : Option ℕ)
-    → moved_place one (moved_place other found) ≡ moved_place (one + other) found
-place_after one other None = refl
-place_after one other (Some p) = ap Some (omega arith)
+    (bit_at-trailing_zeros w64 (suc marks) (omega arith) small).2 k less
 
 -- a search goes on after bytes that were passed
 pub search_skips : (wanted : Wanted) (word text : List ℕ) (place passed : ℕ)

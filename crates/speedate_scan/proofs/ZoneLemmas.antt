@@ -9,19 +9,14 @@ use Rattle.std.proofs.lemmas.Bool.{or_parts}
 use Rattle.std.proofs.lemmas.Bool.Decides.{nat_tests}
 use Rattle.std.proofs.lemmas.List.{drop-drop}
 use Rattle.speedate.specs.Requirement.{result_and_then, shifted}
-use Rattle.speedate.specs.Time.{Clock, TimeOfDay, clock_front}
-use Rattle.speedate.specs.Time.{clock_with_offset}
-use Rattle.speedate.specs.Time.{has_minus_sign, is_plus_or_minus, is_utc}
-use Rattle.speedate.specs.Time.{offset_front, signed_front}
+use Rattle.speedate.specs.Time.{Clock, TimeOfDay, clock_front, clock_with_offset, has_minus_sign}
+use Rattle.speedate.specs.Time.{is_plus_or_minus, is_utc, offset_front, signed_front}
 use Rattle.speedate.specs.Ascii.{capital_z, hyphen}
 use Rattle.speedate_base.specs.declared.refusal.Refused.{Refused}
 use Rattle.speedate_scan.specs.Reading.{relaxed_front, with_late_zone, zoned}
 use Rattle.speedate_base.proofs.RefusalLemmas.{seen-read}
 use Rattle.speedate_scan.specs.Zone.{begins_with, capital_g, capital_u, late_zone, may_begin_zone}
-use Rattle.speedate_scan.specs.Zone.{no_zone}
-use Rattle.speedate_scan.specs.Zone.{signed_zone, utc_zone}
-use Rattle.speedate_scan.specs.Zone.{zone_after_blank}
-use Rattle.speedate_scan.specs.Zone.{zone_front}
+use Rattle.speedate_scan.specs.Zone.{no_zone, signed_zone, utc_zone, zone_after_blank, zone_front}
 
 -- an offset that the library reads after a sign is the zone there
 signed_read : (start sign : ℕ) (west : Bool) (numbers : List ℕ) (zone : Option ℤ × ℕ)
@@ -56,10 +51,7 @@ read_as value = Ok value
 abbrev none : Option ℤ
 none = None
 
-front_of : (one other : DateAndTime × ℕ) → read_as one ≡ Ok other → one ≡ other
-front_of one other same = cc
-
-value_of : (one other : Option ℤ × ℕ) → read_as one ≡ Ok other → one ≡ other
+value_of : {A : Type 0} (one other : A) → read_as one ≡ Ok other → one ≡ other
 value_of one other same = cc
 
 by_sign : (plus utc minus : Bool)
@@ -159,7 +151,7 @@ after_clock : (text : List ℕ) (date : Ymd) (clock : Clock) (front : DateAndTim
 after_clock text date clock front (Ok zone) there read =
     let zone_is = offset_read (11 + clock.size) (drop (11 + clock.size) text) zone there in
     let whole = zoned_late text date clock zone there in
-    let same = front_of _ _ read in
+    let same = value_of _ _ read in
     rw zone_is (ap Ok whole ∙ ap (λ (f : DateAndTime × ℕ). Ok (with_late_zone text f)) same)
 after_clock text date clock front (Err refused) there read = cc
 

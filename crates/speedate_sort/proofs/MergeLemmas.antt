@@ -42,8 +42,7 @@ least-first (b ∷ bs) x others first after =
 -- lines that are in order are all lines up to the first one that is not
 risen_after-all : (i : ℤ) (xs : List Keyed) → AreInOrderAfter i xs → risen_after i xs ≡ xs
 risen_after-all i [] ordered = refl
-risen_after-all i (x ∷ xs) ordered =
-    rw (ordered.0, risen_after-all x.instant xs ordered.1) refl
+risen_after-all i (x ∷ xs) ordered = rw (ordered.0, risen_after-all x.instant xs ordered.1) refl
 
 risen_joined-all : (files : List (List Keyed)) → AreAllInOrder files
     → risen_joined files ≡ joined files
@@ -97,8 +96,7 @@ risen_joined-values P up ([] ∷ others) begin = risen_joined-values P up others
 risen_joined-values P up ((x ∷ xs) ∷ others) begin = (
   begin.0,
   Each-append (λ line. P line.instant) (risen_after x.instant xs) (risen_joined others)
-      (risen_after-values P up x.instant xs begin.0)
-      (risen_joined-values P up others begin.1),
+      (risen_after-values P up x.instant xs begin.0) (risen_joined-values P up others begin.1),
 )
 
 -- The best of files.
@@ -123,8 +121,7 @@ IsBest (Some best) files = IsFirst best.index best.instant files
 
 -- a further file does not begin before the best one
 best-stays : (index : ℕ) (i : ℤ) (files : List (List Keyed)) (lines : List Keyed)
-    → IsFirst index i files → Begins (IsNotBefore i) lines
-    → IsFirst index i (files ++ lines ∷ [])
+    → IsFirst index i files → Begins (IsNotBefore i) lines → IsFirst index i (files ++ lines ∷ [])
 best-stays index i files lines first after = record {
   line = first.line;
   rest = first.rest;
@@ -202,8 +199,7 @@ best-from before files (lines ∷ others) is =
 none-left : (files : List (List Keyed)) → Each (λ lines. lines ≡ []) files
     → (risen_joined files ≡ []) × AreAllInOrder files
 none-left [] none = (refl, tt)
-none-left ([] ∷ others) none =
-    let rest = none-left others none.1 in (rest.0, (tt, rest.1))
+none-left ([] ∷ others) none = let rest = none-left others none.1 in (rest.0, (tt, rest.1))
 none-left ((x ∷ xs) ∷ others) none = let clash = none.0 in cc
 
 -- nothing is left to be printed

@@ -1,5 +1,5 @@
 -- Lines at places of a text, and lines added one by one.
-use Rattle.std.proofs.Common.{◌≡◌, ◌∙◌, ap, sym, refl, ℕ, ℤ, ◌+◌, ◌-◌, ◌<◌, ◌≤◌, true, false, List, [], ◌∷◌, ◌++◌, length, take, drop, get_or, slice_index, All, arith, append_assoc, append-nil, map, Option, Some, Result, Ok, Err, is_err, OnOk, OnErr}
+use Rattle.std.proofs.Common.{◌≡◌, ◌∙◌, ap, sym, refl, ℕ, ℤ, ◌+◌, ◌-◌, ◌<◌, ◌≤◌, true, false, List, [], ◌∷◌, ◌++◌, length, take, drop, get_or, slice_index, All, arith, append_assoc, append-nil, map, Option, Some, Result, Ok, Err, is_err, OnOk, OnErr, rules}
 use Rattle.std.proofs.lemmas.Bool.{false≢true, true≢false}
 use Rattle.std.proofs.lemmas.List.{drop-append-le, take-append-le, length-drop, length-append, get_or-drop, drop_more, map-append, take-append-drop, take_all, take_more, take_rest, drop_all}
 use Rattle.std.proofs.lemmas.List.Elements.{All-head, All-tail}
@@ -35,10 +35,9 @@ pub lines_at-grown : (text more : List ℕ) (places : List Place) → All (IsPla
 lines_at-grown text more [] within = refl
 lines_at-grown text more (place ∷ places) within =
     let first = All-head (IsPlaced text) place places within in
-    let others = All-tail (IsPlaced text) place places within in
     rw (
       part-grown text more place.from place.to first.0 first.1,
-      lines_at-grown text more places others,
+      lines_at-grown text more places (All-tail (IsPlaced text) place places within),
     ) refl
 
 -- a line and the line feed after it
@@ -79,8 +78,7 @@ bare_lines-append keys (line ∷ lines) others =
 pub keys_after-append : (keys : Keys) (lines others : List (List ℕ))
     → keys_after keys (lines ++ others) ≡ keys_after (keys_after keys lines) others
 keys_after-append keys [] others = refl
-keys_after-append keys (line ∷ lines) others =
-    keys_after-append (key_after keys line) lines others
+keys_after-append keys (line ∷ lines) others = keys_after-append (key_after keys line) lines others
 
 -- a last line is a line unless it is empty
 pub last_line-some : (line : List ℕ) → 0 < length line → last_line line ≡ line ∷ []
@@ -116,8 +114,7 @@ left-step one all cons so_far xs index default below =
 -- nothing is left
 pub left-end : {X Y : Type 0} (all : List X → List Y) → all [] ≡ [] → (so_far : List Y)
     (xs : List X) (index : ℕ) → length xs ≤ index → so_far ++ all (drop index xs) ≡ so_far
-left-end all nil so_far xs index past =
-    rw (drop_all index xs past, nil) (append-nil so_far)
+left-end all nil so_far xs index past = rw (drop_all index xs past, nil) (append-nil so_far)
 
 -- a text was read after another, in which places are
 pub lines_at-read : (old new : List ℕ) (places : List Place) → take (length old) new ≡ old
@@ -157,14 +154,8 @@ pub OnlyWrites-after : {W A E : Type 0} {contents : W → Option (List ℕ)} {a 
     → AppendsBut left (contents a.inner) (contents b.inner) bytes
     → OnlyWrites contents b c result [] left → OnlyWrites contents a c result [] bytes
 OnlyWrites-after {result = result} failed flushes sent call =
-    OnlyWrites-then {A = Unit {0}} {E = Unit {0}} {value = tt} result (record {
-      writes = record {
-        failed = failed ∙ sym (or-false _);
-        sent = sent;
-        beginning = tt;
-      };
-      unflushed = flushes;
-    }) call
+    OnlyWrites-then {A = Unit {0}} {E = Unit {0}} {value = tt} result
+    (search (rules, or-false)) call
 
 -- Lines after what is printed before them.
 
@@ -175,8 +166,7 @@ pub line-added : (old more : List ℕ) (places : List Place) (instant : ℤ) (fr
     ≡ lines_at old places ++ record { instant = instant; text = more } ∷ []
 line-added old more places instant from to within begins ends =
     let place : Place = record { instant = instant; from = from; to = to } in
-    let size : to - from ≡ length more =
-    omega (arith, begins, ends, length-append old more) in
+    let size : to - from ≡ length more = omega (arith, begins, ends, length-append old more) in
     let bytes : part (old ++ more) from to ≡ more =
     rw (size, begins, drop-append_seam old more) (take_all (length more) more (omega arith)) in
     rw (

@@ -52,13 +52,11 @@ one_kept other instant line lines = simp append_assoc
 
 -- lines with the values of their entries are entries
 keyed-blocks : (instant : ℤ) (lines : List Marked)
-    → keyed instant lines
-    ≡ kept_lines instant (up_to_value lines) ++ all_blocks (entries lines)
+    → keyed instant lines ≡ kept_lines instant (up_to_value lines) ++ all_blocks (entries lines)
 keyed-blocks instant [] = refl
 keyed-blocks instant (line ∷ lines) =
     let next : ℤ = instant_after instant line.what in
-    ap (λ (l : List Keyed). if_kept line.kept next line.printed ++ l) (keyed-blocks next lines)
-    ∙ one_kept line.what instant line lines
+    rw (keyed-blocks next lines) (one_kept line.what instant line lines)
 
 -- the lines of an entry have its value
 key_kept : (instant : ℤ) (lines : List Marked)

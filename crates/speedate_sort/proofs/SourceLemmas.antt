@@ -23,10 +23,9 @@ use Rattle.speedate_sort.specs.Sort.{Keyed, Keys, file_lines, instant_after, key
 use Rattle.speedate_sort.specs.Sort.{name_text}
 use Rattle.speedate_sort.specs.Merge.{AreAlike, AreAllInOrder, AreKnown, Best, Halt, Halted}
 use Rattle.speedate_sort.specs.Merge.{IsAlike, IsHalt, IsHaltIn, Merges, Moves, ReadsLine, Source}
-use Rattle.speedate_sort.specs.Merge.{StaysSettled, bare, best_of, bytes_of, due, ended}
-use Rattle.speedate_sort.specs.Merge.{files_left, instant_of, instants, line_and, lines_left}
-use Rattle.speedate_sort.specs.Merge.{merged_text, number_after, number_of, printed_first, unread}
-use Rattle.speedate_sort.specs.Merge.{with_feed}
+use Rattle.speedate_sort.specs.Merge.{StaysSettled, bare, best_of, bytes_of, due, ended, files_left}
+use Rattle.speedate_sort.specs.Merge.{instant_of, instants, line_and, lines_left, merged_text}
+use Rattle.speedate_sort.specs.Merge.{number_after, number_of, printed_first, unread, with_feed}
 use Rattle.speedate_sort.proofs.SortLemmas.{last_line-some}
 use Rattle.speedate_sort.proofs.MergeLemmas.{Begins, IsFirst, IsNotBefore, best-is_first, due-all}
 use Rattle.speedate_sort.proofs.MergeLemmas.{due-line, due-none, due-step, file-first}
@@ -60,8 +59,7 @@ last_place : (line : List ℕ) → length (line ++ line_feed ∷ []) - 1 ≡ len
 last_place line = omega (arith, length_push line line_feed)
 
 ended-fed : (line : List ℕ) → ended (line ++ line_feed ∷ []) ≡ line ++ line_feed ∷ []
-ended-fed line =
-    grind (arith, nat_tests, last_place line, get_or-append_seam line line_feed [] 0)
+ended-fed line = grind (arith, nat_tests, last_place line, get_or-append_seam line line_feed [] 0)
 
 ended-free : (line : List ℕ) → 0 < length line → IsFree line
     → ended line ≡ line ++ line_feed ∷ []
@@ -139,20 +137,14 @@ file_lines-kept : (keys : Keys) (text : List ℕ) (others : List (List ℕ))
     } ∷ file_lines (key_after keys text) others
 unfolding file_lines prefix_text
 file_lines-kept keys text others kept =
-    rw (
-      keeps-key keys text ∙ kept,
-      passed-name keys.scan (line_of keys.scan (head text)),
-    ) refl
+    rw (keeps-key keys text ∙ kept, passed-name keys.scan (line_of keys.scan (head text))) refl
 
 file_lines-left : (keys : Keys) (text : List ℕ) (others : List (List ℕ))
     → is_some (key_of keys text) ≡ false
     → file_lines keys (text ∷ others) ≡ file_lines (key_after keys text) others
 unfolding file_lines
 file_lines-left keys text others left =
-    rw (
-      keeps-key keys text ∙ left,
-      passed-name keys.scan (line_of keys.scan (head text)),
-    ) refl
+    rw (keeps-key keys text ∙ left, passed-name keys.scan (line_of keys.scan (head text))) refl
 
 -- a line that is not left out
 unread-kept : (before after : Option (List ℕ)) (keys : Keys) (line : List ℕ)
@@ -212,11 +204,9 @@ moves-end first before after old keys [] is reads same instant = record {
 -- a line was read that is not left out
 pub moves-line : (first before after : Option (List ℕ)) (old keys new : Keys) (line : List ℕ)
     → ReadsLine before after line → 0 < length line → unread first old ≡ unread before keys
-    → keys.instant ≡ old.instant
-    → new ≡ key_after keys (take (length line - 1) line)
+    → keys.instant ≡ old.instant → new ≡ key_after keys (take (length line - 1) line)
     → is_some (key_of keys (take (length line - 1) line)) ≡ true
-    → int_lt new.instant keys.instant ≡ false
-    → Moves first after old new line
+    → int_lt new.instant keys.instant ≡ false → Moves first after old new line
 moves-line first before after old keys new line reads some same instant is kept order = record {
   known = reads.known;
   lines = rw is (same ∙ unread-kept before after keys line reads some kept);
@@ -246,8 +236,7 @@ module _ {R : Type 0} (remaining : R → Option (List ℕ)) where
 
   -- no source has a line
   pub sources-none : (sources : List (Source R)) → best_of (instants sources) ≡ None
-      → (due (files_left remaining sources) ≡ [])
-      × AreAllInOrder (files_left remaining sources)
+      → (due (files_left remaining sources) ≡ []) × AreAllInOrder (files_left remaining sources)
   sources-none sources is =
       due-none (files_left remaining sources) (ap best_of (first-files sources) ∙ is)
 
@@ -291,8 +280,7 @@ module _ {R : Type 0} (remaining : R → Option (List ℕ)) where
 
   -- the line that was read next is not before the one that was printed
   begins-moves : (before : ℤ) (left : Option (List ℕ)) (keys : Keys) (line : List ℕ)
-      → int_lt keys.instant before ≡ false
-      → Begins (IsNotBefore before) (lines_left left keys line)
+      → int_lt keys.instant before ≡ false → Begins (IsNotBefore before) (lines_left left keys line)
   begins-moves before left keys [] order = tt
   begins-moves before left keys (byte ∷ bytes) order = order
 

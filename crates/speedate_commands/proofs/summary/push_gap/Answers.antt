@@ -12,6 +12,5 @@ pub returns-clause-pushed : goal.returns-clause-pushed
 returns-clause-pushed c =
     let gap = c.args.gap.now in
     joined c.args.pending.now.items c.push_gap_length.new.pending.items
-    c.push_gap_end.new.pending.items
-    (gap_length (codes "longest gap ") gap) (gap_end gap)
+    c.push_gap_end.new.pending.items (gap_length (codes "longest gap ") gap) (gap_end gap)
     c.push_gap_length.ensures.pushed c.push_gap_end.ensures.pushed

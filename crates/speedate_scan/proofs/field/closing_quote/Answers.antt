@@ -6,8 +6,7 @@ use Rattle.speedate_scan.proofs.field.closing_quote.Goals as goal
 pub loop-place-preserved-then-text-place-ne-QUOTE :
     goal.loop-place-preserved-then-text-place-ne-QUOTE
 loop-place-preserved-then-text-place-ne-QUOTE c =
-    let place = c.loop-place.place in
-    let later = quote_later c.args.text.now place (omega arith) (search rules) in
+    let later = quote_later c.args.text.now c.loop-place.place (omega arith) (search rules) in
     record {
       after = omega (arith, c.loop-place.invariant.after);
       within = omega arith;

@@ -4,5 +4,4 @@ use Rattle.speedate_scan.proofs.field.next_separator.Goals as goal
 
 pub returns-in-None-clause-separator : goal.returns-in-None-clause-separator
 returns-in-None-clause-separator c =
-    no_separator_after c.args.separator c.args.text.now c.args.from
-    c.requires.from (search rules)
+    no_separator_after c.args.separator c.args.text.now c.args.from c.requires.from (search rules)

@@ -14,5 +14,4 @@ returns-in-Some-clause-front c behavior =
 pub returns-in-Some-clause-claims : goal.returns-in-Some-clause-claims
 returns-in-Some-clause-claims c =
     date_time_claims Behavior.Truncate c.args.text.now
-    (date_and_time c.in-Some.value, c.in-Some.size)
-    (c.in-Some.ensures.front Behavior.Truncate)
+    (date_and_time c.in-Some.value, c.in-Some.size) (c.in-Some.ensures.front Behavior.Truncate)

@@ -3,5 +3,4 @@ use Rattle.speedate_scan.proofs.ZoneLemmas.{no_zone_begins}
 use Rattle.speedate_scan.proofs.zone.zone_after_blank.Goals as goal
 
 pub returns-else-may_begin_zone-clause-zone : goal.returns-else-may_begin_zone-clause-zone
-returns-else-may_begin_zone-clause-zone c =
-    sym (no_zone_begins c.args.text.now (search rules))
+returns-else-may_begin_zone-clause-zone c = sym (no_zone_begins c.args.text.now (search rules))

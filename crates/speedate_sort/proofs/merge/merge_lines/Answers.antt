@@ -26,8 +26,7 @@ pub returns-in_err-halt-clause-beginning : goal.returns-in_err-halt-clause-begin
 returns-in_err-halt-clause-beginning g c =
     let best : Best = c.in-Some.best in
     let at = ap (get_or c.loop.sources best.index) c.index-sources-best.is in
-    let source = get_or c.loop.sources best.index c.index-sources-best.result in
-    let line = sources-line g.R.Read.remaining c.loop.sources best source
+    let line = sources-line g.R.Read.remaining c.loop.sources best _
     (sym c.in-Some.ensures.best) c.in-Some.ensures.within at c.loop.pending.items in
     on_err c.from_residual.result (λ known. AppendsBeginning-left
     (AppendsBut-same (c.loop.invariant.sent known) line.1)
@@ -37,8 +36,7 @@ pub returns-in-Some-2-clause-merged : goal.returns-in-Some-2-clause-merged
 returns-in-Some-2-clause-merged g c =
     let best : Best = c.in-Some.best in
     let at = ap (get_or c.loop.sources best.index) c.index-sources-best.is in
-    let source = get_or c.loop.sources best.index c.index-sources-best.result in
-    let line = sources-line g.R.Read.remaining c.loop.sources best source
+    let line = sources-line g.R.Read.remaining c.loop.sources best _
     (sym c.in-Some.ensures.best) c.in-Some.ensures.within at c.loop.pending.items in
     λ known. record {
       left = line.0;

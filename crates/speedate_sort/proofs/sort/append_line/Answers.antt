@@ -13,8 +13,7 @@ returns-clause-appended c =
     let to = c.len-to.result in
     let place : Place = record { instant = other.instant; from = from; to = to } in
     let pushed : c.push.new.self.items ≡ before ++ place ∷ [] = search rules in
-    let whole : c.extend_from_slice-2.new.self.items ≡ old ++ more =
-    search (rules, append_assoc) in
+    let whole : c.extend_from_slice-2.new.self.items ≡ old ++ more = search (rules, append_assoc) in
     let ends : to ≡ length c.extend_from_slice-2.new.self.items = search rules in
     rw (pushed, whole)
     (line-added old more before other.instant from to c.requires.within (search rules)
