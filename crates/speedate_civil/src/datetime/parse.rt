@@ -290,10 +290,9 @@ impl DateTime {
         ensures placed { IfErr result (E.lies_within (length bytes.now)) }
         ensures minutes { IfOk result (λ value. IsWholeMinutes value.time.tz_offset) }
     {
-        match Self::parse_whole::<E>(bytes, behavior) {
-            Ok(value) => Self::standard(value, bytes),
-            Err(refusal) => Err(refusal),
-        }
+        let value = Self::parse_whole::<E>(bytes, behavior)?;
+        require_strict::<E>(bytes)?;
+        Ok(value)
     }
 
     /// The date-time that a text is, if the text is one of RFC 3339.

@@ -253,10 +253,9 @@ impl Time {
         ensures placed { IfErr result (E.lies_within (length bytes.now)) }
         ensures minutes { IfOk result (λ time. IsWholeMinutes time.tz_offset) }
     {
-        match Self::parse_whole::<E>(bytes, behavior) {
-            Ok(time) => Self::standard(time, bytes),
-            Err(refusal) => Err(refusal),
-        }
+        let time = Self::parse_whole::<E>(bytes, behavior)?;
+        Self::require_strict::<E>(bytes, 0)?;
+        Ok(time)
     }
 
     /// The time that a text is, if the text is one of RFC 3339.
