@@ -1,12 +1,9 @@
 //! What values are, and how a text is parsed as one.
 
-ghost use Rattle.std.specs.Prelude.{◌≡◌, ◌+◌, ◌≤◌, ℕ, Err, IfErr, IfOk, IfSome, List, Ok, Result, Some, length, pos, true};
+ghost use Rattle.std.specs.Prelude.{◌≡◌, ◌+◌, ◌≤◌, ℕ, Err, IfErr, IfOk, IfSome, List, Ok, Result, length, true};
 ghost use Rattle.std.specs.Option.{ForSome};
 ghost use Rattle.speedate_base.specs.Offset.{IsOffset};
 ghost use Rattle.speedate_civil.specs.Time.{clock_parts, clock_with_offset, end_fault};
-ghost use Rattle.speedate_civil.specs.DateTime.{date_time_or_timestamp};
-ghost use Rattle.speedate_scan.specs.Reading.{claims, claims_date, date_and_clock, library_front};
-ghost use Rattle.speedate_scan.specs.Reading.{with_late_zone};
 ghost use Rattle.speedate.specs.Base.{Behavior, IsoOrder};
 ghost use Rattle.speedate.specs.Config.{choices, time_choices};
 ghost use Rattle.speedate.specs.Requirement.{result_map, with_size};
@@ -14,12 +11,12 @@ ghost use Rattle.speedate.specs.Date.{ymd};
 ghost use Rattle.speedate.specs.DateTime.{DateAndTime, date_and_time};
 ghost use Rattle.speedate.specs.Form.{with_length};
 ghost use Rattle.speedate.specs.declared.Refused.{Refused};
-ghost use Rattle.speedate_scan.specs.Reading.{front_of, midnight_front, midnight_of, midnight_whole};
-ghost use Rattle.speedate_scan.specs.Reading.{relaxed_front, relaxed_whole, strict_front};
-ghost use Rattle.speedate_scan.specs.Reading.{strict_whole, timestamp_front, timestamp_of};
-ghost use Rattle.speedate_scan.specs.Reading.{past_64_bits, timestamp_whole, whole_front, whole_of};
+ghost use Rattle.speedate_scan.specs.Reading.{claims, claims_date, date_and_clock, front_of};
+ghost use Rattle.speedate_scan.specs.Reading.{library_front, midnight_front, midnight_of, midnight_whole};
+ghost use Rattle.speedate_scan.specs.Reading.{relaxed_front, relaxed_whole, strict_front, strict_whole};
+ghost use Rattle.speedate_scan.specs.Reading.{whole_front, whole_of, with_late_zone};
 
-use crate::timestamp::{has_number, number_length};
+use crate::timestamp::{timestamp_front, timestamp_whole};
 use crate::zone::{late_zone, zone_front};
 use speedate::{
     Date, DateConfig, DateForm, DateTime, DateTimeConfig, DateTimeForm, IsoOrder,
@@ -284,7 +281,7 @@ fn relaxed_whole(
 }
 
 /// The value at the front of a text, which takes so many bytes, if nothing follows it.
-fn whole_front(text: &[u8], value: DateTime, size: usize) -> Result<DateTime, Refused>
+pub(crate) fn whole_front(text: &[u8], value: DateTime, size: usize) -> Result<DateTime, Refused>
     requires size { size ≤ length text.now }
     ensures whole { result_map date_and_time result
         ≡ whole_front text.now (date_and_time value, size) }
@@ -307,62 +304,9 @@ fn texts(behavior: MicrosecondsPrecisionOverflowBehavior) -> DateTimeConfig
     }
 }
 
-/// How the library reads a text as a Unix timestamp in UTC.
-fn timestamps(
-    unit: TimestampUnit,
-    behavior: MicrosecondsPrecisionOverflowBehavior,
-) -> DateTimeConfig
-    ensures unit { (choices result).unit ≡ unit }
-    ensures behavior { (choices result).behavior ≡ behavior }
-    ensures offset { (choices result).offset ≡ Some (pos 0) }
-{
-    DateTimeConfig {
-        timestamp_unit: unit,
-        time_config: TimeConfig {
-            microseconds_precision_overflow_behavior: behavior,
-            unix_timestamp_offset: Some(0),
-            iso_order: IsoOrder::Lax,
-        },
-    }
-}
-
-/// The date-time in UTC of the Unix timestamp that a number is.
-#[tactic(auto, unfolding(crate::specs::Reading::timestamp_of))]
-fn timestamp_of(
-    text: &[u8],
-    unit: TimestampUnit,
-    behavior: MicrosecondsPrecisionOverflowBehavior,
-) -> Result<DateTime, Refused>
-    ensures value { result_map date_and_time result ≡ timestamp_of unit behavior text.now }
-    ensures within { IfErr result (λ refused. refused.place ≤ length text.now) }
-{
-    match library_timestamp(text, unit, behavior) {
-        Ok(value) => Ok(value),
-        Err(refused) => Err(if has_number(text) {
-            refused
-        } else {
-            past_64_bits(text)
-        }),
-    }
-}
-
-/// The refusal of a number that the library does not read, since it has more than 64 bits.
-#[cold]
-fn past_64_bits(text: &[u8]) -> Refused
-    ensures refused { result ≡ past_64_bits text.now }
-    ensures place { result.place ≡ 0 }
-{
-    let fault = if byte_at(text, 0) == b'-' {
-        ParseError::DateTooSmall
-    } else {
-        ParseError::DateTooLarge
-    };
-    Refused { fault, place: 0 }
-}
-
 /// The value that the library read of a text as a whole.
 #[inline(always)]
-fn value_of(read: Result<(DateTime, usize), Refused>) -> Result<DateTime, Refused>
+pub(crate) fn value_of(read: Result<(DateTime, usize), Refused>) -> Result<DateTime, Refused>
     ensures value { (text : List ℕ) → (answer : Result DateAndTime Refused)
         → result_map (with_size date_and_time) read ≡ with_length text answer
         → result_map date_and_time result ≡ answer }
@@ -370,59 +314,6 @@ fn value_of(read: Result<(DateTime, usize), Refused>) -> Result<DateTime, Refuse
 {
     match read {
         Ok((value, _)) => Ok(value),
-        Err(refused) => Err(refused),
-    }
-}
-
-/// What the library reads of a text that is a number.
-fn library_timestamp(
-    text: &[u8],
-    unit: TimestampUnit,
-    behavior: MicrosecondsPrecisionOverflowBehavior,
-) -> Result<DateTime, Refused>
-    ensures value { result_map date_and_time result
-        ≡ date_time_or_timestamp unit behavior (Some (pos 0)) text.now }
-    ensures within { IfErr result (λ refused. refused.place ≤ length text.now) }
-{
-    let config = timestamps(unit, behavior);
-    match DateTime::parse_bytes_with_config(text, &config) {
-        Ok(value) => Ok(value),
-        // Again, for the place.
-        Err(_) => value_of(DateTime::parse_or_place(text, DateTimeForm::OrTimestamp, &config)),
-    }
-}
-
-/// The date-time in UTC of the Unix timestamp at the front of a text, and how many bytes it takes.
-#[tactic(auto, unfolding(crate::specs::Reading::timestamp_front))]
-fn timestamp_front(
-    text: &[u8],
-    unit: TimestampUnit,
-    behavior: MicrosecondsPrecisionOverflowBehavior,
-) -> Result<(DateTime, usize), Refused>
-    ensures front { result_map (with_size date_and_time) result
-        ≡ timestamp_front unit behavior text.now }
-    ensures size { IfOk result (λ front. front.1 ≤ length text.now) }
-    ensures within { IfErr result (λ refused. refused.place ≤ length text.now) }
-{
-    let size = number_length(text, unit);
-    match timestamp_of(&text[..size], unit, behavior) {
-        Ok(value) => Ok((value, size)),
-        Err(refused) => Err(refused),
-    }
-}
-
-/// The date-time in UTC of the Unix timestamp that a text is, without a sign but a minus.
-#[tactic(auto, unfolding(crate::specs::Reading::timestamp_whole))]
-fn timestamp_whole(
-    text: &[u8],
-    unit: TimestampUnit,
-    behavior: MicrosecondsPrecisionOverflowBehavior,
-) -> Result<DateTime, Refused>
-    ensures whole { result_map date_and_time result ≡ timestamp_whole unit behavior text.now }
-    ensures within { IfErr result (λ refused. refused.place ≤ length text.now) }
-{
-    match timestamp_front(text, unit, behavior) {
-        Ok((value, size)) => whole_front(text, value, size),
         Err(refused) => Err(refused),
     }
 }

@@ -1,12 +1,22 @@
 //! Unix timestamps: numbers at the front of a text that count seconds, milliseconds or microseconds.
 
-ghost use Rattle.std.specs.Prelude.{◌≡◌, ◌+◌, ◌≤◌, IsTrue, length, slice_index};
+ghost use Rattle.std.specs.Prelude.{◌≡◌, ◌+◌, ◌≤◌, IfErr, IfOk, IsTrue, Some, length, pos, slice_index};
 ghost use Rattle.speedate_base.specs.Digits.{run_length};
+ghost use Rattle.speedate_civil.specs.DateTime.{date_time_or_timestamp};
+ghost use Rattle.speedate.specs.Config.{choices};
+ghost use Rattle.speedate.specs.DateTime.{date_and_time};
+ghost use Rattle.speedate.specs.Requirement.{result_map, with_size};
+ghost use Rattle.speedate_scan.specs.Reading.{past_64_bits, timestamp_front, timestamp_of, timestamp_whole};
 ghost use Rattle.speedate_scan.specs.Timestamp.{fewest_digits, has_fraction, has_number};
 ghost use Rattle.speedate_scan.specs.Timestamp.{minus_length};
 ghost use Rattle.speedate_scan.specs.Timestamp.{number_end, number_length, takes_point, whole_digits};
 
-use speedate::{IntFloat, TimestampUnit, float_parse_bytes};
+use crate::form::{value_of, whole_front};
+use speedate::{
+    DateTime, DateTimeConfig, DateTimeForm, IntFloat, IsoOrder,
+    MicrosecondsPrecisionOverflowBehavior, ParseError, Refused, TimeConfig, TimestampUnit,
+    float_parse_bytes,
+};
 use speedate_base::numbers::{byte_at, run_end};
 
 /// How many bytes the sign of a number takes: one for a minus, none for `+`, which begins no number of a line.
@@ -73,4 +83,110 @@ pub fn has_number(text: &[u8]) -> bool
     ensures number { result ≡ has_number text.now }
 {
     !matches!(float_parse_bytes(text), IntFloat::Err)
+}
+
+/// How the library reads a text as a Unix timestamp in UTC.
+fn timestamps(
+    unit: TimestampUnit,
+    behavior: MicrosecondsPrecisionOverflowBehavior,
+) -> DateTimeConfig
+    ensures unit { (choices result).unit ≡ unit }
+    ensures behavior { (choices result).behavior ≡ behavior }
+    ensures offset { (choices result).offset ≡ Some (pos 0) }
+{
+    DateTimeConfig {
+        timestamp_unit: unit,
+        time_config: TimeConfig {
+            microseconds_precision_overflow_behavior: behavior,
+            unix_timestamp_offset: Some(0),
+            iso_order: IsoOrder::Lax,
+        },
+    }
+}
+
+/// The date-time in UTC of the Unix timestamp that a number is.
+#[tactic(auto, unfolding(crate::specs::Reading::timestamp_of))]
+fn timestamp_of(
+    text: &[u8],
+    unit: TimestampUnit,
+    behavior: MicrosecondsPrecisionOverflowBehavior,
+) -> Result<DateTime, Refused>
+    ensures value { result_map date_and_time result ≡ timestamp_of unit behavior text.now }
+    ensures within { IfErr result (λ refused. refused.place ≤ length text.now) }
+{
+    match library_timestamp(text, unit, behavior) {
+        Ok(value) => Ok(value),
+        Err(refused) => Err(if has_number(text) {
+            refused
+        } else {
+            past_64_bits(text)
+        }),
+    }
+}
+
+/// The refusal of a number that the library does not read, since it has more than 64 bits.
+#[cold]
+fn past_64_bits(text: &[u8]) -> Refused
+    ensures refused { result ≡ past_64_bits text.now }
+    ensures place { result.place ≡ 0 }
+{
+    let fault = if byte_at(text, 0) == b'-' {
+        ParseError::DateTooSmall
+    } else {
+        ParseError::DateTooLarge
+    };
+    Refused { fault, place: 0 }
+}
+
+/// What the library reads of a text that is a number.
+fn library_timestamp(
+    text: &[u8],
+    unit: TimestampUnit,
+    behavior: MicrosecondsPrecisionOverflowBehavior,
+) -> Result<DateTime, Refused>
+    ensures value { result_map date_and_time result
+        ≡ date_time_or_timestamp unit behavior (Some (pos 0)) text.now }
+    ensures within { IfErr result (λ refused. refused.place ≤ length text.now) }
+{
+    let config = timestamps(unit, behavior);
+    match DateTime::parse_bytes_with_config(text, &config) {
+        Ok(value) => Ok(value),
+        // Again, for the place.
+        Err(_) => value_of(DateTime::parse_or_place(text, DateTimeForm::OrTimestamp, &config)),
+    }
+}
+
+/// The date-time in UTC of the Unix timestamp at the front of a text, and how many bytes it takes.
+#[tactic(auto, unfolding(crate::specs::Reading::timestamp_front))]
+pub(crate) fn timestamp_front(
+    text: &[u8],
+    unit: TimestampUnit,
+    behavior: MicrosecondsPrecisionOverflowBehavior,
+) -> Result<(DateTime, usize), Refused>
+    ensures front { result_map (with_size date_and_time) result
+        ≡ timestamp_front unit behavior text.now }
+    ensures size { IfOk result (λ front. front.1 ≤ length text.now) }
+    ensures within { IfErr result (λ refused. refused.place ≤ length text.now) }
+{
+    let size = number_length(text, unit);
+    match timestamp_of(&text[..size], unit, behavior) {
+        Ok(value) => Ok((value, size)),
+        Err(refused) => Err(refused),
+    }
+}
+
+/// The date-time in UTC of the Unix timestamp that a text is, without a sign but a minus.
+#[tactic(auto, unfolding(crate::specs::Reading::timestamp_whole))]
+pub(crate) fn timestamp_whole(
+    text: &[u8],
+    unit: TimestampUnit,
+    behavior: MicrosecondsPrecisionOverflowBehavior,
+) -> Result<DateTime, Refused>
+    ensures whole { result_map date_and_time result ≡ timestamp_whole unit behavior text.now }
+    ensures within { IfErr result (λ refused. refused.place ≤ length text.now) }
+{
+    match timestamp_front(text, unit, behavior) {
+        Ok((value, size)) => whole_front(text, value, size),
+        Err(refused) => Err(refused),
+    }
 }

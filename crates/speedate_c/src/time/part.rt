@@ -6,7 +6,7 @@ ghost use Rattle.speedate.specs.Requirement.{result_map, with_size};
 ghost use Rattle.speedate.specs.Time.{time_of_day};
 ghost use Rattle.speedate_c.specs.Code.{config_out_of_range};
 ghost use Rattle.speedate_c.specs.Config.{choices_of};
-ghost use Rattle.speedate_c.specs.Time.{time_form, shown_time, time_reading};
+ghost use Rattle.speedate_c.specs.Time.{shown_time, time_form, time_reading};
 ghost use Rattle.speedate_c.specs.Written.{no_part, part_beside, with_option};
 ghost use Rattle.speedate_c.specs.Written.{written_front, written_part};
 

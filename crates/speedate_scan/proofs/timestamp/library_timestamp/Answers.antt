@@ -2,7 +2,7 @@ use Rattle.std.proofs.Common.{sym, pos, Some}
 use Rattle.speedate.specs.DateTime.{date_and_time, date_time_or_timestamp}
 use Rattle.speedate.specs.Requirement.{fault_alone}
 use Rattle.speedate_base.proofs.RefusalLemmas.{seen-read}
-use Rattle.speedate_scan.proofs.form.library_timestamp.Goals as goal
+use Rattle.speedate_scan.proofs.timestamp.library_timestamp.Goals as goal
 
 pub returns-in-Ok-clause-value : goal.returns-in-Ok-clause-value
 returns-in-Ok-clause-value c =
