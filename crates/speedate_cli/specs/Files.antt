@@ -2,8 +2,9 @@
 -- status.
 use Rattle.std.specs.Prelude.{◌≡◌, ℕ, ◌==◌, ◌||◌, ◌⊎◌, Bool, true, false, List, [], ◌∷◌, Option, Some, None, Result, Ok, Err, if◌then◌else◌}
 use Rattle.std.specs.Borrow.{Bor}
+use Rattle.std.specs.Io.KnownBytes.{Appends}
 use Rattle.speedate_stream.specs.Machine.{Machine}
-use Rattle.speedate_stream.specs.Run.{PrintsBeginning, PrintsProgress}
+use Rattle.speedate_stream.specs.Run.{AppendsBeginning, PrintsBeginning, PrintsProgress}
 use Rattle.speedate_stream.specs.declared.run.RunError.{RunError}
 use Rattle.speedate_scan.specs.declared.scan.Offsets.{Offsets}
 use Rattle.speedate_scan.specs.declared.scan.Scan.{Scan}
@@ -13,6 +14,7 @@ use Rattle.speedate_commands.specs.declared.command.About.{About}
 use Rattle.speedate_commands.specs.Runs.{EndsSaying}
 use Rattle.speedate_commands.specs.Status.{file_status, lines_status, worse}
 use Rattle.speedate_sort.specs.declared.merge.Halt.{Halt}
+use Rattle.speedate_sort.specs.declared.sort.Unsorted.{Unsorted}
 
 -- how the run over a file ended: the file was not opened, or it was read up to its end, or up to
 -- where one end failed
@@ -51,6 +53,19 @@ halt_status (Halt.Unread cause) = 3
 halt_status Halt.Bad = 1
 halt_status (Halt.Late before) = 1
 halt_status Halt.Unlike = 1
+
+-- the status by how lines in memory were printed
+abbrev pub sorted_status : Result (Unit {0}) Unsorted → ℕ
+sorted_status (Ok done) = 0
+sorted_status (Err Unsorted.Memory) = 3
+sorted_status (Err Unsorted.Write) = 4
+
+-- what was written of a text: all; nothing if memory ran out, or a beginning if a write failed
+abbrev pub PrintsSorted : Result (Unit {0}) Unsorted → Option (List ℕ) → Option (List ℕ)
+    → List ℕ → Type 0
+PrintsSorted (Ok done) old new text = Appends old new text
+PrintsSorted (Err Unsorted.Memory) old new text = new ≡ old
+PrintsSorted (Err Unsorted.Write) old new text = AppendsBeginning old new text
 
 -- of a command: what it does with a line, what is known of the lines, what is known when a file
 -- begins, what is said of its lines, and what else a run has to know

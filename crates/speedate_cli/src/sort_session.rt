@@ -1,18 +1,21 @@
 //! The inputs of `sort`, and what is told of them on standard error.
 
-ghost use Rattle.std.specs.Prelude.{◌≡◌, ◌≤◌, IfOk, false};
+ghost use Rattle.std.specs.Prelude.{◌≡◌, ◌≤◌, ◌==◌, IfOk, Result, false};
 ghost use Rattle.speedate_commands.specs.Status.{lines_status};
 ghost use Rattle.speedate_scan.specs.Scan.{is_without_value};
-ghost use Rattle.speedate_cli.specs.Files.{FileEnd, end_status};
+ghost use Rattle.speedate_sort.specs.Sort.{sorted_text};
+ghost use Rattle.speedate_sort.specs.declared.sort.Unsorted.{Unsorted};
+ghost use Rattle.speedate_cli.specs.Files.{FileEnd, PrintsSorted, end_status, sorted_status};
 
 use crate::files::{names_or_input, standard_output};
 use crate::input::{Reasoned, open_input};
 use crate::told::{Reports, tell_counts, tell_file, tell_memory, tell_output};
-use speedate_commands::status::{READ, lines_status, worse};
+use speedate_commands::status::{READ, WRITE, lines_status, worse};
 use speedate_sort::sort::{KeyedLines, Keys, Unread, Unsorted};
 use speedate_stream::Watched;
 use speedate_stream::run::RunError;
 use std::alloc::AllocError;
+use std::io::Write;
 
 /// What follows from it that memory ran out: lines are printed only once all are read.
 const NOTHING: &str = ", and nothing is printed";
@@ -33,7 +36,12 @@ pub fn run_sort<'a>(rt: &HostRuntime, keys: &mut Keys<'a>, files: &[&'a str]) ->
         }
     }
     if !keys.scan.is_stopped() {
-        status = worse(status, print_lines(rt, &mut lines));
+        let mut output = standard_output(rt);
+        let mut one = print_lines(rt, &mut lines, &mut output);
+        if one == WRITE {
+            one = tell_output(rt, output.into_inner().is_closed);
+        }
+        status = worse(status, one);
     }
     let bad = keys.scan.bad;
     tell_counts(rt, bad, keys.scan.first.lines_before());
@@ -75,11 +83,19 @@ fn add_file<'a>(
 }
 
 /// Prints the lines in order, and returns the exit status as far as it is about that.
-fn print_lines(rt: &HostRuntime, lines: &mut KeyedLines) -> u8 {
-    let mut output = standard_output(rt);
-    match lines.print(&mut output) {
+fn print_lines<W: Write>(
+    rt: &HostRuntime,
+    lines: &mut KeyedLines,
+    output: &mut Watched<W>,
+) -> u8
+    ensures printed { (ended : Result (Unit {0}) Unsorted) × (result ≡ sorted_status ended)
+        × PrintsSorted ended (W.contents output.old.inner) (W.contents output.new.inner)
+        (sorted_text lines.old) }
+    ensures failed { output.old.failed ≡ false → output.new.failed ≡ (result == WRITE) }
+{
+    match lines.print(output) {
         Ok(()) => 0,
         Err(Unsorted::Memory) => tell_memory(rt, NOTHING),
-        Err(Unsorted::Write) => tell_output(rt, output.into_inner().is_closed),
+        Err(Unsorted::Write) => WRITE,
     }
 }
