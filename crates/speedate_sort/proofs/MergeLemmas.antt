@@ -220,6 +220,21 @@ risen_after-risen : (i : ℤ) (xs : List Keyed) → Begins (IsNotBefore i) xs
 risen_after-risen i [] begins = refl
 risen_after-risen i (x ∷ xs) begins = rw begins refl
 
+-- lines up to the first one that is out of order are in order
+risen_after-twice : (i : ℤ) (xs : List Keyed) → risen_after i (risen_after i xs) ≡ risen_after i xs
+risen_after-twice i [] = refl
+risen_after-twice i (x ∷ xs) = cond_both (int_lt x.instant i) _ _
+    (λ l. risen_after i l ≡ l)
+    (λ less. refl)
+    (λ after. rw (after, risen_after-twice x.instant xs) refl)
+
+risen-risen_after : (i : ℤ) (xs : List Keyed) → risen (risen_after i xs) ≡ risen_after i xs
+risen-risen_after i [] = refl
+risen-risen_after i (x ∷ xs) = cond_both (int_lt x.instant i) _ _
+    (λ l. risen l ≡ l)
+    (λ less. refl)
+    (λ after. rw (risen_after-twice x.instant xs) refl)
+
 -- files are in order if they are after the first line of one was printed
 in_order-step : (before others : List (List Keyed)) (x : Keyed) (left : List Keyed)
     → Begins (IsNotBefore x.instant) left → AreAllInOrder (before ++ left ∷ others)
@@ -252,9 +267,23 @@ module _ (index : ℕ) (i : ℤ) (files : List (List Keyed)) (first : IsFirst in
       ∙ ap texts (least-first (risen_joined first.before) first.line
       (risen_after i first.rest ++ risen_joined first.others) less after.1)
 
-  -- it is printed first
-  pub due-line : (left : List ℕ) × (due files ≡ first.line.text ++ left)
-  due-line = (_, due-first)
+  -- another file in its place
+  file-set : (own : List Keyed) → set files index own ≡ first.before ++ own ∷ first.others
+  file-set own =
+      rw (first.whole, ← first.place)
+      (set-append_seam first.before (first.line ∷ first.rest) first.others own)
+
+  -- it is printed first, and then what is left
+  pub due-line : (own : List Keyed) × (due files ≡ first.line.text ++ due (set files index own))
+  due-line =
+      let own = risen_after first.line.instant first.rest in (
+        own,
+        due-first ∙ ap (λ (l : List Keyed). first.line.text ++ sorted_text l) (sym
+            (ap risen_joined (file-set own)
+            ∙ risen_joined-append first.before (own ∷ first.others)
+            ∙ ap (λ (l : List Keyed). risen_joined first.before ++ (l ++ risen_joined first.others))
+            (risen-risen_after first.line.instant first.rest))),
+      )
 
   -- then come the other lines, if those of its file go on in order
   pub due-step : (left : List Keyed) → first.rest ≡ left
@@ -266,10 +295,7 @@ module _ (index : ℕ) (i : ℤ) (files : List (List Keyed)) (first : IsFirst in
       let others : List Keyed = risen_joined first.others in
       let next : risen_after first.line.instant first.rest ≡ risen left =
       rw same (risen_after-risen first.line.instant left begins) in
-      let new : set files index left ≡ first.before ++ left ∷ first.others =
-      rw (first.whole, ← first.place)
-      (set-append_seam first.before (first.line ∷ first.rest) first.others left) in
-      rw new (
+      rw (file-set left) (
         due-first ∙ ap (λ (l : List Keyed). first.line.text ++ sorted_text l)
             (ap (λ (l : List Keyed). before ++ (l ++ others)) next
             ∙ sym (risen_joined-append first.before (left ∷ first.others))),

@@ -22,7 +22,7 @@ use Rattle.speedate_sort.specs.Base.{LineKind, Offsets, Scan}
 use Rattle.speedate_sort.specs.Sort.{Keyed, Keys, file_lines, instant_after, key_after, key_of}
 use Rattle.speedate_sort.specs.Sort.{name_text}
 use Rattle.speedate_sort.specs.Merge.{AreAlike, AreAllInOrder, AreKnown, Best, Halt, Halted}
-use Rattle.speedate_sort.specs.Merge.{IsAlike, IsHalt, IsHaltIn, Merges, Moves, ReadsLine, Source}
+use Rattle.speedate_sort.specs.Merge.{IsAlike, IsHalt, IsHaltIn, Merges, MergesUpTo, Moves, ReadsLine, Source}
 use Rattle.speedate_sort.specs.Merge.{StaysSettled, bare, best_of, bytes_of, due, ended, files_left}
 use Rattle.speedate_sort.specs.Merge.{instant_of, instants, line_and, lines_left, merged_text}
 use Rattle.speedate_sort.specs.Merge.{number_after, number_of, printed_first, unread, with_feed}
@@ -270,9 +270,10 @@ module _ {R : Type 0} (remaining : R → Option (List ℕ)) where
   pub sources-line : (sources : List (Source R)) (best : Best) (source : Source R)
       → best_of (instants sources) ≡ Some best → best.index < length sources
       → source ≡ get_or sources best.index source → (waiting : List ℕ)
-      → (left : List ℕ)
+      → (own : List Keyed)
       × (waiting ++ due (files_left remaining sources)
-      ≡ (waiting ++ printed_first source) ++ left)
+      ≡ (waiting ++ printed_first source)
+      ++ due (set (files_left remaining sources) best.index own))
   sources-line sources best source is below at waiting =
       let first = sources-first sources best source is below at in
       let line = due-line best.index best.instant (files_left remaining sources) first.0 in
@@ -302,6 +303,15 @@ module _ {R : Type 0} (remaining : R → Option (List ℕ)) where
       (file_of new) (first.1.2 ∙ moves.lines) (rw first.1.1 begins) in
       rw (append_assoc, ← first.1.0, map-set file_of sources best.index new)
       (ap (λ (l : List ℕ). waiting ++ l) step.0, step.1)
+
+  -- another file in the place of that of a source
+  pub sources-set : (sources : List (Source R)) (index : ℕ) (new : Source R) (own : List Keyed)
+      → set (files_left remaining sources) index own
+      ≡ set (files_left remaining (set sources index new)) index own
+  sources-set [] index new own = refl
+  sources-set (source ∷ sources) zero new own = refl
+  sources-set (source ∷ sources) (suc index) new own =
+      ap (λ (l : List (List Keyed)). file_of source ∷ l) (sources-set sources index new own)
 
   -- the bytes of a source are known
   pub source-known : (sources : List (Source R)) (index : ℕ) (source : Source R)
@@ -353,20 +363,33 @@ halt-in offsets now halt sources index new below settled halts = inr (record {
 -- The end of a merge.
 
 -- what waited was written
-pub merges-sent : {a b c d : Option (List ℕ)} {files : List (List Keyed)}
+pub merges-sent : {a b c d : Option (List ℕ)} {files now : List (List Keyed)}
     {waited waiting : List ℕ} {halted : Option Halted} → waited ≡ []
-    → (merges : Merges files a b waited waiting halted) → AppendsBut [] b c waiting → Keeps c d
+    → (merges : Merges files now a b waited waiting halted) → AppendsBut [] b c waiting → Keeps c d
     → AppendsBut merges.left a d (due files)
 merges-sent none merges sent kept =
     rw none at
     (AppendsBut-kept (AppendsBut-trans merges.sent (AppendsBut-more merges.left sent)) kept)
 
 -- the merge did not end before its inputs
-pub merges-all : {a b c : Option (List ℕ)} (d : Option (List ℕ)) {files : List (List Keyed)}
+pub merges-all : {a b c : Option (List ℕ)} (d : Option (List ℕ)) {files now : List (List Keyed)}
     {waited waiting : List ℕ} {halted : Option Halted} → halted ≡ None → waited ≡ []
-    → (merges : Merges files a b waited waiting halted) → AppendsBut [] b c waiting → Keeps c d
+    → (merges : Merges files now a b waited waiting halted) → AppendsBut [] b c waiting → Keeps c d
     → AreAllInOrder files × Appends a d (merged_text files)
 merges-all d {files = files} is none merges sent kept =
     let all = merges.all (ap is_some is) in
     let written = merges-sent none merges sent kept in
     (all.1, rw (due-all files all.1) at (Appends-all (AppendsBut-same written all.0)))
+
+-- a source ended the merge
+pub merges-halfway : {a b c : Option (List ℕ)} (d : Option (List ℕ)) (Known : Type 0)
+    {files now : List (List Keyed)} {waited waiting : List ℕ} (halted : Option Halted)
+    → waited ≡ [] → (Known → Merges files now a b waited waiting halted)
+    → AppendsBut [] b c waiting → Keeps c d
+    → IfSome halted (λ halted. Known → MergesUpTo files now a d halted)
+merges-halfway d Known None none merges sent kept = tt
+merges-halfway d Known (Some halted) none merges sent kept = λ known. record {
+  left = (merges known).left;
+  sent = merges-sent none (merges known) sent kept;
+  others = (merges known).others;
+}

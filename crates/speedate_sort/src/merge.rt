@@ -3,8 +3,8 @@
 ghost use Rattle.std.specs.Prelude.{◌≡◌, ◌<◌, ◌++◌, ◌==◌, ◌||◌, Err, IfErr, IfOk, IfSome, IsNone, IsSome, None, Ok, OnErr, OnOk, false, if◌then◌else◌, is_err, is_ok, is_some, length, true};
 ghost use Rattle.std.specs.Io.KnownBytes.{Appends};
 ghost use Rattle.speedate_sort.specs.Merge.{AreAlike, AreAllInOrder, AreKnown, Halt, IsAlike, IsHalt};
-ghost use Rattle.speedate_sort.specs.Merge.{IsHaltIn, IsLate, IsNumbered, IsUnread, Merges, Moves, ReadsLine};
-ghost use Rattle.speedate_sort.specs.Merge.{StaysSettled, are_unlike, bare, best_of, better, due};
+ghost use Rattle.speedate_sort.specs.Merge.{IsHaltIn, IsLate, IsNumbered, IsUnread, Merges, MergesUpTo};
+ghost use Rattle.speedate_sort.specs.Merge.{Moves, ReadsLine, StaysSettled, are_unlike, bare, best_of, better, due};
 ghost use Rattle.speedate_sort.specs.Merge.{ended, files_left, instant_of, instants, merged_text};
 ghost use Rattle.speedate_sort.specs.Merge.{number_of, printed_first, settled_by};
 ghost use Rattle.speedate_scan.specs.Scan.{is_stopped};
@@ -361,7 +361,7 @@ fn merge_lines<R: BufRead, W: Write, P: Reporter>(
     reporter: &mut P,
 ) -> Result<Option<Halted>, Failed>
     ensures merged { IfOk result (λ halted. AreKnown R.remaining sources.old →
-        Merges (files_left R.remaining sources.old)
+        Merges (files_left R.remaining sources.old) (files_left R.remaining sources.new)
         (W.contents output.old.inner) (W.contents output.new.inner)
         pending.old.items pending.new.items halted) }
     ensures beginning { OnErr result (AreKnown R.remaining sources.old → AppendsBeginning
@@ -415,6 +415,12 @@ pub fn merge<R: BufRead, W: Write, P: Reporter>(
     ensures beginning { AreKnown R.remaining sources.old → AppendsBeginning
         (W.contents output.old.inner) (W.contents output.new.inner)
         (due (files_left R.remaining sources.old)) }
+    // After a source ended the merge only lines of other sources that are left, and its own, are not
+    // written.
+    ensures halfway { IfOk result (λ halted. IfSome halted (λ halted.
+        AreKnown R.remaining sources.old →
+        MergesUpTo (files_left R.remaining sources.old) (files_left R.remaining sources.new)
+        (W.contents output.old.inner) (W.contents output.new.inner) halted)) }
     // All values that were read have offsets, or none has one, as it was settled if it was.
     ensures alike { result ≡ Ok None → AreAlike offsets sources.old → (now : Offsets)
         × StaysSettled offsets now × AreAlike now sources.new }

@@ -1,6 +1,6 @@
 use Rattle.std.proofs.Common.{◌≡◌, None}
 use Rattle.speedate_stream.proofs.SentLemmas.{AppendsBeginning-left, AppendsBeginning-more}
-use Rattle.speedate_sort.proofs.SourceLemmas.{merges-all, merges-sent}
+use Rattle.speedate_sort.proofs.SourceLemmas.{merges-all, merges-halfway, merges-sent}
 use Rattle.speedate_sort.proofs.merge.merge.Goals as goal
 
 pub returns-in_err-send-clause-beginning : goal.returns-in_err-send-clause-beginning
@@ -34,3 +34,9 @@ returns-clause-beginning g c = λ known.
       sent = merges-sent c.new-pending.ensures.empty merges c.in_ok-send.ensures.sent.writes.sent
           c.in_ok-flush.ensures.bytes;
     }
+
+pub returns-clause-halfway : goal.returns-clause-halfway
+returns-clause-halfway g c =
+    merges-halfway (g.W.Write.contents c.flush.new.self.inner) _ c.in_ok-halted.halted
+    c.new-pending.ensures.empty c.in_ok-halted.ensures.merged
+    c.in_ok-send.ensures.sent.writes.sent c.in_ok-flush.ensures.bytes

@@ -1,14 +1,16 @@
 use Rattle.std.proofs.Common.{◌∙◌, ◌++◌, ap, sym, List, ℕ, [], IsSome, get_or, is_some, refl, set}
 use Rattle.std.proofs.Math.Bool.{or-false}
 use Rattle.std.proofs.lemmas.Bool.{true≢false}
+use Rattle.std.proofs.lemmas.List.{set-get_or}
 use Rattle.std.proofs.lemmas.List.Elements.{All-set}
 use Rattle.speedate_stream.proofs.SentLemmas.{AppendsBeginning-left, AppendsBeginning-more}
 use Rattle.speedate_stream.proofs.SentLemmas.{AppendsBut-more, AppendsBut-same, AppendsBut-trans}
 use Rattle.speedate_stream.proofs.SentLemmas.{on_err}
+use Rattle.speedate_sort.specs.Sort.{Keyed}
 use Rattle.speedate_sort.specs.Merge.{AreKnown, Best, IsAlike, due, files_left}
 use Rattle.speedate_sort.proofs.SourceLemmas.{halt-in, settled-alike_all, settled-trans}
 use Rattle.speedate_sort.proofs.SourceLemmas.{source-known, sources-line, sources-none}
-use Rattle.speedate_sort.proofs.SourceLemmas.{sources-step}
+use Rattle.speedate_sort.proofs.SourceLemmas.{sources-set, sources-step}
 use Rattle.speedate_sort.proofs.merge.merge_lines.Goals as goal
 
 pub returns-in_default-clause-merged : goal.returns-in_default-clause-merged
@@ -20,6 +22,7 @@ returns-in_default-clause-merged g c =
       sent = AppendsBut-same (c.loop.invariant.sent known)
           (ap (λ (l : List ℕ). waiting ++ l) none.0);
       all = λ is. (refl, c.loop.invariant.order known none.1);
+      others = tt;
     }
 
 pub returns-in_err-halt-clause-beginning : goal.returns-in_err-halt-clause-beginning
@@ -30,7 +33,7 @@ returns-in_err-halt-clause-beginning g c =
     (sym c.in-Some.ensures.best) c.in-Some.ensures.within at c.loop.pending.items in
     on_err c.from_residual.result (λ known. AppendsBeginning-left
     (AppendsBut-same (c.loop.invariant.sent known) line.1)
-    (AppendsBeginning-more line.0 c.in_err-halt.ensures.printed.writes.beginning))
+    (AppendsBeginning-more _ c.in_err-halt.ensures.printed.writes.beginning))
 
 pub returns-in-Some-2-clause-merged : goal.returns-in-Some-2-clause-merged
 returns-in-Some-2-clause-merged g c =
@@ -38,11 +41,26 @@ returns-in-Some-2-clause-merged g c =
     let at = ap (get_or c.loop.sources best.index) c.index-sources-best.is in
     let line = sources-line g.R.Read.remaining c.loop.sources best _
     (sym c.in-Some.ensures.best) c.in-Some.ensures.within at c.loop.pending.items in
+    let files : List (List Keyed) = files_left g.R.Read.remaining c.loop.sources in
+    let left : List ℕ = due (set files best.index line.0) in
     λ known. record {
-      left = line.0;
+      left = left;
       sent = AppendsBut-trans (AppendsBut-same (c.loop.invariant.sent known) line.1)
-          (AppendsBut-more line.0 c.in_ok-halt.ensures.printed.writes.sent);
+          (AppendsBut-more left c.in_ok-halt.ensures.printed.writes.sent);
       all = λ none. absurd (true≢false none);
+      others = (line.0, ap due (sources-set g.R.Read.remaining c.loop.sources best.index
+          c.step.new.source line.0));
+    }
+
+-- no further line can be counted
+pub returns-clause-merged : goal.returns-clause-merged
+returns-clause-merged g c =
+    let files : List (List Keyed) = files_left g.R.Read.remaining c.loop.sources in
+    λ known. record {
+      left = due files;
+      sent = c.loop.invariant.sent known;
+      all = λ none. absurd (true≢false none);
+      others = (get_or files 0 [], ap due (sym (set-get_or files 0 [])));
     }
 
 pub returns-in-Some-2-clause-halted : goal.returns-in-Some-2-clause-halted
