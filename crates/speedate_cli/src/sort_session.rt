@@ -83,11 +83,7 @@ fn add_file<'a>(
 }
 
 /// Prints the lines in order, and returns the exit status as far as it is about that.
-fn print_lines<W: Write>(
-    rt: &HostRuntime,
-    lines: &mut KeyedLines,
-    output: &mut Watched<W>,
-) -> u8
+fn print_lines<W: Write>(rt: &HostRuntime, lines: &mut KeyedLines, output: &mut Watched<W>) -> u8
     ensures printed { (ended : Result (Unit {0}) Unsorted) × (result ≡ sorted_status ended)
         × PrintsSorted ended (W.contents output.old.inner) (W.contents output.new.inner)
         (sorted_text lines.old) }

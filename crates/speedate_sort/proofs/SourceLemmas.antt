@@ -22,10 +22,11 @@ use Rattle.speedate_sort.specs.Base.{LineKind, Offsets, Scan}
 use Rattle.speedate_sort.specs.Sort.{Keyed, Keys, file_lines, instant_after, key_after, key_of}
 use Rattle.speedate_sort.specs.Sort.{name_text}
 use Rattle.speedate_sort.specs.Merge.{AreAlike, AreAllInOrder, AreKnown, Best, Halt, Halted}
-use Rattle.speedate_sort.specs.Merge.{IsAlike, IsHalt, IsHaltIn, Merges, MergesUpTo, Moves, ReadsLine, Source}
-use Rattle.speedate_sort.specs.Merge.{StaysSettled, bare, best_of, bytes_of, due, ended, files_left}
-use Rattle.speedate_sort.specs.Merge.{instant_of, instants, line_and, lines_left, merged_text}
-use Rattle.speedate_sort.specs.Merge.{number_after, number_of, printed_first, unread, with_feed}
+use Rattle.speedate_sort.specs.Merge.{IsAlike, IsHalt, IsHaltIn, Merges, MergesUpTo, Moves}
+use Rattle.speedate_sort.specs.Merge.{ReadsLine, Source, StaysSettled, bare, best_of, bytes_of}
+use Rattle.speedate_sort.specs.Merge.{due, ended, files_left, instant_of, instants, line_and}
+use Rattle.speedate_sort.specs.Merge.{lines_left, merged_text, number_after, number_of}
+use Rattle.speedate_sort.specs.Merge.{printed_first, unread, with_feed}
 use Rattle.speedate_sort.proofs.SortLemmas.{last_line-some}
 use Rattle.speedate_sort.proofs.MergeLemmas.{Begins, IsFirst, IsNotBefore, best-is_first, due-all}
 use Rattle.speedate_sort.proofs.MergeLemmas.{due-line, due-none, due-step, file-first}

@@ -232,26 +232,26 @@ files_left remaining sources =
 abbrev pub AreKnown : {R : Type 0} → (R → Option (List ℕ)) → List (Source R) → Type 0
 AreKnown remaining sources = All (λ source. IsSome (remaining source.input)) sources
 
--- this is printed of the lines that are left if a source ended the merge: those of the other sources,
--- and some of its own
+-- what is printed of the lines that are left once a source has ended the merge: of those of the
+-- other sources, and of some of its own
 abbrev pub IsLeft : List (List Keyed) → List ℕ → Halted → Type 0
 IsLeft files left halted = (own : List Keyed) × (left ≡ due (set files halted.index own))
 
--- what is printed of files was written, but for what waits and what is left of it; nothing is left
--- if the merge did not end before, and then the files are in order
-pub record Merges (files files_left : List (List Keyed)) (before after : Option (List ℕ))
+-- what is printed of files was written, but for what waits and what is left of it, now that these
+-- lines are left; nothing is left if the merge did not end before, and then the files are in order
+pub record Merges (files now : List (List Keyed)) (before after : Option (List ℕ))
     (waited waiting : List ℕ) (halted : Option Halted) : Type 0 where
   pub left : List ℕ
   pub sent : AppendsBut (waiting ++ left) before after (waited ++ due files)
   pub all : IsNone halted → (left ≡ []) × AreAllInOrder files
-  pub others : IfSome halted (IsLeft files_left left)
+  pub others : IfSome halted (IsLeft now left)
 
--- what is printed of files was written, but for the lines that are left after a source ended the merge
-pub record MergesUpTo (files files_left : List (List Keyed)) (before after : Option (List ℕ))
+-- what is printed of files was written, but for what is left once a source has ended the merge
+pub record MergesUpTo (files now : List (List Keyed)) (before after : Option (List ℕ))
     (halted : Halted) : Type 0 where
   pub left : List ℕ
   pub sent : AppendsBut left before after (due files)
-  pub others : IsLeft files_left left halted
+  pub others : IsLeft now left halted
 
 -- why the lines of a source ended: a read has failed, a bad value ended the run, the last value is
 -- earlier than the one before it, or unlike those of other sources

@@ -48,8 +48,11 @@ returns-in-Some-2-clause-merged g c =
       sent = AppendsBut-trans (AppendsBut-same (c.loop.invariant.sent known) line.1)
           (AppendsBut-more left c.in_ok-halt.ensures.printed.writes.sent);
       all = λ none. absurd (true≢false none);
-      others = (line.0, ap due (sources-set g.R.Read.remaining c.loop.sources best.index
-          c.step.new.source line.0));
+      others = (
+        line.0,
+        ap due (sources-set g.R.Read.remaining c.loop.sources best.index
+            c.step.new.source line.0),
+      );
     }
 
 -- no further line can be counted
