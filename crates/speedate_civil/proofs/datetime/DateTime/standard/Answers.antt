@@ -1,4 +1,4 @@
-use Rattle.std.proofs.Common.{◌≡◌, ◌∙◌, ap, length, sym, Err, Ok}
+use Rattle.std.proofs.Common.{ap, length, sym}
 use Rattle.speedate_base.proofs.RefusalLemmas.{refusal-read}
 use Rattle.speedate_base.specs.Refused.{seen_as}
 use Rattle.speedate_civil.specs.DateTime.{date_and_time}

@@ -1,4 +1,4 @@
-use Rattle.std.proofs.Common.{◌≡◌, ◌∙◌, ap, sym, Err}
+use Rattle.std.proofs.Common.{◌∙◌, ap, sym, Err}
 use Rattle.speedate_base.proofs.RefusalLemmas.{seen_longer, seen_stopped, seen_whole}
 use Rattle.speedate_base.specs.Requirement.{result_map, with_size}
 use Rattle.speedate_civil.specs.Base.{ParseError}
