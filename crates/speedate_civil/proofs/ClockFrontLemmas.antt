@@ -1,4 +1,5 @@
 -- The clock at the front of a text, as its eight bytes give its hour and its minute.
+use Rattle.std.proofs.Common.{rules}
 use Rattle.std.proofs.Common.{◌≡◌, ◌∙◌, ap, sym, subst, refl, ℕ, ◌<◌, ◌≤◌, ◌==◌, Bool, true, false, ◌&&◌, if◌then◌else◌, List, length, get_or, drop, slice_index, codes, Result, Ok, Err, ◌+◌, arith, get_or-drop, le-leb}
 use Rattle.speedate_civil.specs.Base.{Behavior, ParseError}
 use Rattle.std.proofs.lemmas.Bool.{and_from}
@@ -78,12 +79,7 @@ fourth-of : (a b c d e : Bool) (rest count : ℕ)
     → count ≡ (if a then 1 + (if b then 1 + (if c then 1 + (if d then 1
     + (if e then 1 + rest else 0) else 0) else 0) else 0) else 0)
     → 3 ≤ count → count < 5 → ((a && b) ≡ true) × (c ≡ true) × ((d && e) ≡ false)
-fourth-of false b c d e rest count is some few = absurd (omega arith)
-fourth-of true false c d e rest count is some few = absurd (omega arith)
-fourth-of true true false d e rest count is some few = absurd (omega arith)
-fourth-of true true true false e rest count is some few = (refl, refl, refl)
-fourth-of true true true true false rest count is some few = (refl, refl, refl)
-fourth-of true true true true true rest count is some few = absurd (omega arith)
+fourth-of a b c d e rest count is some few = search rules
 
 pub no-minute : {E : Type 0} (refuse : ParseError → ℕ → E) (behavior : Behavior)
     (text front : List ℕ) (fits : ℕ) → 5 ≤ length text
@@ -115,11 +111,7 @@ minute_is text fits = grind (arith, common_steps, and_from, fit_length-all)
 pub minute-read : (text front numbers : List ℕ) (fits : ℕ) → front ≡ eight_at text 0
     → fits ≡ fit_length pattern front → 2 ≤ fits
     → numbers ≡ digit_pairs (fit_digits 2 pattern front) → Minute text numbers
-minute-read text front numbers fits from counted enough spelled =
-    let same = counted ∙ ap (fit_length pattern) from in
-    let two = subst (λ (count : ℕ). 2 ≤ count) same enough in
-    let is = spelled ∙ ap (λ (block : List ℕ). digit_pairs (fit_digits 2 pattern block)) from in
-    subst (λ (all : List ℕ). Minute text all) (sym is) (minute_is text two)
+minute-read text front numbers fits from counted enough spelled = search (rules, minute_is)
 
 -- its range holds, so what follows it decides
 pub minute-decided : {E : Type 0} (refuse : ParseError → ℕ → E) (behavior : Behavior)
@@ -127,22 +119,15 @@ pub minute-decided : {E : Type 0} (refuse : ParseError → ℕ → E) (behavior 
     → Minute text numbers → get_or numbers 0 0 ≤ 59
     → seen_as refuse (minute_front behavior text)
     ≡ first_refusal_or refuse (second_table behavior text) (Ok (minute_clock text))
-minute-decided refuse behavior text numbers minute short =
-    let range = subst (λ (n : ℕ). n ≤ 59) minute.is short in
-    rw (minute.digits, le-leb (two_digit_value text 0) 59 range)
-    (seen-table refuse (second_table behavior text) (Ok (minute_clock text)))
+minute-decided refuse behavior text numbers minute short = search (rules, le-leb, seen-table)
 
 -- two tests of which one does not hold
 first-two : (a b : Bool) (rest : ℕ) → (if a then 1 + (if b then 1 + rest else 0) else 0) < 2
     → (a && b) ≡ false
-first-two false b rest few = refl
-first-two true false rest few = refl
-first-two true true rest few = absurd (omega arith)
+first-two a b rest few = search rules
 
 pub minute-none : {E : Type 0} (refuse : ParseError → ℕ → E) (behavior : Behavior)
     (text front : List ℕ) (fits : ℕ) → front ≡ eight_at text 0
     → fits ≡ fit_length pattern front → fits < 2
     → seen_as refuse (minute_front behavior text) ≡ Err (refuse ParseError.InvalidCharMinute 0)
-minute-none refuse behavior text front fits from counted few =
-    let same = counted ∙ ap (fit_length pattern) from in
-    rw (first-two _ _ _ (subst (λ (count : ℕ). count < 2) same few)) refl
+minute-none refuse behavior text front fits from counted few = search (rules, first-two)

@@ -1,6 +1,6 @@
 -- Laws of the order of dates: it is that of the day numbers, and that of the texts. Each date of
 -- the years to 9999 is the date of its day number, and days are counted as the dates are in order.
-use Rattle.std.proofs.Common.{◌≡◌, ℕ, ◌+◌, ◌-◌, ◌*◌, ◌/◌, ◌%◌, ◌<◌, ◌≤◌, Bool, true, false, if◌then◌else◌, nat_le, ℤ, pos, negsuc, ◌+ℤ◌, ◌-ℤ◌, Option, Some, None, IfSome, int_cmp, List, [], ◌++◌, refl, nat_cmp, Ordering, Equal, rules, arith, ◌∙◌, ap}
+use Rattle.std.proofs.Common.{◌≡◌, ℕ, ◌+◌, ◌-◌, ◌*◌, ◌/◌, ◌%◌, ◌<◌, ◌≤◌, Bool, if◌then◌else◌, nat_le, ℤ, pos, negsuc, ◌+ℤ◌, ◌-ℤ◌, Option, Some, None, IfSome, int_cmp, List, [], ◌++◌, refl, nat_cmp, Ordering, Equal, rules, arith, ◌∙◌, ap}
 use Rattle.std.specs.Cmp.Lexicographic.{slice_cmp}
 use Rattle.std.specs.Ordering.{ordering_then}
 use Rattle.std.proofs.lemmas.Bool.Decides.{nat_tests}
@@ -105,11 +105,7 @@ pub date_order-number : (first second : Ymd) → IsDay first → IsDay second
     → nat_cmp (65536 * first.year + 256 * first.month + first.day)
     (65536 * second.year + 256 * second.month + second.day)
     ≡ date_order first second
-date_order-number first second one two =
-    let month : first.month < 256 = omega (arith, one.month.1) in
-    let other_month : second.month < 256 = omega (arith, two.month.1) in
-    let day = day-small first one in
-    fields-order first second month day other_month (day-small second two)
+date_order-number first second one two = grind (arith, nat_tests, day-small, fields-order)
 
 -- as many steps as its day number counts lead to a date
 pub date_of_number-day_number : (date : Ymd) → IsDay date → date_of_number (day_number date) ≡ date
@@ -141,15 +137,14 @@ numbered-order : (first second : ℕ) (one two : Bool)
     → IfSome (if one then Some (date_of_number first) else None)
     (λ date. IfSome (if two then Some (date_of_number second) else None)
     (λ other. date_order date other ≡ int_cmp (pos first) (pos second)))
-numbered-order first second true true =
-    let date = date_of_number first in
-    let other = date_of_number second in
-    let first_is = day_number-date_of_number first in
-    let second_is = day_number-date_of_number second in
-    date_order-day_number date other (date_of_number-IsDay first) (date_of_number-IsDay second)
-    ∙ rw (first_is, second_is) (number-order first second)
-numbered-order first second true false = tt
-numbered-order first second false two = tt
+numbered-order first second one two =
+    search (
+      rules,
+      day_number-date_of_number,
+      date_order-day_number,
+      date_of_number-IsDay,
+      number-order,
+    )
 
 none-after : (date : Option Ymd) → IfSome date (λ found. Unit {0})
 none-after (Some date) = tt

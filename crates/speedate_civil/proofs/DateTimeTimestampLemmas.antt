@@ -1,6 +1,6 @@
 -- The seconds of a date-time without an offset, as a timestamp, and its microsecond lead back to
 -- it.
-use Rattle.std.proofs.Common.{◌≡◌, ◌∙◌, ◌+◌, ◌-◌, ℕ, ◌<◌, ◌≤◌, ℤ, unsigned_abs, Bool, true, List, length, if◌then◌else◌, Ok, Err, ap, sym, rules, arith}
+use Rattle.std.proofs.Common.{◌≡◌, ℕ, ◌<◌, ◌≤◌, ℤ, unsigned_abs, true, List, Ok, Err, rules, arith}
 use Rattle.std.proofs.lemmas.Bool.Decides.{nat_tests}
 use Rattle.std.proofs.lemmas.Int.{ints}
 use Rattle.speedate_base.specs.Numbers.{DecimalParts}
@@ -9,7 +9,6 @@ use Rattle.speedate_base.specs.Timestamp.{Instant, UnitRow, decimal_instant, dig
 use Rattle.speedate_base.specs.Timestamp.{later_answer, range_answer, range_table}
 use Rattle.speedate_civil.specs.DateTime.{DateAndTime, IsDateAndTime, local_second, date_time_at}
 use Rattle.speedate_civil.specs.DateTime.{date_time_timestamp_answer, decimal_instant_answer}
-use Rattle.speedate_civil.specs.DateTime.{decimal_table}
 use Rattle.speedate_civil.specs.DateTime.{instant_date_time}
 use Rattle.speedate_base.proofs.TimestampLemmas.{instant_of_seconds}
 use Rattle.speedate_civil.specs.Base.{Behavior, ParseError, TimestampUnit}
@@ -68,9 +67,4 @@ pub decimal-refused : {E : Type 0} (refuse : ParseError → ℕ → E) (row : Un
     → Err fault ≡ range_answer (decimal_instant row decimal)
     → Err (refuse fault 0) ≡ seen_as refuse (decimal_instant_answer row behavior text decimal)
 decimal-refused refuse row behavior text decimal fault few refused =
-    let instant = decimal_instant row decimal in
-    let range = first_refusal_or refuse (all_at_byte 0 (range_table instant)) (Ok instant) in
-    let place = length text - length decimal.fraction + row.digits in
-    range-refused refuse instant instant fault refused
-    ∙ ap (λ (test : Bool). if test then range else Err (refuse row.too_long place)) (sym few)
-    ∙ sym (seen-table refuse (decimal_table row behavior text decimal) (Ok instant))
+    search (rules, range-refused, seen-table)

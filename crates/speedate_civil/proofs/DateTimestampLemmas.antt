@@ -1,5 +1,5 @@
 -- The second of a date's midnight, as a timestamp, leads back to it.
-use Rattle.std.proofs.Common.{◌≡◌, ◌∙◌, ap, refl, subst, sym, ℕ, ◌/◌, ◌%◌, ◌<◌, ◌≤◌, Bool, true, false, IsTrue, int_le, w64, to_z, of_z, Some, Ok, ℤ, pos, ◌+ℤ◌, ◌-ℤ◌, ◌*ℤ◌, unsigned_abs, rules, arith}
+use Rattle.std.proofs.Common.{◌≡◌, ◌∙◌, ap, refl, ℕ, ◌/◌, ◌%◌, ◌<◌, ◌≤◌, Bool, true, false, IsTrue, int_le, w64, to_z, of_z, Some, Ok, ℤ, pos, ◌+ℤ◌, ◌-ℤ◌, ◌*ℤ◌, unsigned_abs, rules, arith}
 use Rattle.speedate_civil.specs.Base.{TimestampUnit}
 use Rattle.std.specs.Int.{int_div_euclid, int_rem_euclid}
 use Rattle.std.proofs.lemmas.Bool.Decides.{nat_tests}
@@ -82,15 +82,4 @@ pub record Since (at : ℤ) (per_day : ℕ) : Type 0 where
 pub since-counted : (second : ℤ) (per_day : ℕ) → IsTrue (int_le first_second second)
     → IsTrue (int_le second last_second) → per_day ≡ seconds_per_day → Since second per_day
 since-counted second per_day after before same =
-    let is = since-is second after before in
-    let day = since second / seconds_per_day in
-    let rest = since second % seconds_per_day in
-    let days = pos day -ℤ pos epoch_day in
-    let sum : second ≡ days *ℤ pos seconds_per_day +ℤ pos rest = omega (arith, ints, is.0) in
-    let counted : Since second seconds_per_day = record {
-      day = sym (day-of second day rest (omega arith) sum);
-      number = day_number-of second day rest (omega arith) sum;
-      small = omega (arith, is.1);
-      second = sym (second-of second day rest (omega arith) sum);
-    } in
-    subst (λ (n : ℕ). Since second n) (sym same) counted
+    search (rules, since-is, counted, day-of, day_number-of, second-of)

@@ -1,6 +1,6 @@
 -- Laws of day numbers: how long years and months are, and that each day has one number more than
 -- the day before.
-use Rattle.std.proofs.Common.{◌≡◌, ℕ, zero, suc, ◌+◌, ◌-◌, ◌*◌, ◌/◌, ◌≤◌, true, false, if◌then◌else◌, refl, rules, arith, subst, add-one, add-zero, add-suc}
+use Rattle.std.proofs.Common.{◌≡◌, ℕ, zero, suc, ◌+◌, ◌-◌, ◌*◌, ◌/◌, ◌≤◌, if◌then◌else◌, refl, rules, arith, subst, add-one, add-zero, add-suc}
 use Rattle.std.proofs.lemmas.Bool.Decides.{nat_tests}
 use Rattle.speedate_civil.specs.Calendar.{Ymd, is_leap_year, february_length, month_length, IsDay}
 use Rattle.speedate_civil.specs.Calendar.{year_length, ordinal_day, day_number, following_day}
@@ -18,11 +18,7 @@ pub leap_day-small : (year : ℕ) → leap_day year ≤ 1
 leap_day-small year = grind arith
 
 pub february_length-is : (year : ℕ) → february_length year ≡ 28 + leap_day year
-february_length-is year =
-    elim (is_leap_year year) as (λ leap. (if leap then 29 else 28) ≡ 28 + (if leap then 1 else 0)) [
-      | true ↦ refl
-      | false ↦ refl
-    ]
+february_length-is year = search rules
 
 days_of_months-none : (year : ℕ) → days_of_months year 0 ≡ 0
 unfolding days_of_months

@@ -15,7 +15,7 @@ use Rattle.speedate_civil.specs.Calendar.{Ymd}
 use Rattle.speedate_civil.specs.Time.{Clock, at_hour, clock_answer, clock_front, hour_table}
 use Rattle.speedate_civil.specs.Time.{hour_range, minute_clock, minute_digits, minute_table}
 use Rattle.speedate_civil.specs.Time.{has_second, has_decimal_mark, end_fault, offset_digits_size}
-use Rattle.speedate_civil.specs.Time.{offset_front, offset_digits, offset_ranges, has_minus_sign}
+use Rattle.speedate_civil.specs.Time.{offset_front, has_minus_sign}
 use Rattle.speedate_civil.specs.Time.{is_plus_or_minus, is_utc, signed_front, TimeOfDay, time_front}
 use Rattle.speedate_civil.specs.Time.{time_answer, clock_with_offset}
 use Rattle.speedate_civil.specs.DateTime.{DateAndTime, DateTime, date_and_time, date_time_answer}
@@ -120,15 +120,7 @@ signed-taken : (west : Bool) (sign : ℕ) (rest : List ℕ)
     ≡ from_byte sign (signed_front west sign (drop sign (take count rest))))
     → IfOk (signed_front west sign (drop sign rest)) (IsTaken rest)
 signed-taken west sign rest is =
-    let numbers : List ℕ = drop sign rest in
-    read-rows (IsTaken rest) (offset_digits numbers) _ (λ digits.
-    read-rows (IsTaken rest) (offset_ranges numbers) _ (λ ranges count within.
-    let dropped = dropped-front sign count rest (omega (arith, within)) in
-    is count within
-    ∙ ap (from_byte sign) (ap (signed_front west sign) dropped
-    ∙ digits-taken west sign (count - sign) numbers _ refl (omega (arith, within))
-    ∙ refusal-all placed (offset_digits numbers) _ digits
-    ∙ refusal-all placed (offset_ranges numbers) _ ranges)))
+    grind (arith, nat_tests, read-rows, dropped-front, digits-taken, refusal-all)
 
 -- what begins no offset begins none in a front of it
 no_minus-taken : (rest : List ℕ) (count : ℕ) → has_minus_sign rest ≡ false
@@ -246,10 +238,7 @@ date-taken text count ten inside = grind (arith, common_steps)
 
 -- so a date that was read ends within its text, and is that of its bytes alone
 pub date_front-within : (text : List ℕ) → IfOk (date_front text) (λ front. front.1 ≤ length text)
-date_front-within text =
-    let answer : Result (Ymd × ℕ) Refused = Ok (date_numbers text, 10) in
-    let Within = λ (front : Ymd × ℕ). front.1 ≤ length text in
-    read-rows Within (date_table text) answer (λ rows. leb-true 10 (length text) rows.0)
+date_front-within text = search (rules, read-rows, leb-true)
 
 pub date_front-alone : (text : List ℕ)
     → IfOk (date_front text) (λ front. date_answer (take front.1 text) ≡ Ok front.0)

@@ -1,6 +1,7 @@
 -- A text whose bytes lie between those of two texts begins with a date, and a clock with a second.
+use Rattle.std.proofs.Common.{rules}
 use Rattle.std.proofs.Common.{◌≡◌, ◌∙◌, ap, sym, refl, ℕ, zero, suc, ◌+◌, ◌-◌, ◌*◌, ◌<◌, ◌≤◌, ◌==◌, Bool, true, ◌&&◌, nat_le, List, [], ◌∷◌, length, get_or, take, drop, codes, slice_index, arith, lit<, lit≤, get_or-drop, get_or-take, length-drop, length-take-le, leb-true}
-use Rattle.std.proofs.Common.{ℤ, pos, ◌+ℤ◌, ◌-ℤ◌, ◌*ℤ◌, Option, Some, None, Ok, if◌then◌else◌}
+use Rattle.std.proofs.Common.{ℤ, pos, ◌+ℤ◌, ◌-ℤ◌, ◌*ℤ◌, Some, None, Ok, if◌then◌else◌}
 use Rattle.std.proofs.lemmas.Bool.{and_parts}
 use Rattle.std.proofs.lemmas.Bool.Decides.{nat_tests}
 use Rattle.std.specs.Char.{is_ascii_digit}
@@ -136,15 +137,7 @@ pub full-clock : (text : List ℕ) → 19 ≤ length text
     → AreBetween lowest_date (take 16 text) highest_date
     → AreBetween lowest_clock (take 16 (drop 3 text)) highest_clock → HasFullClock text
 full-clock text long date clock =
-    let byte = λ (k : ℕ) (small : k < 8). clock-byte text k long small clock in
-    record {
-      long = long;
-      date = looks-date text long date;
-      day = looks-day text long date;
-      clock = looks-clock text long clock;
-      minute = below-60 _ _ (byte 3 (lit< tt)) (byte 4 (lit< tt));
-      second = below-60 _ _ (byte 6 (lit< tt)) (byte 7 (lit< tt));
-    }
+    search (rules, clock-byte, looks-date, looks-day, looks-clock, below-60)
 
 abbrev pub highest_offset : List ℕ
 highest_offset = 50 ∷ 57 ∷ 58 ∷ 53 ∷ 57 ∷ 255 ∷ 255 ∷ 255 ∷ []
@@ -158,13 +151,7 @@ offset-byte : (bytes : List ℕ) (k : ℕ) → length bytes ≡ 8 → k < 8
     → AreBetween hour_and_minute_form bytes highest_offset
     → (get_or hour_and_minute_form k 0 ≤ get_or bytes k 0)
     × (get_or bytes k 0 ≤ get_or highest_offset k 0)
-offset-byte bytes k long small all =
-    let both = and_parts (are_at_most hour_and_minute_form bytes)
-    (are_at_most bytes highest_offset) all in
-    let there : k < length bytes = omega (arith, long, small) in (
-      at_most-at hour_and_minute_form bytes k both.0 small there,
-      at_most-at bytes highest_offset k both.1 there small,
-    )
+offset-byte bytes k long small all = search (rules, and_parts, at_most-at)
 
 looks-eight : (a b c d e f g h : ℕ) → LooksLikeOffset (a ∷ b ∷ c ∷ d ∷ e ∷ f ∷ g ∷ h ∷ [])
 looks-eight a b c d e f g h all =
@@ -192,12 +179,7 @@ front-is : (assumes_utc : Bool) (text : List ℕ) (date : Ymd) (clock : Clock) (
       11 + (clock.size + offset.1),
     )
 front-is assumes_utc text date clock offset is behavior =
-    let read = is.found.offset in
-    let time = clock_with_offset clock read in
-    date_time_front-is behavior text (date, 10) (time, clock.size + offset.1) is.dated
-    (is.parted, tt)
-    (time_front-is behavior (drop 11 text) clock (read, offset.1) (is.timed behavior)
-    is.found.read)
+    grind (arith, nat_tests, date_time_front-is, time_front-is)
 
 -- its offset is absent if it takes no bytes
 pub full-front : (text : List ℕ) (date : Ymd) (clock : Clock) (offset : ℤ × ℕ)
@@ -210,13 +192,7 @@ pub full-front : (text : List ℕ) (date : Ymd) (clock : Clock) (offset : ℤ ×
       },
       11 + (clock.size + offset.1),
     )
-full-front text date clock offset is behavior =
-    front-is true text date clock offset is behavior
-    ∙ ap (λ (read : Option ℤ). Ok (
-      record { date = date; time = clock_with_offset clock read },
-      11 + (clock.size + offset.1),
-    ))
-    is.found.told
+full-front text date clock offset is behavior = grind (arith, nat_tests, front-is)
 
 -- its microsecond in UTC is that of the date, the clock and the offset
 pub utc-front : (assumes_utc : Bool) (text : List ℕ) (date : Ymd) (clock : Clock) (offset : ℤ × ℕ)

@@ -12,7 +12,6 @@ use Rattle.speedate_base.specs.Timestamp.{seconds_per_day, Instant, instant_orde
 use Rattle.speedate_civil.specs.Time.{fraction_text, TimeOfDay, IsTime, minute_time, second_of_day}
 use Rattle.speedate_civil.specs.Time.{time_text, time_instant, time_instant_order, clock_text}
 use Rattle.speedate_civil.specs.Time.{FractionDigits, fraction_text_with, cut_microsecond}
-use Rattle.speedate_civil.specs.Time.{offset_text}
 use Rattle.speedate_civil.specs.DateTime.{DateAndTime, IsDateAndTime, date_time_text}
 use Rattle.speedate_civil.specs.DateTime.{date_time_instant, date_time_instant_order}
 use Rattle.speedate_civil.specs.DateTime.{cut_date_time, date_time_text_with}
@@ -76,14 +75,7 @@ pub date_time_instant_order-clocks : (first second : DateAndTime)
     → ((is_some first.time.offset && is_some second.time.offset) ≡ true
     → first.time.offset ≡ second.time.offset)
     → date_time_instant_order first second ≡ on (date_time_instant false) instant_order first second
-date_time_instant_order-clocks first second =
-    by (is_some first.time.offset && is_some second.time.offset)
-  where
-    by : (is_utc : Bool) → (is_utc ≡ true → first.time.offset ≡ second.time.offset)
-        → on (date_time_instant is_utc) instant_order first second
-        ≡ on (date_time_instant false) instant_order first second
-    by true same = date_time_instant-shifted first second (same refl)
-    by false same = refl
+date_time_instant_order-clocks first second = search (rules, date_time_instant-shifted)
 
 -- two printed fractions are ordered as the microseconds
 fractions-order : (first second : ℕ) (one two : Bool) → (first == 0) ≡ one → (second == 0) ≡ two
@@ -117,16 +109,7 @@ date_time_text-order first second one two none nothing =
 
 cut_second : (value : DateAndTime) → IsDateAndTime value
     → IsDateAndTime (cut_date_time FractionDigits.Zero value)
-cut_second value valid = record {
-  date = valid.date;
-  time = record {
-    hour = valid.time.hour;
-    minute = valid.time.minute;
-    second = valid.time.second;
-    microsecond = omega arith;
-    offset = valid.time.offset;
-  };
-}
+cut_second value valid = search rules
 
 -- texts that begin with clocks are ordered as the second of the day, and then as what follows
 clock_text-front-order : (first second : TimeOfDay) → IsTime first → IsTime second
@@ -178,11 +161,8 @@ fractions_with-order : (digits : FractionDigits) (first second : ℕ) (rest : Li
     → slice_cmp nat_cmp (fraction_text_with digits first ++ rest)
     (fraction_text_with digits second ++ rest)
     ≡ nat_cmp (cut_microsecond digits first) (cut_microsecond digits second)
-fractions_with-order FractionDigits.Zero first second rest = same-order rest
-fractions_with-order FractionDigits.Three first second rest =
-    rw (same-order rest) (grind (arith, nat_tests, digits-order))
-fractions_with-order FractionDigits.Six first second rest =
-    rw (same-order rest) (simp (digits-order, hundreds-order) (grind (arith, nat_tests)))
+fractions_with-order digits first second rest =
+    grind (arith, nat_tests, same-order, digits-order, hundreds-order)
 
 -- at one offset texts with a number of digits are ordered as the date-times rounded down to these
 pub date_time_text_with-order : (digits : FractionDigits) (first second : DateAndTime)
@@ -190,16 +170,7 @@ pub date_time_text_with-order : (digits : FractionDigits) (first second : DateAn
     → slice_cmp nat_cmp (date_time_text_with digits first) (date_time_text_with digits second)
     ≡ date_time_instant_order (cut_date_time digits first) (cut_date_time digits second)
 date_time_text_with-order digits first second valid other same =
-    let one = fraction_text_with digits first.time.microsecond ++ offset_text first.time.offset in
-    let two = fraction_text_with digits second.time.microsecond ++ offset_text second.time.offset in
-    let rest = fractions_with-order digits first.time.microsecond second.time.microsecond
-    (offset_text second.time.offset) in
-    let own = date_time_instant_order (cut_date_time FractionDigits.Zero first)
-    (cut_date_time FractionDigits.Zero second) in
-    date_time-front-order first second valid other same one two
-    ∙ ap (ordering_then own) (ap (λ offset. slice_cmp nat_cmp
-    (fraction_text_with digits first.time.microsecond ++ offset_text offset) two) same ∙ rest)
-    ∙ rw last-order refl
+    search (rules, fractions_with-order, date_time-front-order, last-order)
 
 -- "not after" is transitive in a total order
 chain : {K : Type 0} {order : K → K → Ordering} → IsTotalOrder order → (first second third : K)

@@ -1,8 +1,8 @@
 -- The month of a day of the year, and the days before a month, by a line through the months of a
 -- year whose February has 30 days.
+use Rattle.std.proofs.Common.{rules}
 use Rattle.std.proofs.Common.{◌≡◌, ℕ, ◌+◌, ◌-◌, ◌*◌, ◌/◌, ◌%◌, ◌<◌, ◌==◌, if◌then◌else◌, nat_lt, refl, arith, below_none, below_more}
 use Rattle.std.specs.Int.{IsInRange}
-use Rattle.std.proofs.lemmas.Bool.Decides.{nat_tests}
 use Rattle.speedate_civil.specs.Calendar.{february_length, month_length, year_length}
 unfoldable use Rattle.speedate_civil.specs.Calendar.{days_of_months}
 use Rattle.speedate_civil.proofs.DayNumberLemmas.{leap_day, leap_day-small, february_length-is}
@@ -82,9 +82,8 @@ ordinal-late year day days moved valid = grind (arith, late-month)
 pub ordinal-at : (year day days : ℕ) → day < year_length year → days ≡ long_day year day
     → IsOrdinal year day (long_month days) (day_in_month days)
 ordinal-at year day days few is =
-    grind (
-      arith,
-      nat_tests,
+    search (
+      rules,
       leap_day-small,
       february_length-is,
       year_length-is,

@@ -1,4 +1,5 @@
 -- No control character stands in a value at the front of a text.
+use Rattle.std.proofs.Common.{rules}
 use Rattle.std.proofs.Common.{◌≡◌, ℕ, suc, ◌+◌, ◌-◌, ◌≤◌, Bool, true, false, ◌==◌, List, drop, slice_index, Option, ℤ, IfOk, Result, Ok, refl, arith, ap, subst, ◌∙◌, inl, inr}
 use Rattle.speedate_civil.specs.Base.{Behavior}
 use Rattle.std.proofs.lemmas.Bool.{and_parts, cases_lt}
@@ -32,12 +33,7 @@ none text k below = absurd (omega (arith, below))
 
 more : (count : ℕ) (text : List ℕ) → HasNoControl count text → space ≤ slice_index text count
     → HasNoControl (suc count) text
-more count text before last k below = elim (cases_lt k count) [
-  | inl small ↦ before k small
-  | inr large ↦
-      let same : count ≡ k = omega (arith, below, large) in
-      subst (λ (place : ℕ). space ≤ slice_index text place) same last
-]
+more count text before last k below = search (rules, cases_lt)
 
 joined : (first second : ℕ) (text : List ℕ) → HasNoControl first text
     → HasNoControl second (drop first text) → HasNoControl (first + second) text
@@ -70,12 +66,7 @@ is_colon byte is = grind (arith, nat_tests)
 -- two digits after bytes
 digits_after : (place : ℕ) (text : List ℕ) → HasNoControl place text
     → two_digits_at text place ≡ true → HasNoControl (place + 2) text
-digits_after place text before are =
-    let one : suc place ≡ place + 1 = omega arith in
-    let two : suc (suc place) ≡ place + 2 = omega arith in
-    let first = more place text before (first_digit text place are) in
-    let second : space ≤ slice_index text (suc place) = rw one (second_digit text place are) in
-    subst (λ (count : ℕ). HasNoControl count text) two (more (suc place) text first second)
+digits_after place text before are = search (rules, more, first_digit, second_digit)
 
 two_digits : (text : List ℕ) → two_digits_at text 0 ≡ true → HasNoControl 2 text
 two_digits text are = digits_after 0 text (none text) are
@@ -85,9 +76,7 @@ run text place k below = digit _ (prefix_len_passes is_ascii_digit (drop place t
 
 -- a date
 year : (text : List ℕ) → four_digits_at text 0 ≡ true → HasNoControl 4 text
-year text are =
-    let both = and_parts (two_digits_at text 0) (two_digits_at text 2) are in
-    digits_after 2 text (two_digits text both.0) both.1
+year text are = search (rules, and_parts, digits_after, two_digits)
 
 date_rows : (text : List ℕ) → AllHold (date_table text) → HasNoControl 10 text
 date_rows text rows =
@@ -98,16 +87,12 @@ date_rows text rows =
 
 pub date_front-no_control : (text : List ℕ)
     → IfOk (date_front text) (λ front. HasNoControl front.1 text)
-date_front-no_control text =
-    let IsPrinted = λ (front : Ymd × ℕ). HasNoControl front.1 text in
-    read-rows IsPrinted (date_table text) (Ok (date_numbers text, 10)) (date_rows text)
+date_front-no_control text = search (rules, read-rows, date_rows)
 
 -- a clock, from its minute on
 to_second : (rest : List ℕ) → has_second rest ≡ true → two_digits_at rest 0 ≡ true
     → two_digits_at rest 3 ≡ true → HasNoControl 5 rest
-to_second rest there digits seconds =
-    let to_colon = more 2 rest (two_digits rest digits) (is_colon _ there) in
-    digits_after 3 rest to_colon seconds
+to_second rest there digits seconds = search (rules, more, two_digits, is_colon, digits_after)
 
 minute : (rest : List ℕ) (second point : Bool) → has_second rest ≡ second
     → has_decimal_mark rest ≡ point
@@ -135,13 +120,7 @@ clock-no_control behavior text clock read =
 offset_numbers : (numbers : List ℕ) (there : Bool) → (slice_index numbers 2 == colon) ≡ there
     → AllHold (offset_digits numbers)
     → HasNoControl (offset_digits_size numbers) numbers
-offset_numbers numbers true there rows =
-    let digits : two_digits_at numbers 3 ≡ true = rw there at rows.1.0 in
-    let to_colon = more 2 numbers (two_digits numbers rows.0) (is_colon _ there) in
-    rw there (digits_after 3 numbers to_colon digits)
-offset_numbers numbers false other rows =
-    let digits : two_digits_at numbers 2 ≡ true = rw other at rows.1.0 in
-    rw other (digits_after 2 numbers (two_digits numbers rows.0) digits)
+offset_numbers numbers there is rows = search (rules, more, two_digits, is_colon, digits_after)
 
 signed : (west : Bool) (sign : ℕ) (rest : List ℕ) → HasNoControl sign rest
     → IfOk (signed_front west sign (drop sign rest)) (λ front. HasNoControl front.1 rest)
@@ -161,10 +140,7 @@ utc_byte : (byte : ℕ) → is_utc byte ≡ true → space ≤ byte
 utc_byte byte is = grind (arith, nat_tests)
 
 minus_sign : (rest : List ℕ) → has_minus_sign rest ≡ true → HasNoControl 3 rest
-minus_sign rest there =
-    let first = more 0 rest (none rest) (grind (arith, nat_tests)) in
-    let second = more 1 rest first (grind (arith, nat_tests)) in
-    more 2 rest second (grind (arith, nat_tests))
+minus_sign rest there = search (rules, more, none)
 
 offset : (rest : List ℕ) → IfOk (offset_front rest) (λ front. HasNoControl front.1 rest)
 offset rest =

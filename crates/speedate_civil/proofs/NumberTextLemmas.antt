@@ -32,13 +32,7 @@ hyphen-no_number text long is =
 -- so is one that begins with a date
 pub number_answer-date : (text : List ℕ) (date : Ymd × ℕ) → date_front text ≡ Ok date
     → number_answer text ≡ NoNumber
-number_answer-date text date read =
-    let rows = rows-met (nat_le 10 (length text)) (four_digits_at text 0)
-    (slice_index text 4 == hyphen)
-    (placed ParseError.TooShort (length text)) (placed ParseError.InvalidCharYear 0)
-    (placed ParseError.InvalidCharDateSep 4) _ (Ok date) read
-    (λ other. cc) (λ other. cc) (λ other. cc) in
-    hyphen-no_number text rows.0 rows.1
+number_answer-date text date read = search (rules, rows-met, hyphen-no_number)
 
 other-fault : {A : Type 0} (refused fault : ParseError) (answer : Result A ParseError)
     → may_be_number refused ≡ false → may_be_number fault ≡ true

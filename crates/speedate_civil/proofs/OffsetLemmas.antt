@@ -25,12 +25,7 @@ pub offset-cases : (P : Option ℤ × ℕ → Type 0) (rest : List ℕ)
     → (is_plus_or_minus (slice_index rest 0) ≡ false → is_utc (slice_index rest 0) ≡ false
     → has_minus_sign rest ≡ false → P (None, 0))
     → IfOk (offset_front rest) P
-offset-cases P rest signed utc minus none =
-    if_cases (λ answer. IfOk answer P) (is_plus_or_minus (slice_index rest 0)) _ _
-    (λ some. read-from P 1 _ (signed some)) (λ other.
-    if_cases (λ answer. IfOk answer P) (is_utc (slice_index rest 0)) _ _ (utc other) (λ unread.
-    if_cases (λ answer. IfOk answer P) (has_minus_sign rest) _ _
-    (λ there. read-from P 3 _ (minus other unread there)) (none other unread)))
+offset-cases P rest signed utc minus none = search (rules, if_cases, read-from)
 
 -- an offset other than 0 is printed with a sign
 offset_text-west : (size : ℕ)
@@ -107,11 +102,4 @@ utc-read assumes_utc bytes place byte is utc = record {
 pub none-read : (assumes_utc : Bool) (bytes : List ℕ) (place byte : ℕ)
     → byte ≡ slice_index bytes place → is_plus_or_minus byte ≡ false → is_utc byte ≡ false
     → byte ≢ 226 → assumes_utc ≡ true → IsOffsetOrUtc assumes_utc (drop place bytes) (pos 0, 0)
-none-read assumes_utc bytes place byte is sign utc other assumed = record {
-  offset = None;
-  read = none-is (drop place bytes) byte (first-of bytes place byte is) sign utc other;
-  second = refl;
-  there = rw assumed refl;
-  told = refl;
-  range = search rules;
-}
+none-read assumes_utc bytes place byte is sign utc other assumed = search (rules, none-is, first-of)

@@ -1,9 +1,10 @@
 -- What a clock at another offset shows.
-use Rattle.std.proofs.Common.{◌≡◌, ◌∙◌, ap, sym, ℕ, ◌*◌, ◌<◌, true, false, int_le, int_lt, ℤ, pos, ◌+ℤ◌, ◌-ℤ◌, unsigned_abs, Option, Some, unwrap_or, Ok, Err, w32, to_z, of_z, arith}
+use Rattle.std.proofs.Common.{rules}
+use Rattle.std.proofs.Common.{◌≡◌, sym, ℕ, ◌*◌, ◌<◌, true, false, int_le, int_lt, ℤ, pos, ◌+ℤ◌, ◌-ℤ◌, unsigned_abs, Option, Some, unwrap_or, Ok, Err, w32, to_z, of_z, arith}
 use Rattle.speedate_civil.specs.Base.{ParseError}
 use Rattle.std.proofs.lemmas.Bool.Decides.{nat_tests}
 use Rattle.std.proofs.lemmas.Int.{ints}
-use Rattle.speedate_base.specs.Requirement.{fault_alone, AllHold, first_fault_or}
+use Rattle.speedate_base.specs.Requirement.{AllHold, first_fault_or}
 use Rattle.speedate_base.specs.Timestamp.{seconds_per_day}
 use Rattle.speedate_civil.specs.Instant.{move_table}
 use Rattle.speedate_civil.specs.Time.{TimeOfDay, time_at, time_in_timezone, utc_second_of_day}
@@ -15,11 +16,7 @@ pub clock-moved : (old : Option ℤ) (offset shift local second : ℤ)
     → Ok shift ≡ first_fault_or (move_table offset old) (Ok (offset -ℤ unwrap_or old (pos 0)))
     → second ≡ local +ℤ shift
     → AllHold (move_table offset old) × (second ≡ (local -ℤ unwrap_or old (pos 0)) +ℤ offset)
-clock-moved old offset shift local second moved sum =
-    let met = refusal-value fault_alone (move_table offset old) (offset -ℤ unwrap_or old (pos 0))
-    shift
-    (sym moved) in
-    (met.0, omega (arith, ints, met.1, sum))
+clock-moved old offset shift local second moved sum = search (rules, refusal-value)
 
 -- so of a date-time
 pub second-moved : (value : DateAndTime) (offset shift local second : ℤ)
@@ -27,9 +24,7 @@ pub second-moved : (value : DateAndTime) (offset shift local second : ℤ)
     (Ok (offset -ℤ unwrap_or value.time.offset (pos 0)))
     → local ≡ local_second value → second ≡ local +ℤ shift
     → AllHold (move_table offset value.time.offset) × (second ≡ utc_second value +ℤ offset)
-second-moved value offset shift local second moved same sum =
-    clock-moved value.time.offset offset shift (local_second value) second moved
-    (sum ∙ ap (λ (n : ℤ). n +ℤ shift) same)
+second-moved value offset shift local second moved same sum = search (rules, clock-moved)
 
 -- and the instant is the same
 pub instant-kept : (value moved : DateAndTime) (offset second : ℤ)

@@ -38,9 +38,7 @@ pub read-part : {A B E : Type 0} (P : B → Type 0) (next : A → Result B E)
     (refuse : ParseError → ℕ → E) (answer : Result A Refused)
     → ((read : A) → answer ≡ Ok read → IfOk (next read) P)
     → IfOk (result_and_then next (seen_as refuse answer)) P
-read-part P next refuse answer held =
-    read-then P next (seen_as refuse answer)
-    (λ read is. held read (seen-read refuse answer read is))
+read-part P next refuse answer held = search (rules, read-then, seen-read)
 
 -- what holds of the value of a part of a text holds of it there
 pub read-from : {A : Type 0} (P : A → Type 0) (start : ℕ) (answer : Result A Refused)
@@ -69,6 +67,4 @@ pub read-seen : {A B E : Type 0} (refuse : ParseError → ℕ → E) (view : A �
     (result : Result A E) (answer : Result B Refused)
     → result_map view result ≡ seen_as refuse answer → IfOk answer P
     → IfOk result (λ value. P (view value))
-read-seen refuse view P (Ok value) (Ok read) is held = search (rules, held)
-read-seen refuse view P (Ok value) (Err refused) is held = absurd (cc)
-read-seen refuse view P (Err refusal) answer is held = tt
+read-seen refuse view P result answer is held = search rules

@@ -323,11 +323,7 @@ parts-spelled : (behavior : Behavior) (text : List ℕ) (time : IsPartialTime be
     → clock_text time.hour time.minute time.second time.fraction
     ≡ clock_text (two_digit_text time.is_hour.number) (two_digit_text time.is_minute.number)
     (two_digit_text time.is_second.number) time.fraction
-parts-spelled behavior text time =
-    let hour = time.is_hour in
-    let minute = time.is_minute in
-    let second = time.is_second in
-    λ i. clock_text (hour.together i) (minute.together i) (second.together i) time.fraction
+parts-spelled behavior text time = search rules
 
 -- and a time of the rules is taken
 full-time-taken : (behavior : Behavior) (text : List ℕ) → IsFullTime behavior text

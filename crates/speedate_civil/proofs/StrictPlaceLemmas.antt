@@ -65,10 +65,7 @@ offset-long rest =
 ending-long : (text : List ℕ) (size : ℕ) (offset : Option ℤ × ℕ) → size ≡ offset_place text
     → offset_front (drop size text) ≡ Ok offset → offset.1 ≡ length (drop size text)
     → IsLong (drop (offset_place text) text)
-ending-long text size offset place after whole =
-    let rest = drop size text in
-    let long = read-value (WholeIsLong rest) _ offset after (offset-long rest) whole in
-    subst (λ (at : ℕ). IsLong (drop at text)) place long
+ending-long text size offset place after whole = search (rules, read-value, offset-long)
 
 rows-within : (behavior : Behavior) (text : List ℕ)
     → IfOk (time_front behavior text)

@@ -1,4 +1,6 @@
 -- Laws of the order of texts: that of their parts, and that of numbers in as many digits.
+use Rattle.std.proofs.lemmas.Grind.{common_steps}
+use Rattle.std.proofs.Common.{rules}
 use Rattle.std.proofs.Common.{◌≡◌, ℕ, zero, suc, ◌+◌, ◌*◌, ◌/◌, ◌%◌, ◌^◌, ◌<◌, ◌≤◌, List, [], ◌∷◌, ◌++◌, length, take, drop, decimal, nat_cmp, Equal, refl, arith, ◌∙◌, ap, sym}
 use Rattle.std.specs.Cmp.Lexicographic.{slice_cmp}
 use Rattle.std.specs.Ordering.{ordering_then}
@@ -34,15 +36,7 @@ in_digits size number = drop 1 (decimal (10 ^ size + number))
 in_digits-next : (size number : ℕ) → number < 10 ^ suc size → 2 * 10 ^ suc size ≤ 2 ^ 64
     → in_digits (suc size) number ≡ in_digits size (number / 10) ++ digit (number % 10) ∷ []
 in_digits-next size number small fits =
-    let all = 10 ^ suc size + number in
-    let power : 10 ^ suc size ≡ 10 * 10 ^ size = pow-succ' 10 size in
-    let some : 0 < 10 ^ size = omega (arith, small, power) in
-    let front : all / 10 ≡ 10 ^ size + number / 10 = omega (arith, power) in
-    let last : all % 10 ≡ number % 10 = omega (arith, power) in
-    ap (drop 1) (decimal_step all (omega (arith, some, power)) (omega (arith, small, fits)))
-    ∙ drop-append-le 1 (decimal (all / 10)) (digit (all % 10) ∷ [])
-    (decimal_nonempty (all / 10) (omega (arith, small, fits)))
-    ∙ rw (front, last) refl
+    grind (arith, common_steps, pow-succ', decimal_step, drop-append-le, decimal_nonempty)
 
 tenth-small : (size number : ℕ) → number < 10 ^ suc size → number / 10 < 10 ^ size
 tenth-small size number small = omega (arith, small, pow-succ' 10 size)
@@ -95,11 +89,7 @@ in_digits-front : (count size number : ℕ) → count ≤ size → number < 10 ^
     → 2 * 10 ^ suc size ≤ 2 ^ 64
     → take count (in_digits (suc size) number) ≡ take count (in_digits size (number / 10))
 in_digits-front count size number within small fits =
-    let long = in_digits-length size (number / 10) (tenth-small size number small)
-    (tenth-fits size fits) in
-    ap (take count) (in_digits-next size number small fits)
-    ∙ take-append-le count (in_digits size (number / 10)) (digit (number % 10) ∷ [])
-    (omega (arith, within, long))
+    search (rules, in_digits-length, tenth-small, tenth-fits, in_digits-next, take-append-le)
 
 -- and by some first digits before the same text, as the quotients that these are
 pub in_digits-front-order : (more count size first second : ℕ) (rest : List ℕ)

@@ -19,7 +19,7 @@ use Rattle.speedate_base.proofs.RefusalLemmas.{refusal-whole}
 use Rattle.speedate_civil.proofs.ClockLemmas.{clock-whole, clock-fraction, clock-secfrac}
 use Rattle.speedate_civil.proofs.OffsetLemmas.{offset_text-first, offset_text-front}
 use Rattle.speedate_base.proofs.RefusalLemmas.{seen-part, seen_then}
-use Rattle.speedate_base.specs.Refused.{alone_or, from_byte, placed, seen_as}
+use Rattle.speedate_base.specs.Refused.{alone_or, placed, seen_as}
 
 -- what is read after a clock, which begins at a byte of the whole text, decides on the time
 pub after-read : {E : Type 0} (refuse : ParseError → ℕ → E) (start : ℕ) (clock : Clock)
@@ -28,13 +28,7 @@ pub after-read : {E : Type 0} (refuse : ParseError → ℕ → E) (start : ℕ) 
     → result_and_then (λ (after : Option ℤ × ℕ). Ok
     (clock_with_offset clock after.0, clock.size + after.1)) offset
     ≡ seen_as (shifted start refuse) (time_after_clock text clock)
-after-read refuse start clock text offset read =
-    let rest = offset_front (drop clock.size text) in
-    ap (result_and_then (λ (after : Option ℤ × ℕ). Ok
-    (clock_with_offset clock after.0, clock.size + after.1)))
-    (read ∙ sym (seen-part refuse start clock.size rest))
-    ∙ sym (seen_then (shifted start refuse) (λ (after : Option ℤ × ℕ). Ok
-    (clock_with_offset clock after.0, clock.size + after.1)) (from_byte clock.size rest))
+after-read refuse start clock text offset read = search (rules, seen-part, seen_then)
 
 -- a printed hour, before a clock that is read
 pub front-printed : (behavior : Behavior) (hour minute second : ℕ) (tail : List ℕ) (clock : Clock)
@@ -177,8 +171,4 @@ pub time_text_with-reads : (behavior : Behavior) (digits : FractionDigits) (time
     → IsTime time → IsWholeMinutes time.offset
     → time_answer behavior (time_text_with digits time) ≡ Ok (cut_time digits time)
 time_text_with-reads behavior digits time valid whole =
-    let text = time_text_with digits time in
-    let fault = λ (read : TimeOfDay). end_fault read.offset in
-    ap (result_and_then (alone_or fault text))
-    (time_text_with-front behavior digits time valid whole)
-    ∙ refusal-whole placed fault text (cut_time digits time) (length text) refl
+    search (rules, time_text_with-front, refusal-whole)

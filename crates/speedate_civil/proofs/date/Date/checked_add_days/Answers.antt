@@ -1,5 +1,4 @@
-use Rattle.std.proofs.Common.{◌≡◌, rules, pos, ◌+ℤ◌, arith}
-use Rattle.std.proofs.lemmas.Grind.{common_steps}
+use Rattle.std.proofs.Common.{◌≡◌, rules, pos, ◌+ℤ◌}
 use Rattle.speedate_civil.specs.Date.{ymd}
 use Rattle.speedate_civil.specs.Calendar.{day_number}
 use Rattle.speedate_civil.proofs.DateOrderLemmas.{days-counted}
@@ -11,6 +10,3 @@ returns-clause-counted c =
     search rules in
     days-counted c.from_day_number.result (day_number (ymd c.args.self.now))
     c.in_ok-number.number c.args.days sum c.from_day_number.ensures.number
-
-pub returns-in_err-number-clause-date : goal.returns-in_err-number-clause-date
-returns-in_err-number-clause-date c = grind (arith, common_steps)

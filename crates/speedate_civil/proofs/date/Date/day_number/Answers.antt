@@ -1,5 +1,4 @@
-use Rattle.std.proofs.Common.{arith, sym}
-use Rattle.speedate_civil.specs.Date.{ymd}
+use Rattle.std.proofs.Common.{arith, rules}
 use Rattle.speedate_civil.proofs.DayNumberLemmas.{days_before_year-is}
 use Rattle.speedate_civil.proofs.DateOrderLemmas.{date_numbered-is}
 use Rattle.speedate_civil.proofs.MonthLemmas.{days_of_months_is}
@@ -12,7 +11,4 @@ returns-clause-number c =
     grind (arith, days_before_year-is, days_before_march, days_of_months_is)
 
 pub returns-clause-numbered : goal.returns-clause-numbered
-returns-clause-numbered c =
-    let date = c.args.self.now in
-    date_numbered-is _ (ymd date) (is_day date) date.year_in_range
-    (sym (returns-clause-number c))
+returns-clause-numbered c = search (rules, date_numbered-is, is_day, returns-clause-number)

@@ -1,12 +1,10 @@
-use Rattle.std.proofs.Common.{◌∙◌, ap, pos, arith}
+use Rattle.std.proofs.Common.{◌∙◌, ap, arith, rules}
 use Rattle.speedate_civil.specs.Calendar.{date_of_number}
 use Rattle.speedate_civil.proofs.DateTimestampLemmas.{Since, since-counted}
 use Rattle.speedate_civil.proofs.date.Date.from_second.Goals as goal
 
 counted : (c : goal.After-from-per_day) → Since c.args.second c.from-per_day.result
-counted c =
-    since-counted c.args.second c.from-per_day.result c.requires.after c.requires.before
-    c.from-per_day.ensures
+counted c = search (rules, since-counted)
 
 pub overflow_cast-seconds-2 : goal.overflow_cast-seconds-2
 overflow_cast-seconds-2 c = omega (arith, (counted c).small)
@@ -22,11 +20,7 @@ returns-clause-date c =
     c.from_number.ensures.date ∙ ap date_of_number is.day
 
 pub returns-clause-day : goal.returns-clause-day
-returns-clause-day c =
-    let is =
-    since-counted c.args.second c.from-per_day.result c.requires.after c.requires.before
-    c.from-per_day.ensures in
-    ap pos c.from_number.ensures.number ∙ is.number
+returns-clause-day c = search (rules, since-counted)
 
 pub returns-clause-second : goal.returns-clause-second
 returns-clause-second c =

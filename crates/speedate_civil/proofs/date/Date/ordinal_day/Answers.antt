@@ -1,4 +1,4 @@
-use Rattle.std.proofs.Common.{rules, arith}
+use Rattle.std.proofs.Common.{arith}
 use Rattle.speedate_civil.specs.Date.{ymd}
 use Rattle.speedate_civil.proofs.DayNumberLemmas.{ordinal_day-small, year_length-is, leap_day-small}
 use Rattle.speedate_civil.proofs.ValueLemmas.{is_day}
@@ -13,6 +13,3 @@ overflow_add-result c =
       year_length-is date.year,
       leap_day-small date.year,
     )
-
-pub returns : goal.returns
-returns c = search rules

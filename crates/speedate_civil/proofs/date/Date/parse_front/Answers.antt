@@ -1,4 +1,5 @@
-use Rattle.std.proofs.Common.{◌≡◌, ℕ, ◌≤◌, length, take, Ok}
+use Rattle.std.proofs.lemmas.Bool.Decides.{nat_tests}
+use Rattle.std.proofs.Common.{◌≡◌, ℕ, take, Ok, arith}
 use Rattle.speedate_civil.specs.Base.{ParseError}
 use Rattle.speedate_base.proofs.RequirementLemmas.{alone-iff}
 use Rattle.speedate_base.specs.Requirement.{fault_alone}
@@ -12,10 +13,7 @@ use Rattle.speedate_civil.proofs.ReadLemmas.{read-seen}
 use Rattle.speedate_civil.proofs.date.Date.parse_front.Goals as goal
 
 pub returns-clause-within : goal.returns-clause-within
-returns-clause-within c =
-    read-seen fault_alone (with_size ymd) (λ (front : Ymd × ℕ). front.1 ≤ length c.args.bytes.now)
-    c.front.result _ c.front.ensures.answer
-    (date_front-within c.args.bytes.now)
+returns-clause-within c = grind (arith, nat_tests, read-seen, date_front-within)
 
 pub returns-clause-whole : goal.returns-clause-whole
 returns-clause-whole c =

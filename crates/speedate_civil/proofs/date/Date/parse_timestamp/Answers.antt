@@ -35,8 +35,4 @@ returns-in-Err-clause-answer g c =
     c.requires.refused) (search rules)
 
 pub returns-in-None-clause-answer : goal.returns-in-None-clause-answer
-returns-in-None-clause-answer g c =
-    let text = c.args.bytes.now in
-    let number = date_number_answer c.args.config.now.timestamp_unit (whole_number text) in
-    rw (seen_refused g.E.Refusal.refusal number (date_answer text) c.args.refusal
-    c.requires.refused) (search rules)
+returns-in-None-clause-answer g c = search (rules, seen_refused)

@@ -1,4 +1,6 @@
-use Rattle.std.proofs.Common.{◌≡◌, ◌∙◌, subst, sym, ℕ, ◌≤◌, ℤ, pos, ◌-ℤ◌, ◌*ℤ◌, SFits, to_z, of_z, w64, arith}
+use Rattle.std.proofs.lemmas.Bool.Decides.{nat_tests}
+use Rattle.std.proofs.Common.{rules}
+use Rattle.std.proofs.Common.{◌≡◌, ℕ, ◌≤◌, ℤ, pos, ◌-ℤ◌, ◌*ℤ◌, SFits, to_z, of_z, w64, arith}
 use Rattle.std.proofs.lemmas.Int.{fits_signed_mul, ints, to_z-of_z}
 use Rattle.speedate_base.specs.Timestamp.{seconds_per_day}
 use Rattle.speedate_civil.specs.Calendar.{epoch_day}
@@ -20,16 +22,13 @@ product-is number day per_day small day_is per_day_is =
 product-fits : (number : ℕ) (day per_day : ℤ) → number ≤ 3652424 → day ≡ pos number
     → per_day ≡ pos seconds_per_day → SFits w64 (product day per_day)
 product-fits number day per_day small day_is per_day_is =
-    subst (λ (n : ℤ). SFits w64 n) (sym (product-is number day per_day small day_is per_day_is))
-    (fits_signed_mul w64 (pos number -ℤ pos epoch_day) (pos seconds_per_day) 4000000
-    seconds_per_day (omega (arith, ints)) (omega arith) (omega arith))
+    search (rules, product-is, fits_signed_mul)
 
 midnight : (number : ℕ) (day per_day : ℤ) → number ≤ 3652424 → day ≡ pos number
     → per_day ≡ pos seconds_per_day → to_z w64 (of_z w64 (product day per_day))
     ≡ (pos number -ℤ pos epoch_day) *ℤ pos seconds_per_day
 midnight number day per_day small day_is per_day_is =
-    to_z-of_z w64 _ (product-fits number day per_day small day_is per_day_is)
-    ∙ product-is number day per_day small day_is per_day_is
+    grind (arith, nat_tests, to_z-of_z, product-fits, product-is)
 
 pub returns-clause-second : goal.returns-clause-second
 returns-clause-second c =

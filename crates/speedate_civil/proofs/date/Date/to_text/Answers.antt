@@ -1,4 +1,4 @@
-use Rattle.std.proofs.Common.{◌∙◌, ap, ℕ, List}
+use Rattle.std.proofs.Common.{◌∙◌, ap, ℕ, List, rules}
 use Rattle.speedate_civil.specs.Date.{date_answer, date_number_answer, date_or_timestamp}
 use Rattle.speedate_civil.specs.Date.{date_text, ymd}
 use Rattle.speedate_base.specs.Numbers.{whole_number}
@@ -24,8 +24,7 @@ returns-clause-reads_back_with_config c config =
 
 pub returns-clause-canonical : goal.returns-clause-canonical
 returns-clause-canonical c config =
-    text-canonical date_text _ _ _ (text-alone _ _ _ c.new-text.ensures c.push_onto.ensures.text)
-    (returns-clause-reads_back_with_config c config)
+    search (rules, text-canonical, text-alone, returns-clause-reads_back_with_config)
 
 pub returns-clause-reads_front : goal.returns-clause-reads_front
 returns-clause-reads_front c rest =

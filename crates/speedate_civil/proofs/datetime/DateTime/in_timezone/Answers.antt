@@ -1,9 +1,9 @@
-use Rattle.std.proofs.Common.{arith, ◌≡◌, rules, Result, Ok, Err, Option, Some, IfOk, ℤ, pos, ◌+ℤ◌, ◌-ℤ◌, unwrap_or, w32, w64, SFits}
+use Rattle.std.proofs.Common.{arith, ◌≡◌, rules, Result, Ok, Err, Option, Some, IfOk, ℤ, ◌+ℤ◌, w32, w64, SFits}
 use Rattle.std.proofs.lemmas.Bool.Decides.{nat_tests}
 use Rattle.std.proofs.lemmas.Int.{to_z-of_z}
 use Rattle.std.proofs.lemmas.Result.{err_from_is_err_and}
 use Rattle.speedate_civil.specs.Base.{ParseError}
-use Rattle.speedate_base.specs.Requirement.{fault_alone, AllHold}
+use Rattle.speedate_base.specs.Requirement.{AllHold}
 use Rattle.speedate_base.specs.Timestamp.{Instant}
 use Rattle.speedate_civil.specs.DateTime.{DateAndTime, utc_second, IsShownAt, date_and_time}
 use Rattle.speedate_civil.specs.DateTime.{DateTime}
@@ -27,24 +27,13 @@ found c =
 
 pub returns-in_err-shift-clause-answer : goal.returns-in_err-shift-clause-answer
 returns-in_err-shift-clause-answer c =
-    let offset = c.args.tz_offset in
-    let old = c.args.self.now.time.tz_offset in
-    let given : SFits w32 offset = search rules in
-    let refused = simp to_z-of_z at c.in_err-shift.ensures.answer in
-    let p = err_from_is_err_and c.from_residual.result c.from_residual.ensures.1 in
-    rw (p.1, p.2) (first_refusal_or-next fault_alone (move_table offset old)
-    (offset -ℤ unwrap_or old (pos 0))
-    (Err c.in_err-shift.field-0.0) _ refused)
+    search (rules, to_z-of_z, err_from_is_err_and, first_refusal_or-next)
 
 pub move_second-requires-clause-least : goal.move_second-requires-clause-least
-move_second-requires-clause-least c =
-    let fits : SFits w64 c.timestamp.result = search rules in
-    rw (to_z-of_z w64 c.timestamp.result fits) c.timestamp.ensures.least
+move_second-requires-clause-least c = grind (arith, nat_tests, to_z-of_z)
 
 pub move_second-requires-clause-largest : goal.move_second-requires-clause-largest
-move_second-requires-clause-largest c =
-    let fits : SFits w64 c.timestamp.result = search rules in
-    rw (to_z-of_z w64 c.timestamp.result fits) c.timestamp.ensures.largest
+move_second-requires-clause-largest c = grind (arith, nat_tests, to_z-of_z)
 
 pub returns-clause-answer : goal.returns-clause-answer
 returns-clause-answer c = search (rules, to_z-of_z, refusal-all, found)

@@ -1,4 +1,4 @@
-use Rattle.std.proofs.Common.{◌≡◌, ◌∙◌, ap, refl, sym, Some, ℤ, pos, ◌+ℤ◌, w32, w64, SFits, rules, arith}
+use Rattle.std.proofs.Common.{◌≡◌, ◌∙◌, ap, sym, Some, ℤ, pos, ◌+ℤ◌, w32, w64, SFits, rules, arith}
 use Rattle.std.proofs.lemmas.Int.{ints, to_z-of_z}
 use Rattle.std.proofs.lemmas.Result.{err_from_is_err_and}
 use Rattle.speedate_civil.specs.DateTime.{instant_date_time}
@@ -6,15 +6,7 @@ use Rattle.speedate_civil.proofs.MomentLemmas.{moment-shown, moment-refused}
 use Rattle.speedate_civil.proofs.datetime.DateTime.now_at.Goals as goal
 
 pub returns-in_err-require_offset : goal.returns-in_err-require_offset
-returns-in_err-require_offset c =
-    let given : SFits w32 c.args.tz_offset = search rules in
-    let refused = simp to_z-of_z at c.in_err-require_offset.ensures.answer in
-    let p = err_from_is_err_and c.from_residual.result c.from_residual.ensures.1 in
-    record {
-      answer = rw (p.1, p.2)
-          (sym (moment-refused c.args.tz_offset c.args.moment _ c.in_err-require_offset.field-0.0
-          (omega arith) refused refl));
-    }
+returns-in_err-require_offset c = search (rules, to_z-of_z, err_from_is_err_and, moment-refused)
 
 pub returns : goal.returns
 returns c =

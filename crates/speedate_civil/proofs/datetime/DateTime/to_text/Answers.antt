@@ -1,4 +1,4 @@
-use Rattle.std.proofs.Common.{◌∙◌, ap}
+use Rattle.std.proofs.Common.{◌∙◌, ap, rules}
 use Rattle.std.specs.Option.{option_map}
 use Rattle.speedate_base.specs.Numbers.{number_answer}
 use Rattle.speedate_civil.specs.DateTime.{date_and_time, date_time_answer, date_time_at}
@@ -42,5 +42,4 @@ returns-clause-reads_front c whole config rest =
 
 pub returns-clause-canonical : goal.returns-clause-canonical
 returns-clause-canonical c whole config =
-    let bytes = text-alone _ _ _ c.new-text.ensures c.push_onto.ensures.text in
-    text-canonical date_time_text _ _ _ bytes (returns-clause-reads_back_with_config c whole config)
+    search (rules, text-alone, text-canonical, returns-clause-reads_back_with_config)

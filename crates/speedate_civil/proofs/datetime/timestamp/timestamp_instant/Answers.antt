@@ -38,17 +38,7 @@ returns-then-not-may_be_number-clause-answer g c =
     rw (numbered refuse config text c.args.refusal c.requires.refused, none) refl
 
 pub returns-in_err-time-clause-answer : goal.returns-in_err-time-clause-answer
-returns-in_err-time-clause-answer g c =
-    let config = c.args.config.now in
-    let text = c.args.bytes.now in
-    let refuse = g.E.Refusal.refusal in
-    let numbered_is = numbered refuse config text c.args.refusal c.requires.refused in
-    let at = date_time_at (choices config).offset in
-    let number = number_instant config.timestamp_unit (choices config).behavior text
-    (number_answer text) in
-    let read = ap (result_map at) c.in_err-time.ensures.answer in
-    let law = seen-number_map refuse at number c.args.refusal in
-    search rules
+returns-in_err-time-clause-answer g c = search (rules, numbered, seen-number_map)
 
 pub returns-clause-answer : goal.returns-clause-answer
 returns-clause-answer g c =

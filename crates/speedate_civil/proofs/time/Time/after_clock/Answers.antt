@@ -1,4 +1,4 @@
-use Rattle.std.proofs.Common.{◌∙◌, ap, Ok, ◌+◌, arith, length, length-drop}
+use Rattle.std.proofs.Common.{◌∙◌, ap, Ok, ◌+◌, length-drop, rules}
 use Rattle.std.proofs.lemmas.Result.{err_from_is_err_and}
 use Rattle.speedate_civil.specs.Time.{TimeOfDay, clock_parts}
 use Rattle.speedate_civil.proofs.TimeLemmas.{after-read}
@@ -19,8 +19,4 @@ returns-clause-answer g c =
     c.in_ok-tz_offset.ensures.answer
 
 pub returns-in_err-tz_offset-clause-placed : goal.returns-in_err-tz_offset-clause-placed
-returns-in_err-tz_offset-clause-placed g c =
-    let text = c.args.text.now in
-    let p = err_from_is_err_and c.from_residual.result c.from_residual.ensures.1 in
-    rw (p.1, p.2) (c.in_err-tz_offset.ensures.placed (c.args.start + length text)
-    (omega (arith, length-drop c.args.clock.size text, c.requires.size)))
+returns-in_err-tz_offset-clause-placed g c = search (rules, err_from_is_err_and, length-drop)

@@ -14,9 +14,6 @@ strict-from : {E : Type 0} (refuse : ParseError → ℕ → E) (text : List ℕ)
     ≡ first_refusal_or refuse (strict_time text) (Ok tt)
 strict-from refuse text place second plain is = rw (second, plain, is) refl
 
-pub returns-in-44 : goal.returns-in-44
-returns-in-44 g c = search rules
-
 pub returns-in_default-clause-answer : goal.returns-in_default-clause-answer
 returns-in_default-clause-answer g c =
     c.require_strict_offset-in_default.ensures.answer

@@ -1,3 +1,4 @@
+use Rattle.std.proofs.Common.{rules}
 use Rattle.std.proofs.Common.{◌≡◌, ◌≤◌, ◌+◌, ◌∙◌, ap, sym, ℕ, List, length, IfSome, Option, None, Some, Ok, arith}
 use Rattle.speedate_base.proofs.RefusalLemmas.{refusal-read, shifted-none}
 use Rattle.speedate_base.specs.Refused.{seen_as}
@@ -11,9 +12,7 @@ use Rattle.speedate_civil.proofs.time.Time.standard.Goals as goal
 strict-here : {E : Type 0} (refuse : ParseError → ℕ → E) (text : List ℕ)
     → first_refusal_or {A = Unit {0}} (shifted 0 refuse) (strict_time text) (Ok tt)
     ≡ first_refusal_or refuse (strict_time text) (Ok tt)
-strict-here refuse text =
-    ap (λ (refuse : ParseError → ℕ → _). first_refusal_or {A = Unit {0}} refuse
-    (strict_time text) (Ok tt)) (shifted-none refuse)
+strict-here refuse text = search (rules, shifted-none)
 
 pub returns-in-Ok-clause-answer : goal.returns-in-Ok-clause-answer
 returns-in-Ok-clause-answer g c behavior read =

@@ -1,5 +1,6 @@
+use Rattle.std.proofs.Common.{rules}
 use Rattle.std.proofs.lemmas.Result.{err_from_is_err_and}
-use Rattle.std.proofs.Common.{◌≡◌, ◌≤◌, ◌+◌, ◌∙◌, ap, sym, ℕ, List, length, IfSome, Option, None, Some, Ok, arith}
+use Rattle.std.proofs.Common.{◌≡◌, ◌≤◌, ◌+◌, ◌∙◌, sym, ℕ, List, length, IfSome, Option, None, Some, Ok, arith}
 use Rattle.speedate_base.specs.Requirement.{first_refusal_or, shifted}
 use Rattle.speedate_civil.specs.Base.{ParseError}
 use Rattle.speedate_base.proofs.RefusalLemmas.{refusal-read, shifted-none}
@@ -12,9 +13,7 @@ use Rattle.speedate_civil.proofs.time.Time.strict.Goals as goal
 strict-here : {E : Type 0} (refuse : ParseError → ℕ → E) (text : List ℕ)
     → first_refusal_or {A = Unit {0}} (shifted 0 refuse) (strict_time text) (Ok tt)
     ≡ first_refusal_or refuse (strict_time text) (Ok tt)
-strict-here refuse text =
-    ap (λ (refuse : ParseError → ℕ → _). first_refusal_or {A = Unit {0}} refuse
-    (strict_time text) (Ok tt)) (shifted-none refuse)
+strict-here refuse text = search (rules, shifted-none)
 
 pub returns-in_err-require_strict-clause-answer
     : goal.returns-in_err-require_strict-clause-answer

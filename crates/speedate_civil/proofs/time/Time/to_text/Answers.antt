@@ -1,5 +1,5 @@
-use Rattle.std.proofs.Common.{◌∙◌, ap}
-use Rattle.speedate_civil.specs.Time.{time_of_day, time_answer, time_text}
+use Rattle.std.proofs.Common.{◌∙◌, ap, rules}
+use Rattle.speedate_civil.specs.Time.{time_of_day, time_answer}
 use Rattle.speedate_base.proofs.TextLemmas.{text-alone, text-canonical}
 use Rattle.speedate_civil.proofs.AfterTimeLemmas.{time_text-front-iff}
 use Rattle.speedate_civil.proofs.TimeLemmas.{time_text-reads}
@@ -23,5 +23,4 @@ returns-clause-reads_front c whole config rest =
 
 pub returns-clause-canonical : goal.returns-clause-canonical
 returns-clause-canonical c whole config =
-    let bytes = text-alone _ _ _ c.new-text.ensures c.push_onto.ensures.text in
-    text-canonical time_text _ _ _ bytes (returns-clause-reads_back c whole config)
+    search (rules, text-alone, text-canonical, returns-clause-reads_back)

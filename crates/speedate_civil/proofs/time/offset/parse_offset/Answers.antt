@@ -1,4 +1,4 @@
-use Rattle.std.proofs.Common.{rules, refl, length, length-drop, ◌≤◌, ◌∙◌, ◌+◌, ap, ap₂, sym, ℕ, List, true, ◌==◌, drop-drop, arith}
+use Rattle.std.proofs.Common.{rules, length, length-drop, ◌≤◌, ◌∙◌, ◌+◌, ap, ap₂, sym, ℕ, List, true, ◌==◌, drop-drop, arith}
 use Rattle.std.proofs.lemmas.Grind.{common_steps}
 use Rattle.speedate_base.specs.Ascii.{hyphen}
 use Rattle.speedate_base.specs.Requirement.{shifted}
@@ -39,12 +39,6 @@ returns-then-has_minus_sign-clause-answer g c =
 pub returns-clause-answer : goal.returns-clause-answer
 returns-clause-answer g c = search (rules, first-of)
 
-pub signed_offset-requires-clause-place : goal.signed_offset-requires-clause-place
-signed_offset-requires-clause-place g c = grind (arith, common_steps)
-
-pub returns-then-is_utc-clause-within : goal.returns-then-is_utc-clause-within
-returns-then-is_utc-clause-within g c = grind (arith, common_steps)
-
 pub returns-then-is_plus_or_minus-clause-placed : goal.returns-then-is_plus_or_minus-clause-placed
 returns-then-is_plus_or_minus-clause-placed g c = λ size within.
     let bytes = c.args.bytes.now in
@@ -59,14 +53,4 @@ returns-then-is_plus_or_minus-clause-placed g c = λ size within.
     ))
 
 pub returns-then-has_minus_sign-clause-placed : goal.returns-then-has_minus_sign-clause-placed
-returns-then-has_minus_sign-clause-placed g c = λ size within.
-    let bytes = c.args.bytes.now in
-    let there = c.if-has_minus_sign.ensures.there refl in
-    c.signed_offset-then-has_minus_sign.ensures.placed size
-    (omega (
-      arith,
-      there,
-      within,
-      length-drop c.args.place bytes,
-      length-drop (c.args.place + 3) bytes,
-    ))
+returns-then-has_minus_sign-clause-placed g c = search (rules, length-drop)

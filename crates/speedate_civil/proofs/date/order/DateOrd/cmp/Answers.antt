@@ -21,8 +21,4 @@ returns-clause-text_order c =
     returns-clause-order c ∙ sym (date_text-order first second)
 
 pub returns-clause-day_order : goal.returns-clause-day_order
-returns-clause-day_order c =
-    let first = ymd c.args.self.now in
-    let second = ymd c.args.other.now in
-    returns-clause-order c
-    ∙ date_order-day_number first second (is_day c.args.self.now) (is_day c.args.other.now)
+returns-clause-day_order c = search (rules, returns-clause-order, date_order-day_number, is_day)

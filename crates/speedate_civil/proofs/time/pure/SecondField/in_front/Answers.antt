@@ -1,8 +1,0 @@
-use Rattle.std.proofs.Common.{rules}
-use Rattle.speedate_civil.proofs.time.pure.SecondField.in_front.Goals as goal
-
-pub returns-in-5-to-max : goal.returns-in-5-to-max
-returns-in-5-to-max c = search rules
-
-pub returns-in-2 : goal.returns-in-2
-returns-in-2 c = search rules
