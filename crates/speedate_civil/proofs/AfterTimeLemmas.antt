@@ -76,20 +76,12 @@ ends : (behavior : Behavior) (time : TimeOfDay) (rest : List ℕ) (none : Bool) 
 ends behavior time rest true valid none without =
     let text = clock_text time ++ rest in
     let of_clock = second-ends behavior time.hour time.minute time.second rest in
-    let is_text : time_text time ++ rest ≡ text = rw (none, without) refl in
-    let long : length (time_text time) ≡ 8 = rw (none, without) refl in
-    ends-at behavior time rest text 8 is_text long refl without (λ clock is small.
-    let stopped = of_clock clock is small in
-    (rw none stopped.0, stopped.1))
+    grind (arith, nat_tests, ends-at)
 ends behavior time rest false valid some without =
     let text = clock_text time ++ full_stop ∷ six_digit_text time.microsecond ++ rest in
     let of_clock = fraction-ends behavior time.hour time.minute time.second time.microsecond rest in
     let few : time.microsecond < 1000000 = omega (arith, valid.microsecond) in
-    let is_text : time_text time ++ rest ≡ text = rw (some, without) refl in
-    let long : length (time_text time) ≡ 15 = rw (some, without) refl in
-    ends-at behavior time rest text 15 is_text long refl without (λ clock is small.
-    let stopped = of_clock clock few is small in
-    (rw some stopped.0, stopped.1))
+    grind (arith, nat_tests, ends-at)
 
 -- where its offset is whole minutes, that is the one condition
 pub time_text-front-iff : (behavior : Behavior) (time : TimeOfDay) (rest : List ℕ) → IsTime time

@@ -1,4 +1,5 @@
 -- The clock at the front of a text, as its eight bytes give its hour and its minute.
+use Rattle.std.proofs.lemmas.Bool.Decides.{nat_tests}
 use Rattle.std.proofs.Common.{rules}
 use Rattle.std.proofs.Common.{◌≡◌, ◌∙◌, ap, sym, subst, refl, ℕ, ◌<◌, ◌≤◌, ◌==◌, Bool, true, false, ◌&&◌, if◌then◌else◌, List, length, get_or, drop, slice_index, codes, Result, Ok, Err, ◌+◌, arith, get_or-drop, le-leb}
 use Rattle.speedate_civil.specs.Base.{Behavior, ParseError}
@@ -57,22 +58,7 @@ decided refuse start behavior text numbers front long early short =
     let hour = subst (λ (n : ℕ). n ≤ 23) front.hour_is early in
     let minute = subst (λ (n : ℕ). n ≤ 59) front.minute_is short in
     let rest : List ℕ = drop 3 text in
-    let number = get_or numbers 0 0 in
-    let later = first_refused_or (second_table behavior rest) (Ok (minute_clock rest)) in
-    let rows : clock_front behavior text ≡ result_map (at_hour number) (from_byte 3 later) =
-    rw (
-      le-leb 5 (length text) long,
-      front.hour,
-      front.separator,
-      front.minute,
-      le-leb (two_digit_value text 0) 23 hour,
-      le-leb (two_digit_value (drop 3 text) 0) 59 minute,
-      front.hour_is,
-    ) refl in
-    ap (seen_as (shifted start refuse)) rows
-    ∙ seen-map (shifted start refuse) (at_hour number) (from_byte 3 later)
-    ∙ ap (result_map (at_hour number)) (seen-part refuse start 3 later
-    ∙ seen-table (shifted (start + 3) refuse) (second_table behavior rest) (Ok (minute_clock rest)))
+    grind (arith, nat_tests, le-leb, seen-map, seen-part, seen-table)
 
 -- the fourth or the fifth of five does not hold
 fourth-of : (a b c d e : Bool) (rest count : ℕ)
@@ -88,14 +74,7 @@ pub no-minute : {E : Type 0} (refuse : ParseError → ℕ → E) (behavior : Beh
 no-minute refuse behavior text front fits long from counted some few =
     let is : fits ≡ fit_length pattern (eight_at text 0) = counted ∙ ap (fit_length pattern) from in
     let tests = fourth-of _ _ _ _ _ _ fits is some few in
-    rw (
-      le-leb 5 (length text) long,
-      tests.0,
-      tests.1,
-      get_or-drop 3 text 0 0,
-      get_or-drop 3 text 1 0,
-      tests.2,
-    ) refl
+    search (rules, le-leb, get_or-drop)
 
 -- A clock that begins with its minute.
 

@@ -28,12 +28,7 @@ date_text-front date tail valid =
     let days = subst (λ (read : Ymd). is_in_range 1 (month_length read.year read.month) read.day
     ≡ true) (sym numbers)
     (is_in_range-true 1 (month_length date.year date.month) date.day valid.day.day) in
-    let year = four_digits-printed date.year (omega (arith, valid.year)) in
-    let month = two_digits-printed date.month (omega (arith, valid.day.month)) in
-    let day = two_digits-printed date.day
-    (omega (arith, valid.day.day, month_length-small date.year date.month)) in
-    rw (le-leb 10 (length text) (omega arith), year, month, day, months, days)
-    (ap (λ (read : Ymd). Ok (read, 10)) numbers)
+    search (rules, four_digits-printed, two_digits-printed, month_length-small, le-leb)
 
 -- and alone it is that date
 pub date_text-reads : (date : Ymd) → IsDate date → date_answer (date_text date) ≡ Ok date

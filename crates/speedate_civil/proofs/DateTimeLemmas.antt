@@ -1,5 +1,6 @@
 -- The text by which a date-time is printed is read as the date-time, where its offset is absent or
 -- whole minutes, whatever follows it that is no part of it.
+use Rattle.std.proofs.lemmas.Bool.Decides.{nat_tests}
 use Rattle.std.proofs.Common.{◌≡◌, ℕ, ◌+◌, true, List, [], ◌∷◌, ◌++◌, length, Ok, refl, ◌∙◌, ap, arith, sym, append-nil}
 use Rattle.std.proofs.lemmas.Grind.{common_steps}
 use Rattle.speedate_civil.specs.Base.{Behavior}
@@ -47,9 +48,7 @@ date_time_text-reads behavior value valid whole =
     let text = date_time_text value in
     let front = sym (ap (date_time_front behavior) (append-nil text))
     ∙ date_time_text-front behavior value [] valid whole (nothing-after value.time) in
-    let fault = λ (read : DateAndTime). end_fault read.time.offset in
-    ap (result_and_then (alone_or fault text)) front
-    ∙ refusal-whole placed fault text value (length text) refl
+    grind (arith, nat_tests, refusal-whole)
 
 -- the text of a date-time with a number of digits is read as the date-time, rounded down to these
 -- digits
@@ -67,5 +66,4 @@ date_time_text_with-reads behavior digits value valid whole =
     (time_text_with-front behavior digits value.time valid.time whole)
     ∙ ap (λ (size : ℕ). Ok (cut, size)) long in
     let fault = λ (read : DateAndTime). end_fault read.time.offset in
-    ap (result_and_then (alone_or fault text)) front
-    ∙ refusal-whole placed fault text cut (length text) refl
+    grind (arith, nat_tests, refusal-whole)

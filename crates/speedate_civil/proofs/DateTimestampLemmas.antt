@@ -52,12 +52,7 @@ date_timestamp-leads_back number date at exact numbered is =
     let day : day_at at ≡ number = day-of at number 0 (omega arith) (omega (arith, ints, is)) in
     let midnight = second-of at number 0 (omega arith) (omega (arith, ints, is)) in
     let instant : Instant = record { second = at; microsecond = 0 } in
-    let dated = result_and_then (instant_date exact) in
-    let within = midnight-within number at there.0 is in
-    let ranged = refusal-all fault_alone (range_table instant) (Ok instant) within in
-    ap (λ (read : Instant). dated (range_answer read)) (instant_of_seconds at)
-    ∙ ap dated ranged
-    ∙ midnight-date exact at number date midnight day there.1
+    search (rules, midnight-within, refusal-all, instant_of_seconds, midnight-date)
 
 -- the seconds from 0000-01-01T00:00:00 to a second, in 64 bits
 abbrev pub since : ℤ → ℕ

@@ -46,12 +46,8 @@ byte-between lowest highest text place k one two long small all =
     let count : length front ≡ 16 =
     length-take-le 16 (drop place text) (omega (arith, long, length-drop place text)) in
     let same : get_or front k 0 ≡ slice_index text (place + k) =
-    get_or-take 16 (drop place text) k 0 small ∙ get_or-drop place text k 0 in (
-      rw (← same) (at_most-at lowest front k both.0 (omega (arith, one, small))
-          (omega (arith, count, small))),
-      rw (← same) (at_most-at front highest k both.1 (omega (arith, count, small))
-          (omega (arith, two, small))),
-    )
+    get_or-take 16 (drop place text) k 0 small ∙ get_or-drop place text k 0 in
+    search (rules, at_most-at)
 
 abbrev lowest_date : List ℕ
 lowest_date = codes "0000-00-00 00:00"

@@ -146,11 +146,7 @@ offset : (rest : List ℕ) → IfOk (offset_front rest) (λ front. HasNoControl 
 offset rest =
     let IsPrinted = λ (front : Option ℤ × ℕ). HasNoControl front.1 rest in
     let first = more 0 rest (none rest) in
-    offset-cases IsPrinted rest
-    (λ some. signed (slice_index rest 0 == hyphen) 1 rest (first (sign_byte _ some)))
-    (λ other utc. first (utc_byte _ utc))
-    (λ other unread there. signed true 3 rest (minus_sign rest there))
-    (λ other unread nothing. none rest)
+    search (rules, offset-cases, signed, sign_byte, utc_byte, minus_sign, none)
 
 -- a time: a clock and an offset
 pub time_front-no_control : (behavior : Behavior) (text : List ℕ)

@@ -138,10 +138,8 @@ clock-parts behavior a b c d e f g h (mark ∷ digits) clock true there read sec
     let pointed = secfrac-of behavior digits (search rules) (search rules) in
     let IsPart = λ (byte : ℕ). IsSecfrac behavior (byte ∷ take run digits) in
     let part = subst IsPart point pointed in
-    let time = clock-of behavior a b c d e f g h more fraction clock rows second (inr part) in (
-      subst (λ (n : ℕ). IsPartialTime behavior (take n text)) long time,
-      rw there (omega (arith, size)),
-    )
+    let time = clock-of behavior a b c d e f g h more fraction clock rows second (inr part) in
+    search rules
 
 -- an offset with a sign is one of the rules if it has its `:` and takes all bytes
 numoffset : (byte : ℕ) (numbers : List ℕ) → is_plus_or_minus byte ≡ true
@@ -197,9 +195,7 @@ partial-time-of behavior text clock read inside second plain =
     let colon_is = ap (λ (byte : ℕ). byte == colon) (get_or-drop 3 text 2 0) in
     let there : has_second rest ≡ true = colon_is ∙ second in
     let size = rw there at (clock-size behavior text clock read) in
-    let five : 5 ≤ minute_size true (has_decimal_mark rest) (run_length rest 6) = search rules in
-    let of_bytes = split (IsParted behavior clock) 8 text (omega arith) in
-    of_bytes (clock-parts behavior _ _ _ _ _ _ _ _ (drop 8 text) clock _ refl) read second plain
+    search (rules, minute_size, split, clock-parts)
 
 -- what the strict reader takes as a time is one by the rules
 full-time-of : (behavior : Behavior) (text : List ℕ) → AllHold (strict_time text)
@@ -312,8 +308,7 @@ taken-parts behavior hour minute second fraction offset small_hour small_minute 
     let front = front-printed behavior hour minute second more _ small_hour small_minute clock in
     let taken = taken-of behavior text offset _ after front rest in
     let long = length-append digits offset in
-    subst IsOne (sym part.together)
-    (taken (omega (arith, long)) refl refl (omega (arith, run, none)))
+    search rules
 
 -- the text of a clock by its parts, which are the texts of numbers
 abbrev clock_text : List ℕ → List ℕ → List ℕ → List ℕ → List ℕ
@@ -394,8 +389,7 @@ date-time-parts behavior date separator time valid parted value read =
     let dated = date_text-front date (separator ∷ time) valid in
     let rows : AllHold (separator_table text) = (search rules, tt) in
     let is = date_time_front-is behavior text (date, 10) (value, length time) dated rows timed in
-    ap (result_and_then (alone_or fault text)) is
-    ∙ refusal-whole placed fault text whole (11 + length time) (omega arith)
+    grind (arith, nat_tests, refusal-whole)
 
 -- a text that the strict reader takes as a date-time
 abbrev DateTimeTaken : Behavior → List ℕ → Type 0

@@ -37,9 +37,7 @@ offset_place-is : (behavior : Behavior) (text : List ℕ) (clock : Clock)
 offset_place-is behavior text clock read second plain =
     let size = clock-size behavior text clock read in
     let at_five = get_or-drop 3 text 2 0 in
-    let at_eight = get_or-drop 3 text 5 0 in
-    let run = drop-drop 6 3 text in
-    grind (arith, nat_tests)
+    search (rules, get_or-drop, drop-drop)
 
 -- an offset that is neither `Z` nor has its `:` goes on after its hour
 abbrev IsLong : List ℕ → Type 0

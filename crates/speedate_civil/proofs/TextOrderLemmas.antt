@@ -98,22 +98,15 @@ pub in_digits-front-order : (more count size first second : ℕ) (rest : List �
     (take count (in_digits size second) ++ rest)
     ≡ nat_cmp (first / 10 ^ more) (second / 10 ^ more)
 in_digits-front-order zero count size first second rest sum small less fits =
-    let one = in_digits size first in
-    let two = in_digits size second in
-    let long = in_digits-length size first small fits in
-    let other = in_digits-length size second less fits in
-    let whole : first / 1 ≡ first = omega arith in
-    let same : second / 1 ≡ second = omega arith in
-    rw (
-      take_all count one (omega (arith, sum, long)),
-      take_all count two (omega (arith, sum, other)),
-      whole,
-      same,
+    search (
+      rules,
+      in_digits-length,
+      take_all,
+      append-order,
+      same-order,
+      last-order,
+      in_digits-order,
     )
-    (append-order one two rest rest (long ∙ sym other)
-    ∙ ap (ordering_then (slice_cmp nat_cmp one two)) (same-order rest)
-    ∙ last-order (slice_cmp nat_cmp one two)
-    ∙ in_digits-order size first second small less fits)
 in_digits-front-order (suc more) count zero first second rest sum small less fits =
     absurd (omega (arith, sum))
 in_digits-front-order (suc more) count (suc size) first second rest sum small less fits =

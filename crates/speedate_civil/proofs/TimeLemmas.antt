@@ -1,5 +1,6 @@
 -- The text by which a time is printed is read as the time, where its offset is absent or whole
 -- minutes, whatever follows it that is no part of it.
+use Rattle.std.proofs.lemmas.Bool.Decides.{nat_tests}
 use Rattle.std.proofs.Common.{◌≡◌, ℕ, ◌+◌, ◌*◌, ◌/◌, ◌<◌, ◌≤◌, Bool, true, false, not, ◌||◌, List, [], ◌∷◌, ◌++◌, length, drop, ◌==◌, slice_index, Option, ℤ, is_some, Result, Ok, refl, rules, arith, ◌∙◌, ap, sym, eqb-true, append-nil}
 use Rattle.speedate_civil.specs.Base.{Behavior, ParseError}
 use Rattle.std.specs.Char.{is_ascii_digit}
@@ -76,8 +77,7 @@ six-front behavior time rest valid whole ended ends =
     valid.second (omega (arith, valid.microsecond)) other) in
     let long : 15 + length (offset_text time.offset)
     ≡ length (time_text_with FractionDigits.Six time) = omega arith in
-    rw (front, offset_text-front time.offset rest valid.offset whole ends)
-    (ap (λ (size : ℕ). Ok (time, size)) long)
+    grind (arith, nat_tests, offset_text-front)
 
 three-front : (behavior : Behavior) (time : TimeOfDay) (rest : List ℕ) → IsTime time
     → IsWholeMinutes time.offset
@@ -94,8 +94,7 @@ three-front behavior time rest valid whole ended ends =
     valid.second (omega (arith, valid.microsecond)) other) in
     let long : 12 + length (offset_text time.offset)
     ≡ length (time_text_with FractionDigits.Three time) = omega arith in
-    rw (front, offset_text-front time.offset rest valid.offset whole ends)
-    (ap (λ (size : ℕ). Ok (cut_time FractionDigits.Three time, size)) long)
+    grind (arith, nat_tests, offset_text-front)
 
 text-front : (behavior : Behavior) (time : TimeOfDay) (rest : List ℕ) (none : Bool) → IsTime time
     → IsWholeMinutes time.offset
@@ -111,8 +110,7 @@ text-front behavior time rest true valid whole after none =
     (clock-whole behavior time.minute time.second tail valid.minute valid.second plain) in
     let long : 8 + length (offset_text time.offset)
     ≡ length (clock_text time ++ offset_text time.offset) = omega arith in
-    rw (none, front, offset_text-front time.offset rest valid.offset whole search rules, zero_is)
-    (ap (λ (size : ℕ). Ok (time, size)) long)
+    search (rules, offset_text-front)
 text-front behavior time rest false valid whole after some =
     let ended = rw some at after in
     rw some (six-front behavior time rest valid whole (search rules) (search rules))
@@ -137,8 +135,7 @@ time_text-reads behavior time valid whole =
     let fault = λ (read : TimeOfDay). end_fault read.offset in
     let front = sym (ap (time_front behavior) (append-nil text))
     ∙ time_text-front behavior time [] valid whole (nothing-after time) in
-    ap (result_and_then (alone_or fault text)) front
-    ∙ refusal-whole placed fault text time (length text) refl
+    grind (arith, nat_tests, refusal-whole)
 
 -- the text of a time with a number of digits is read as the time, rounded down to these digits
 none-continues : (offset : Option ℤ) → (is_some offset || true) ≡ true

@@ -14,12 +14,4 @@ returns c =
     let moment = c.args.moment in
     let given : SFits w32 offset = search rules in
     let second : SFits w64 c.move_second.result = search rules in
-    let sum : c.move_second.result ≡ pos moment.second +ℤ offset = omega (arith, ints) in
-    let met = simp to_z-of_z at c.in_ok-require_offset.ensures.answer in
-    let shown = simp to_z-of_z at c.from_unix_time.ensures.answer in
-    record {
-      answer =
-          shown ∙ ap (λ (at : ℤ). instant_date_time (Some offset)
-          (record { second = at; microsecond = moment.microsecond })) sum
-          ∙ sym (moment-shown offset moment c.in_ok-require_offset.field-0 (omega arith) met);
-    }
+    search (rules, to_z-of_z, moment-shown)

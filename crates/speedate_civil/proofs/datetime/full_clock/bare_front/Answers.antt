@@ -1,3 +1,4 @@
+use Rattle.std.proofs.lemmas.Bool.Decides.{nat_tests}
 use Rattle.std.proofs.Common.{rules, true, SFits, w32, arith, length-drop}
 use Rattle.std.proofs.lemmas.Int.{to_z-of_z}
 use Rattle.std.proofs.lemmas.List.{take_rest}
@@ -23,9 +24,4 @@ returns-clause-front c behavior =
         length-drop 11 bytes,
       );
     } in
-    let fits : SFits w32 c.in_ok-offset.offset = search rules in
-    rw (
-      c.at_offset-time.ensures.time,
-      c.some_offset-offset.ensures.offset,
-      to_z-of_z w32 c.in_ok-offset.offset fits,
-    ) (full-front bytes _ _ _ full behavior)
+    grind (arith, nat_tests, to_z-of_z, full-front)

@@ -1,4 +1,4 @@
-use Rattle.std.proofs.Common.{ℕ, arith, length}
+use Rattle.std.proofs.Common.{ℕ, arith, length, rules}
 use Rattle.speedate_civil.specs.DateTime.{DateAndTime, date_and_time}
 use Rattle.speedate_civil.proofs.FrontLemmas.{date_time_front-taken}
 use Rattle.speedate_civil.proofs.ReadLemmas.{read-value}
@@ -10,5 +10,4 @@ returns-in-Some-clause-front c behavior =
     let value : DateAndTime × ℕ = (date_and_time c.in-Some.value, c.in-Some.size) in
     let taken = read-value _ _ value (c.in-Some.ensures.front behavior)
     (date_time_front-taken behavior longer) in
-    rw c.before_line_feeds.ensures.front
-    at (taken (length c.args.bytes.now) (omega arith) (omega arith))
+    search rules

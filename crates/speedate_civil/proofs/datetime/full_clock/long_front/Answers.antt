@@ -1,3 +1,4 @@
+use Rattle.std.proofs.lemmas.Bool.Decides.{nat_tests}
 use Rattle.std.proofs.Common.{rules, ◌∙◌, sym, true, SFits, w32, arith}
 use Rattle.std.proofs.lemmas.Int.{to_z-of_z}
 use Rattle.std.proofs.lemmas.List.{take_rest}
@@ -25,8 +26,4 @@ returns-clause-front c behavior =
       );
     } in
     let fits : SFits w32 c.in_ok-offset.offset = search rules in
-    rw (
-      c.at_offset-time.ensures.time,
-      c.some_offset.ensures.offset,
-      to_z-of_z w32 c.in_ok-offset.offset fits,
-    ) (full-front bytes _ _ _ full behavior)
+    grind (arith, nat_tests, to_z-of_z, full-front)

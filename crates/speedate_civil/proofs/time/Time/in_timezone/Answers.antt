@@ -28,14 +28,7 @@ returns-clause-answer c =
     let offset = c.args.tz_offset in
     let given : SFits w32 offset = search rules in
     let moved = simp to_z-of_z at c.in_ok-shift.ensures.answer in
-    let sum = sum-in-bits c.total_seconds.result c.in_ok-shift.shift (omega arith)
-    c.in_ok-shift.ensures.range.1 in
-    let shown = clock-moved time.offset offset c.in_ok-shift.shift (pos c.total_seconds.result) _
-    moved sum in
-    let is = shown.1 ∙ ap (λ (second : ℕ). (pos second -ℤ unwrap_or time.offset (pos 0)) +ℤ offset)
-    c.total_seconds.ensures.seconds in
-    let there = simp to_z-of_z at c.from_second.ensures.time in
-    ap Ok there ∙ sym (time-moved time offset _ shown.0 is c.if-second-lt0.false c.if-second.false)
+    search (rules, sum-in-bits, clock-moved, to_z-of_z, time-moved)
 
 pub returns-clause-instant : goal.returns-clause-instant
 returns-clause-instant c =
@@ -43,12 +36,4 @@ returns-clause-instant c =
     let offset = c.args.tz_offset in
     let given : SFits w32 offset = search rules in
     let moved = simp to_z-of_z at c.in_ok-shift.ensures.answer in
-    let sum = sum-in-bits c.total_seconds.result c.in_ok-shift.shift (omega arith)
-    c.in_ok-shift.ensures.range.1 in
-    let shown = clock-moved time.offset offset c.in_ok-shift.shift (pos c.total_seconds.result) _
-    moved sum in
-    let is = shown.1 ∙ ap (λ (second : ℕ). (pos second -ℤ unwrap_or time.offset (pos 0)) +ℤ offset)
-    c.total_seconds.ensures.seconds in
-    let there = simp to_z-of_z at c.from_second.ensures.time in
-    second_of_day-kept time (time_of_day c.from_second.result)
-    offset _ is c.if-second-lt0.false there
+    search (rules, sum-in-bits, clock-moved, to_z-of_z, second_of_day-kept)

@@ -1,4 +1,4 @@
-use Rattle.std.proofs.Common.{◌≡◌, ◌∙◌, sym, true}
+use Rattle.std.proofs.Common.{◌≡◌, ◌∙◌, sym, true, rules}
 use Rattle.speedate_civil.proofs.FullClockLemmas.{looks-offset}
 use Rattle.speedate_civil.proofs.time.offset.has_hour_and_minute.Goals as goal
 
@@ -6,7 +6,4 @@ pub returns : goal.returns
 returns c =
     let looks = λ (both : c.eight_are_between.result ≡ true).
     looks-offset c.args.front c.fits-front.0 (sym c.eight_are_between.ensures.between ∙ both) in
-    record {
-      form = λ both. (looks both).0;
-      minute = λ both. (looks both).1;
-    }
+    search rules

@@ -56,15 +56,7 @@ known refuse west sign text front place numbers from is =
     let are = sym (read refuse text front place _ from is) in
     let value = refusal-value refuse (offset_digits rest) _ numbers are in
     let size = ap (λ (numbers : (ℕ × ℕ) × ℕ). numbers.1) value.1 in
-    let offset : Option ℤ = Some (with_sign west (offset_size rest)) in
-    let found : Option ℤ × ℕ = (offset, sign + offset_digits_size rest) in
-    let ranged = first_refusal_or refuse (offset_ranges rest) (Ok found) in (
-      ap (λ (minute : ℕ). decided refuse west sign minute numbers) (omega (arith, size))
-          ∙ ap (decided refuse west sign (offset_minute_place rest)) (sym value.1)
-          ∙ sym (refusal-all refuse (offset_digits rest) ranged value.0)
-          ∙ sym (seen-tables refuse (offset_digits rest) (offset_ranges rest) (Ok found)),
-      omega (arith, size),
-    )
+    search (rules, refusal-all, seen-tables)
 
 pub returns-in_err-hour-clause-answer : goal.returns-in_err-hour-clause-answer
 returns-in_err-hour-clause-answer g c =
@@ -74,13 +66,7 @@ returns-in_err-hour-clause-answer g c =
     let bytes = c.eight_bytes.ensures.bytes in
     let numbers = c.in_err-hour.ensures.numbers in
     let refused = read refuse c.args.bytes.now _ c.args.place _ bytes numbers in
-    let value : Option ℤ × ℕ = (
-      Some (with_sign c.args.west (offset_size rest)),
-      c.args.sign + offset_digits_size rest,
-    ) in
-    let next = first_refusal_or refuse (offset_ranges rest) (Ok value) in
-    rw (p.1, p.2) (first_refusal_or-next refuse (offset_digits rest) _ _ next refused
-    ∙ sym (seen-tables refuse (offset_digits rest) (offset_ranges rest) (Ok value)))
+    grind (arith, nat_tests, first_refusal_or-next, seen-tables)
 
 pub returns-then-minute-gt59-clause-answer : goal.returns-then-minute-gt59-clause-answer
 returns-then-minute-gt59-clause-answer g c =
@@ -108,10 +94,7 @@ returns-clause-answer g c =
     let bytes = c.eight_bytes.ensures.bytes in
     let of_text = known refuse c.args.west c.args.sign c.args.bytes.now _ c.args.place parts in
     let is = of_text bytes c.in_ok-hour.ensures.numbers in
-    let fits : SFits w32 c.with_sign.result = search rules in
-    let value = to_z-of_z w32 c.with_sign.result fits in
-    grind (arith, nat_tests, c.from.ensures, c.from-2.ensures, value, c.with_sign.ensures.value)
-    ∙ is.0
+    search (rules, to_z-of_z)
 
 pub returns-clause-within : goal.returns-clause-within
 returns-clause-within g c = grind (arith, common_steps)

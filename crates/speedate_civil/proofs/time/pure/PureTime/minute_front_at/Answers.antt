@@ -16,12 +16,7 @@ returns-in_err-after-clause-answer g c =
     let refuse = shifted c.args.start g.E.Refusal.refusal in
     let loaded = c.eight_bytes-front.ensures.bytes in
     let counted = c.fit_length-fits.ensures.count in
-    let read = minute-read rest _ _ _ loaded counted c.if-fits-lt2.false in
-    let minute = read c.digit_pairs.ensures.numbers in
-    let is = minute-decided refuse c.args.behavior rest _ minute c.if-minute-gt59.false
-    ∙ sym c.in_err-after.ensures.answer in
-    let p = err_from_is_err_and c.from_residual.result c.from_residual.ensures.1 in
-    rw (p.1, p.2) (sym is)
+    grind (arith, nat_tests, minute-read, minute-decided, err_from_is_err_and)
 
 pub returns-clause-answer : goal.returns-clause-answer
 returns-clause-answer g c =
@@ -29,8 +24,4 @@ returns-clause-answer g c =
     let refuse = shifted c.args.start g.E.Refusal.refusal in
     let loaded = c.eight_bytes-front.ensures.bytes in
     let counted = c.fit_length-fits.ensures.count in
-    let read = minute-read rest _ _ _ loaded counted c.if-fits-lt2.false in
-    let minute = read c.digit_pairs.ensures.numbers in
-    let is = minute-decided refuse c.args.behavior rest _ minute c.if-minute-gt59.false
-    ∙ sym c.in_ok-after.ensures.answer in
-    ap (λ (minute : ℕ). Ok (clock_after minute c.in_ok-after.after)) minute.is ∙ sym is
+    grind (arith, nat_tests, minute-read, minute-decided)
