@@ -9,7 +9,7 @@ use Rattle.speedate_base.specs.Ascii.{colon, full_stop}
 use Rattle.speedate_base.specs.Digits.{run_length, six_digit_text, two_digit_text, is_decimal_mark}
 use Rattle.speedate_base.specs.Offset.{IsWholeMinutes}
 use Rattle.speedate_civil.specs.Time.{Clock, clock_front, minute_text, begins_offset, offset_front}
-use Rattle.speedate_civil.specs.Time.{TimeOfDay, IsTime, clock_text, continues_fraction}
+use Rattle.speedate_civil.specs.Time.{TimeOfDay, IsTime, continues_fraction}
 use Rattle.speedate_civil.specs.Time.{is_after_time, time_front, time_text}
 use Rattle.speedate_civil.specs.DateTime.{DateAndTime, IsDateAndTime, date_time_front}
 use Rattle.speedate_civil.specs.DateTime.{date_time_text, separator_table}
@@ -74,11 +74,9 @@ ends : (behavior : Behavior) (time : TimeOfDay) (rest : List ℕ) (none : Bool) 
     → time_front behavior (time_text time ++ rest) ≡ Ok (time, length (time_text time))
     → is_after_time time rest ≡ true
 ends behavior time rest true valid none without =
-    let text = clock_text time ++ rest in
     let of_clock = second-ends behavior time.hour time.minute time.second rest in
     grind (arith, nat_tests, ends-at)
 ends behavior time rest false valid some without =
-    let text = clock_text time ++ full_stop ∷ six_digit_text time.microsecond ++ rest in
     let of_clock = fraction-ends behavior time.hour time.minute time.second time.microsecond rest in
     let few : time.microsecond < 1000000 = omega (arith, valid.microsecond) in
     grind (arith, nat_tests, ends-at)

@@ -1,7 +1,7 @@
 -- The clock at the front of a text, as its eight bytes give its hour and its minute.
 use Rattle.std.proofs.lemmas.Bool.Decides.{nat_tests}
 use Rattle.std.proofs.Common.{rules}
-use Rattle.std.proofs.Common.{◌≡◌, ◌∙◌, ap, sym, subst, refl, ℕ, ◌<◌, ◌≤◌, ◌==◌, Bool, true, false, ◌&&◌, if◌then◌else◌, List, length, get_or, drop, slice_index, codes, Result, Ok, Err, ◌+◌, arith, get_or-drop, le-leb}
+use Rattle.std.proofs.Common.{◌≡◌, ◌∙◌, ap, sym, subst, ℕ, ◌<◌, ◌≤◌, ◌==◌, Bool, true, false, ◌&&◌, if◌then◌else◌, List, length, get_or, drop, slice_index, codes, Result, Ok, Err, ◌+◌, arith, get_or-drop, le-leb}
 use Rattle.speedate_civil.specs.Base.{Behavior, ParseError}
 use Rattle.std.proofs.lemmas.Bool.{and_from}
 use Rattle.std.proofs.lemmas.Grind.{common_steps}
@@ -13,7 +13,7 @@ use Rattle.speedate_base.proofs.PatternLemmas.{fit_length-all}
 use Rattle.speedate_civil.specs.Time.{Clock, at_hour, clock_front, minute_clock, minute_front}
 use Rattle.speedate_civil.specs.Time.{second_table}
 use Rattle.speedate_base.proofs.RefusalLemmas.{seen-map, seen-part, seen-table}
-use Rattle.speedate_base.specs.Refused.{first_refused_or, from_byte, seen_as}
+use Rattle.speedate_base.specs.Refused.{seen_as}
 
 -- a clock as it looks
 abbrev pub pattern : List ℕ
@@ -55,7 +55,6 @@ pub decided : {E : Type 0} (refuse : ParseError → ℕ → E) (start : ℕ) (be
     → seen_as (shifted start refuse) (clock_front behavior text)
     ≡ after_table (shifted (start + 3) refuse) behavior text (get_or numbers 0 0)
 decided refuse start behavior text numbers front long early short =
-    let hour = subst (λ (n : ℕ). n ≤ 23) front.hour_is early in
     let minute = subst (λ (n : ℕ). n ≤ 59) front.minute_is short in
     let rest : List ℕ = drop 3 text in
     grind (arith, nat_tests, le-leb, seen-map, seen-part, seen-table)

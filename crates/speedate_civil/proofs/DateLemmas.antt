@@ -1,5 +1,5 @@
 -- The text by which a date is printed is read as the date, whatever follows it.
-use Rattle.std.proofs.Common.{◌≡◌, ℕ, List, ◌++◌, ◌≤◌, true, length, Ok, rules, arith, ap, sym, subst, le-leb}
+use Rattle.std.proofs.Common.{◌≡◌, ℕ, List, ◌++◌, ◌≤◌, true, Ok, rules, arith, sym, subst, le-leb}
 use Rattle.std.specs.Int.{is_in_range, IsInRange}
 use Rattle.speedate_base.proofs.DigitLemmas.{two_digits-printed, four_digits-printed}
 use Rattle.speedate_civil.specs.Calendar.{Ymd, IsDate, month_length}

@@ -6,18 +6,16 @@ use Rattle.std.proofs.lemmas.Grind.{common_steps}
 use Rattle.speedate_civil.specs.Base.{Behavior}
 use Rattle.speedate_base.specs.Ascii.{capital_t}
 use Rattle.speedate_base.specs.Offset.{IsWholeMinutes}
-use Rattle.speedate_base.specs.Requirement.{result_and_then}
 use Rattle.speedate_civil.specs.DateTime.{DateAndTime, IsDateAndTime, date_time_front}
 use Rattle.speedate_civil.specs.DateTime.{date_time_answer, date_time_text}
 use Rattle.speedate_civil.specs.DateTime.{cut_date_time, date_time_text_with}
-use Rattle.speedate_civil.specs.Time.{end_fault, time_text, is_after_time, FractionDigits}
+use Rattle.speedate_civil.specs.Time.{time_text, is_after_time, FractionDigits}
 use Rattle.speedate_civil.specs.Time.{time_text_with}
 use Rattle.speedate_civil.proofs.DateLemmas.{date_text-front}
 use Rattle.speedate_civil.proofs.FrontLemmas.{date_time_front-is}
 use Rattle.speedate_base.proofs.RefusalLemmas.{refusal-whole}
 use Rattle.speedate_civil.proofs.TimeLemmas.{time_text-front, time_text_with-front}
 use Rattle.speedate_civil.proofs.TimeLemmas.{nothing-after}
-use Rattle.speedate_base.specs.Refused.{alone_or, placed}
 
 -- a date with its letter, and then a time, that were appended one after another
 pub date_time-joined : (old first second date time : List ℕ)
@@ -65,5 +63,4 @@ date_time_text_with-reads behavior digits value valid whole =
     (date_text-front value.date (capital_t ∷ time) valid.date) (refl, tt)
     (time_text_with-front behavior digits value.time valid.time whole)
     ∙ ap (λ (size : ℕ). Ok (cut, size)) long in
-    let fault = λ (read : DateAndTime). end_fault read.time.offset in
     grind (arith, nat_tests, refusal-whole)

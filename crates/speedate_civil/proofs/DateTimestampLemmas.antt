@@ -1,12 +1,12 @@
 -- The second of a date's midnight, as a timestamp, leads back to it.
-use Rattle.std.proofs.Common.{◌≡◌, ◌∙◌, ap, refl, ℕ, ◌/◌, ◌%◌, ◌<◌, ◌≤◌, Bool, true, false, IsTrue, int_le, w64, to_z, of_z, Some, Ok, ℤ, pos, ◌+ℤ◌, ◌-ℤ◌, ◌*ℤ◌, unsigned_abs, rules, arith}
+use Rattle.std.proofs.Common.{◌≡◌, refl, ℕ, ◌/◌, ◌%◌, ◌<◌, ◌≤◌, Bool, true, false, IsTrue, int_le, w64, to_z, of_z, Some, Ok, ℤ, pos, ◌+ℤ◌, ◌-ℤ◌, ◌*ℤ◌, unsigned_abs, rules, arith}
 use Rattle.speedate_civil.specs.Base.{TimestampUnit}
 use Rattle.std.specs.Int.{int_div_euclid, int_rem_euclid}
 use Rattle.std.proofs.lemmas.Bool.Decides.{nat_tests}
 use Rattle.std.proofs.lemmas.Int.{ints}
-use Rattle.speedate_base.specs.Requirement.{fault_alone, AllHold, result_and_then}
+use Rattle.speedate_base.specs.Requirement.{AllHold}
 use Rattle.speedate_base.specs.Timestamp.{Instant, first_second, last_second, seconds_per_day}
-use Rattle.speedate_base.specs.Timestamp.{range_answer, range_table}
+use Rattle.speedate_base.specs.Timestamp.{range_table}
 use Rattle.speedate_civil.specs.Calendar.{Ymd, epoch_day, date_of_number, date_numbered}
 use Rattle.speedate_civil.specs.Date.{date_timestamp_answer, day_at, day_number_at, instant_date}
 use Rattle.speedate_civil.specs.Date.{second_at}
@@ -48,11 +48,10 @@ pub date_timestamp-leads_back : (number : ℕ) (date : Ymd) (at : ℤ) (exact : 
     → at ≡ (pos number -ℤ pos epoch_day) *ℤ pos seconds_per_day
     → date_timestamp_answer TimestampUnit.Second exact at ≡ Ok date
 date_timestamp-leads_back number date at exact numbered is =
-    let there = counted number date numbered in
     let day : day_at at ≡ number = day-of at number 0 (omega arith) (omega (arith, ints, is)) in
     let midnight = second-of at number 0 (omega arith) (omega (arith, ints, is)) in
     let instant : Instant = record { second = at; microsecond = 0 } in
-    search (rules, midnight-within, refusal-all, instant_of_seconds, midnight-date)
+    search (rules, midnight-within, refusal-all, instant_of_seconds, midnight-date, counted)
 
 -- the seconds from 0000-01-01T00:00:00 to a second, in 64 bits
 abbrev pub since : ℤ → ℕ

@@ -1,7 +1,6 @@
 -- A text whose bytes lie between those of two texts begins with a date, and a clock with a second.
-use Rattle.std.proofs.Common.{rules}
 use Rattle.std.proofs.Common.{◌≡◌, ◌∙◌, ap, sym, refl, ℕ, zero, suc, ◌+◌, ◌-◌, ◌*◌, ◌<◌, ◌≤◌, ◌==◌, Bool, true, ◌&&◌, nat_le, List, [], ◌∷◌, length, get_or, take, drop, codes, slice_index, arith, lit<, lit≤, get_or-drop, get_or-take, length-drop, length-take-le, leb-true}
-use Rattle.std.proofs.Common.{ℤ, pos, ◌+ℤ◌, ◌-ℤ◌, ◌*ℤ◌, Some, None, Ok, if◌then◌else◌}
+use Rattle.std.proofs.Common.{ℤ, pos, ◌+ℤ◌, ◌-ℤ◌, ◌*ℤ◌, Some, None, Ok, if◌then◌else◌, rules}
 use Rattle.std.proofs.lemmas.Bool.{and_parts}
 use Rattle.std.proofs.lemmas.Bool.Decides.{nat_tests}
 use Rattle.std.specs.Char.{is_ascii_digit}
@@ -42,12 +41,11 @@ byte-between : (lowest highest text : List ℕ) (place k : ℕ) → length lowes
     × (slice_index text (place + k) ≤ get_or highest k 0)
 byte-between lowest highest text place k one two long small all =
     let front : List ℕ = take 16 (drop place text) in
-    let both = and_parts (are_at_most lowest front) (are_at_most front highest) all in
     let count : length front ≡ 16 =
     length-take-le 16 (drop place text) (omega (arith, long, length-drop place text)) in
     let same : get_or front k 0 ≡ slice_index text (place + k) =
     get_or-take 16 (drop place text) k 0 small ∙ get_or-drop place text k 0 in
-    search (rules, at_most-at)
+    search (rules, at_most-at, and_parts)
 
 abbrev lowest_date : List ℕ
 lowest_date = codes "0000-00-00 00:00"

@@ -7,7 +7,7 @@ use Rattle.std.proofs.lemmas.Bool.Decides.{nat_tests}
 use Rattle.std.proofs.lemmas.List.{get_or-drop}
 use Rattle.std.proofs.lemmas.List.Sums.{prefix_len_passes}
 use Rattle.std.specs.Char.{is_ascii_digit}
-use Rattle.speedate_base.specs.Ascii.{HasNoControl, colon, hyphen, space}
+use Rattle.speedate_base.specs.Ascii.{HasNoControl, colon, space}
 use Rattle.speedate_base.specs.Digits.{run_length, four_digits_at, two_digits_at, is_decimal_mark}
 use Rattle.speedate_base.specs.Requirement.{AllHold, ◌implies◌}
 use Rattle.speedate_civil.specs.Calendar.{Ymd}
@@ -144,7 +144,6 @@ minus_sign rest there = search (rules, more, none)
 
 offset : (rest : List ℕ) → IfOk (offset_front rest) (λ front. HasNoControl front.1 rest)
 offset rest =
-    let IsPrinted = λ (front : Option ℤ × ℕ). HasNoControl front.1 rest in
     let first = more 0 rest (none rest) in
     search (rules, offset-cases, signed, sign_byte, utc_byte, minus_sign, none)
 

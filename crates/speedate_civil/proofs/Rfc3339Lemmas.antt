@@ -15,7 +15,7 @@ use Rattle.std.proofs.lemmas.List.{drop_more, nil_from_length}
 use Rattle.std.proofs.lemmas.List.Sums.{prefix_len-le-length}
 use Rattle.speedate_base.specs.Ascii.{colon, comma, full_stop, hyphen, plus_sign, capital_t}
 use Rattle.speedate_base.specs.Ascii.{capital_z, small_t, small_z}
-use Rattle.speedate_base.specs.Digits.{run_length, two_digits_at, two_digit_text, two_digit_value}
+use Rattle.speedate_base.specs.Digits.{two_digits_at, two_digit_text, two_digit_value}
 use Rattle.speedate_base.specs.Digits.{four_digit_value, is_decimal_mark}
 use Rattle.speedate_base.specs.Numbers.{with_sign}
 use Rattle.speedate_base.specs.Config.{refuses_digits}
@@ -23,7 +23,7 @@ use Rattle.speedate_base.specs.Requirement.{TextRow, ◌implies◌, AllHold}
 use Rattle.speedate_base.specs.Requirement.{result_map}
 use Rattle.speedate_base.specs.Requirement.{result_and_then}
 use Rattle.speedate_civil.specs.Calendar.{Ymd, IsDate}
-use Rattle.speedate_civil.specs.Time.{Clock, clock_front, has_decimal_mark, has_second, minute_text}
+use Rattle.speedate_civil.specs.Time.{Clock, clock_front, has_second, minute_text}
 use Rattle.speedate_civil.specs.Time.{end_fault, is_plus_or_minus, offset_digits, offset_front}
 use Rattle.speedate_civil.specs.Time.{offset_ranges, signed_front, TimeOfDay, clock_with_offset}
 use Rattle.speedate_civil.specs.Time.{time_front, time_answer, time_of_day, Time}
@@ -180,11 +180,6 @@ offset-all (byte ∷ numbers) rows =
     (λ none other nothing one. absurd (omega (arith, one)))
 
 -- a text whose clock is read with a second and no comma begins with a partial time
-abbrev IsParted : Behavior → Clock → List ℕ → Type 0
-IsParted behavior clock text = clock_front behavior text ≡ Ok clock
-    → (slice_index text 5 == colon) ≡ true → (slice_index text 8 == comma) ≡ false
-    → IsPartialTime behavior (take clock.size text) × (clock.size ≡ offset_place text)
-
 partial-time-of : (behavior : Behavior) (text : List ℕ) (clock : Clock)
     → clock_front behavior text ≡ Ok clock
     → clock.size ≤ length text → (slice_index text 5 == colon) ≡ true
@@ -382,7 +377,6 @@ date-time-parts : (behavior : Behavior) (date : Ymd) (separator : ℕ) (time : L
     ≡ Ok (record { date = date; time = value })
 date-time-parts behavior date separator time valid parted value read =
     let text = date_text date ++ separator ∷ time in
-    let whole : DateAndTime = record { date = date; time = value } in
     let fault = λ (found : DateAndTime). end_fault found.time.offset in
     let time_fault = λ (found : TimeOfDay). end_fault found.offset in
     let timed = (with_no_more-iff placed time_fault time (time_front behavior time) value).0 read in

@@ -36,7 +36,6 @@ offset_place-is : (behavior : Behavior) (text : List ℕ) (clock : Clock)
     → not (slice_index text 8 == comma) ≡ true → clock.size ≡ offset_place text
 offset_place-is behavior text clock read second plain =
     let size = clock-size behavior text clock read in
-    let at_five = get_or-drop 3 text 2 0 in
     search (rules, get_or-drop, drop-drop)
 
 -- an offset that is neither `Z` nor has its `:` goes on after its hour

@@ -65,11 +65,7 @@ tens-order first second = grind arith
 in_digits-order : (size first second : ℕ) → first < 10 ^ size → second < 10 ^ size
     → 2 * 10 ^ size ≤ 2 ^ 64
     → slice_cmp nat_cmp (in_digits size first) (in_digits size second) ≡ nat_cmp first second
-in_digits-order zero first second small less fits =
-    rw (
-      decimal_digit (1 + first) (omega (arith, small)),
-      decimal_digit (1 + second) (omega (arith, less)),
-    ) (grind (arith, nat_tests))
+in_digits-order zero first second small less fits = grind (arith, nat_tests, decimal_digit)
 in_digits-order (suc size) first second small less fits =
     let one = in_digits size (first / 10) in
     let two = in_digits size (second / 10) in

@@ -11,16 +11,16 @@ use Rattle.speedate_base.specs.Digits.{is_decimal_mark}
 use Rattle.speedate_base.specs.Offset.{IsWholeMinutes}
 use Rattle.speedate_base.specs.Requirement.{shifted, result_and_then}
 use Rattle.speedate_civil.specs.Time.{Clock, at_hour, clock_answer, clock_front, clock_with_offset}
-use Rattle.speedate_civil.specs.Time.{minute_text, end_fault, offset_front, offset_text}
+use Rattle.speedate_civil.specs.Time.{minute_text, offset_front, offset_text}
 use Rattle.speedate_civil.specs.Time.{TimeOfDay, IsTime, time_after_clock, time_front}
-use Rattle.speedate_civil.specs.Time.{time_answer, clock_text, time_text, is_after_time}
+use Rattle.speedate_civil.specs.Time.{time_answer, time_text, is_after_time}
 use Rattle.speedate_civil.specs.Time.{begins_offset, cut_time, FractionDigits, three_digit_text}
 use Rattle.speedate_civil.specs.Time.{time_text_with}
 use Rattle.speedate_base.proofs.RefusalLemmas.{refusal-whole}
 use Rattle.speedate_civil.proofs.ClockLemmas.{clock-whole, clock-fraction, clock-secfrac}
 use Rattle.speedate_civil.proofs.OffsetLemmas.{offset_text-first, offset_text-front}
 use Rattle.speedate_base.proofs.RefusalLemmas.{seen-part, seen_then}
-use Rattle.speedate_base.specs.Refused.{alone_or, placed, seen_as}
+use Rattle.speedate_base.specs.Refused.{seen_as}
 
 -- what is read after a clock, which begins at a byte of the whole text, decides on the time
 pub after-read : {E : Type 0} (refuse : ParseError → ℕ → E) (start : ℕ) (clock : Clock)
@@ -75,8 +75,6 @@ six-front behavior time rest valid whole ended ends =
     (full_stop ∷ six_digit_text time.microsecond ++ tail) _ valid.hour valid.minute
     (clock-fraction behavior time.minute time.second time.microsecond tail valid.minute
     valid.second (omega (arith, valid.microsecond)) other) in
-    let long : 15 + length (offset_text time.offset)
-    ≡ length (time_text_with FractionDigits.Six time) = omega arith in
     grind (arith, nat_tests, offset_text-front)
 
 three-front : (behavior : Behavior) (time : TimeOfDay) (rest : List ℕ) → IsTime time
@@ -92,8 +90,6 @@ three-front behavior time rest valid whole ended ends =
     (full_stop ∷ three_digit_text (time.microsecond / 1000) ++ tail) _ valid.hour valid.minute
     (clock-three behavior time.minute time.second (time.microsecond / 1000) tail valid.minute
     valid.second (omega (arith, valid.microsecond)) other) in
-    let long : 12 + length (offset_text time.offset)
-    ≡ length (time_text_with FractionDigits.Three time) = omega arith in
     grind (arith, nat_tests, offset_text-front)
 
 text-front : (behavior : Behavior) (time : TimeOfDay) (rest : List ℕ) (none : Bool) → IsTime time
@@ -108,8 +104,6 @@ text-front behavior time rest true valid whole after none =
     let front = front-printed behavior time.hour time.minute time.second tail _ valid.hour
     valid.minute
     (clock-whole behavior time.minute time.second tail valid.minute valid.second plain) in
-    let long : 8 + length (offset_text time.offset)
-    ≡ length (clock_text time ++ offset_text time.offset) = omega arith in
     search (rules, offset_text-front)
 text-front behavior time rest false valid whole after some =
     let ended = rw some at after in
@@ -132,7 +126,6 @@ pub time_text-reads : (behavior : Behavior) (time : TimeOfDay) → IsTime time
     → time_answer behavior (time_text time) ≡ Ok time
 time_text-reads behavior time valid whole =
     let text = time_text time in
-    let fault = λ (read : TimeOfDay). end_fault read.offset in
     let front = sym (ap (time_front behavior) (append-nil text))
     ∙ time_text-front behavior time [] valid whole (nothing-after time) in
     grind (arith, nat_tests, refusal-whole)

@@ -4,7 +4,7 @@ use Rattle.std.proofs.Common.{◌≡◌, ℕ, ◌+◌, ◌-◌, ◌*◌, ◌/◌
 use Rattle.std.proofs.lemmas.Bool.Decides.{nat_tests}
 use Rattle.speedate_civil.specs.Calendar.{days_before_year, day_number, is_leap_year}
 use Rattle.speedate_civil.proofs.DayNumberLemmas.{days_before_year-is, february_length-is, leap_day}
-use Rattle.speedate_civil.proofs.DayNumberLemmas.{leap_day-counts, leap_day-small, year_length-is}
+use Rattle.speedate_civil.proofs.DayNumberLemmas.{leap_day-counts, year_length-is}
 use Rattle.speedate_civil.proofs.MonthLemmas.{IsOrdinal, day_in_month, long_month, ordinal-at}
 
 -- the days before a year, by years of March
@@ -25,7 +25,6 @@ march_day-late : (years day : ℕ) → 400 ≤ years → day ≤ 305
     → HasNumber years day (years - 400) (day + 61)
 march_day-late years day first late =
     let year : ℕ = years - 400 in
-    let leap = leap_day-small year in
     let february = february_length-is year in
     let length = year_length-is year in
     let ordinal : IsOrdinal year (day + 59 + leap_day year) (long_month (day + 61))
@@ -40,7 +39,6 @@ march_day-early : (years day : ℕ) → 399 ≤ years → 306 ≤ day → day �
     → HasNumber years day (years - 399) (day - 306)
 march_day-early years day first early within full =
     let year : ℕ = years - 399 in
-    let february = february_length-is year in
     let length = year_length-is year in
     let ordinal : IsOrdinal year (day - 306) (long_month (day - 306)) (day_in_month (day - 306)) =
     ordinal-at year (day - 306) (day - 306) (omega arith) (grind (arith, nat_tests)) in

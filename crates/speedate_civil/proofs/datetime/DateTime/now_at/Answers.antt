@@ -1,7 +1,6 @@
-use Rattle.std.proofs.Common.{◌≡◌, ◌∙◌, ap, sym, Some, ℤ, pos, ◌+ℤ◌, w32, w64, SFits, rules, arith}
-use Rattle.std.proofs.lemmas.Int.{ints, to_z-of_z}
+use Rattle.std.proofs.Common.{w32, w64, SFits, rules}
+use Rattle.std.proofs.lemmas.Int.{to_z-of_z}
 use Rattle.std.proofs.lemmas.Result.{err_from_is_err_and}
-use Rattle.speedate_civil.specs.DateTime.{instant_date_time}
 use Rattle.speedate_civil.proofs.MomentLemmas.{moment-shown, moment-refused}
 use Rattle.speedate_civil.proofs.datetime.DateTime.now_at.Goals as goal
 
@@ -11,7 +10,6 @@ returns-in_err-require_offset c = search (rules, to_z-of_z, err_from_is_err_and,
 pub returns : goal.returns
 returns c =
     let offset = c.args.tz_offset in
-    let moment = c.args.moment in
     let given : SFits w32 offset = search rules in
     let second : SFits w64 c.move_second.result = search rules in
     search (rules, to_z-of_z, moment-shown)

@@ -1,4 +1,4 @@
-use Rattle.std.proofs.Common.{ℕ, arith, length, rules}
+use Rattle.std.proofs.Common.{ℕ, rules}
 use Rattle.speedate_civil.specs.DateTime.{DateAndTime, date_and_time}
 use Rattle.speedate_civil.proofs.FrontLemmas.{date_time_front-taken}
 use Rattle.speedate_civil.proofs.ReadLemmas.{read-value}

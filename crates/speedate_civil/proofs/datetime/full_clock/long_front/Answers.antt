@@ -11,7 +11,6 @@ use Rattle.speedate_civil.proofs.datetime.full_clock.long_front.Goals as goal
 pub returns-clause-front : goal.returns-clause-front
 returns-clause-front c behavior =
     let bytes = c.args.bytes.now in
-    let looks = c.has_full_clock.ensures.looks c.if-not-has_full_clock.false in
     let full : IsFullFront true bytes (ymd c.in_ok-date.date) (clock_parts c.in_ok-clock.clock)
     (c.in_ok-offset.offset, c.in_ok-offset.size) = record {
       dated = c.in_ok-date.ensures.date;

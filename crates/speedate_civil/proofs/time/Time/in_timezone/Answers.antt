@@ -1,7 +1,6 @@
-use Rattle.std.proofs.Common.{◌∙◌, ap, sym, ℕ, pos, ◌+ℤ◌, ◌-ℤ◌, unwrap_or, Ok, w32, SFits, rules, arith}
+use Rattle.std.proofs.Common.{w32, SFits, rules, arith}
 use Rattle.std.proofs.lemmas.Int.{ints, to_z-of_z}
 use Rattle.std.proofs.lemmas.Result.{err_from_is_err_and}
-use Rattle.speedate_civil.specs.Time.{time_of_day}
 use Rattle.speedate_civil.proofs.OffsetMoveLemmas.{clock-moved, sum-in-bits, time-after}
 use Rattle.speedate_civil.proofs.OffsetMoveLemmas.{time-before, time-moved, second_of_day-kept}
 use Rattle.speedate_civil.proofs.time.Time.in_timezone.Goals as goal
@@ -24,7 +23,6 @@ from_second-requires-clause-second c = omega (arith, ints)
 
 pub returns-clause-answer : goal.returns-clause-answer
 returns-clause-answer c =
-    let time = time_of_day c.args.self.now in
     let offset = c.args.tz_offset in
     let given : SFits w32 offset = search rules in
     let moved = simp to_z-of_z at c.in_ok-shift.ensures.answer in
@@ -32,7 +30,6 @@ returns-clause-answer c =
 
 pub returns-clause-instant : goal.returns-clause-instant
 returns-clause-instant c =
-    let time = time_of_day c.args.self.now in
     let offset = c.args.tz_offset in
     let given : SFits w32 offset = search rules in
     let moved = simp to_z-of_z at c.in_ok-shift.ensures.answer in

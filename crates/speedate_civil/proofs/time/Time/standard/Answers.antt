@@ -1,9 +1,7 @@
 use Rattle.std.proofs.Common.{zero-add}
-use Rattle.std.proofs.Common.{◌≡◌, ◌≤◌, ◌+◌, ◌∙◌, ap, sym, ℕ, List, length, IfSome, Option, None, Some, Ok, arith}
+use Rattle.std.proofs.Common.{ap, sym, length}
 use Rattle.speedate_base.proofs.RefusalLemmas.{refusal-read, shifted-none}
 use Rattle.speedate_base.specs.Refused.{seen_as}
-use Rattle.speedate_base.specs.Requirement.{first_refusal_or, shifted}
-use Rattle.speedate_civil.specs.Base.{ParseError}
 use Rattle.speedate_civil.specs.Strict.{strict_time}
 use Rattle.speedate_civil.specs.Time.{time_of_day}
 use Rattle.speedate_civil.proofs.StrictPlaceLemmas.{strict-within}

@@ -1,8 +1,6 @@
 use Rattle.std.proofs.Common.{zero-add}
 use Rattle.std.proofs.lemmas.Result.{err_from_is_err_and}
-use Rattle.std.proofs.Common.{◌≡◌, ◌≤◌, ◌+◌, ◌∙◌, sym, ℕ, List, length, IfSome, Option, None, Some, Ok, arith}
-use Rattle.speedate_base.specs.Requirement.{first_refusal_or, shifted}
-use Rattle.speedate_civil.specs.Base.{ParseError}
+use Rattle.std.proofs.Common.{sym, length}
 use Rattle.speedate_base.proofs.RefusalLemmas.{refusal-read, shifted-none}
 use Rattle.speedate_civil.specs.Time.{time_of_day}
 use Rattle.speedate_civil.proofs.StrictPlaceLemmas.{strict-within}

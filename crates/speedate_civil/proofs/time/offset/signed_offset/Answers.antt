@@ -1,4 +1,4 @@
-use Rattle.std.proofs.Common.{◌≡◌, ◌∙◌, ap, sym, ℕ, ◌+◌, ◌-◌, ◌≤◌, ◌*◌, Bool, List, [], ◌∷◌, drop, Ok, Option, Some, w32, arith, rules, ℤ, Result, nat_le, nat_lt, SFits}
+use Rattle.std.proofs.Common.{◌≡◌, ◌∙◌, ap, sym, ℕ, ◌+◌, ◌-◌, ◌≤◌, ◌*◌, Bool, List, [], ◌∷◌, drop, Ok, Option, Some, arith, rules, ℤ, Result, nat_le, nat_lt}
 use Rattle.speedate_civil.specs.Base.{ParseError}
 use Rattle.std.proofs.lemmas.Bool.Decides.{nat_tests}
 use Rattle.std.proofs.lemmas.Grind.{common_steps}
@@ -8,8 +8,8 @@ use Rattle.speedate_base.specs.Digits.{two_digit_value, eight_at}
 use Rattle.speedate_base.specs.Numbers.{with_sign}
 use Rattle.speedate_base.specs.Timestamp.{seconds_per_day}
 use Rattle.speedate_base.specs.Requirement.{◌at_byte◌, ◌else_fault◌, first_refusal_or, shifted}
-use Rattle.speedate_civil.specs.Time.{offset_digits, offset_ranges, signed_front, offset_minute}
-use Rattle.speedate_civil.specs.Time.{offset_minute_place, offset_digits_size, offset_size}
+use Rattle.speedate_civil.specs.Time.{offset_digits, signed_front, offset_minute}
+use Rattle.speedate_civil.specs.Time.{offset_digits_size}
 use Rattle.speedate_base.proofs.RefusalLemmas.{first_refusal_or-next, refusal-all, refusal-value}
 use Rattle.speedate_base.proofs.PatternLemmas.{eight_at-drop}
 use Rattle.speedate_base.proofs.RefusalLemmas.{seen-tables}
@@ -55,12 +55,10 @@ known refuse west sign text front place numbers from is =
     let rest : List ℕ = drop place text in
     let are = sym (read refuse text front place _ from is) in
     let value = refusal-value refuse (offset_digits rest) _ numbers are in
-    let size = ap (λ (numbers : (ℕ × ℕ) × ℕ). numbers.1) value.1 in
     search (rules, refusal-all, seen-tables)
 
 pub returns-in_err-hour-clause-answer : goal.returns-in_err-hour-clause-answer
 returns-in_err-hour-clause-answer g c =
-    let rest : List ℕ = drop c.args.place c.args.bytes.now in
     let p = err_from_is_err_and c.from_residual.result c.from_residual.ensures.1 in
     let refuse = shifted c.args.start g.E.Refusal.refusal in
     let bytes = c.eight_bytes.ensures.bytes in

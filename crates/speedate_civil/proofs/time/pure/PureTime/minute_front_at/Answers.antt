@@ -1,8 +1,7 @@
 use Rattle.std.proofs.lemmas.Bool.Decides.{nat_tests}
-use Rattle.std.proofs.Common.{◌∙◌, add-zero, ap, sym, ℕ, Ok}
+use Rattle.std.proofs.Common.{add-zero}
 use Rattle.std.proofs.lemmas.Result.{err_from_is_err_and}
 use Rattle.speedate_base.specs.Requirement.{shifted}
-use Rattle.speedate_civil.specs.ParserParts.{clock_after}
 use Rattle.speedate_civil.proofs.ClockFrontLemmas.{minute-decided, minute-none, minute-read}
 use Rattle.std.proofs.Common.{arith}
 use Rattle.speedate_civil.proofs.time.pure.PureTime.minute_front_at.Goals as goal
@@ -12,7 +11,6 @@ returns-then-fits-lt2-clause-answer g c = grind (arith, nat_tests, minute-none, 
 
 pub returns-in_err-after-clause-answer : goal.returns-in_err-after-clause-answer
 returns-in_err-after-clause-answer g c =
-    let rest = c.args.rest.now in
     let refuse = shifted c.args.start g.E.Refusal.refusal in
     let loaded = c.eight_bytes-front.ensures.bytes in
     let counted = c.fit_length-fits.ensures.count in
@@ -20,7 +18,6 @@ returns-in_err-after-clause-answer g c =
 
 pub returns-clause-answer : goal.returns-clause-answer
 returns-clause-answer g c =
-    let rest = c.args.rest.now in
     let refuse = shifted c.args.start g.E.Refusal.refusal in
     let loaded = c.eight_bytes-front.ensures.bytes in
     let counted = c.fit_length-fits.ensures.count in

@@ -1,10 +1,6 @@
-use Rattle.std.proofs.Common.{◌∙◌, ap, sym, ℕ, get_or, Ok, rules}
 use Rattle.std.proofs.lemmas.Result.{err_from_is_err_and}
-use Rattle.speedate_base.specs.Requirement.{result_map}
-use Rattle.speedate_civil.specs.ParserParts.{clock_after}
-use Rattle.speedate_civil.specs.Time.{at_hour}
 use Rattle.speedate_civil.proofs.ClockFrontLemmas.{front-read, decided}
-use Rattle.std.proofs.Common.{arith}
+use Rattle.std.proofs.Common.{arith, rules}
 use Rattle.std.proofs.lemmas.Grind.{common_steps}
 use Rattle.speedate_civil.proofs.time.pure.PureTime.with_minute.Goals as goal
 
@@ -13,7 +9,6 @@ returns-in_err-after-clause-answer g c =
     let text = c.args.text.now in
     let read = front-read text _ _ _ c.requires.front c.requires.looks c.requires.minute in
     let front = read c.digit_pairs.ensures.numbers in
-    let hour = get_or c.digit_pairs.result 0 0 in
     let rows = decided g.E.Refusal.refusal c.args.start c.args.behavior text _ front in
     let decides = rows c.requires.long c.if-hour-gt23.false c.if-minute-gt59.false in
     search (rules, err_from_is_err_and)
@@ -23,7 +18,6 @@ returns-clause-answer g c =
     let text = c.args.text.now in
     let read = front-read text _ _ _ c.requires.front c.requires.looks c.requires.minute in
     let front = read c.digit_pairs.ensures.numbers in
-    let hour = get_or c.digit_pairs.result 0 0 in
     search (rules, decided)
 
 pub returns-then-hour-gt23-clause-answer : goal.returns-then-hour-gt23-clause-answer
