@@ -78,7 +78,6 @@ ends behavior time rest true valid none without =
     grind (arith, nat_tests, ends-at)
 ends behavior time rest false valid some without =
     let of_clock = fraction-ends behavior time.hour time.minute time.second time.microsecond rest in
-    let few : time.microsecond < 1000000 = omega (arith, valid.microsecond) in
     grind (arith, nat_tests, ends-at)
 
 -- where its offset is whole minutes, that is the one condition

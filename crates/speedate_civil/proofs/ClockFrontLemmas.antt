@@ -56,7 +56,6 @@ pub decided : {E : Type 0} (refuse : ParseError → ℕ → E) (start : ℕ) (be
     ≡ after_table (shifted (start + 3) refuse) behavior text (get_or numbers 0 0)
 decided refuse start behavior text numbers front long early short =
     let minute = subst (λ (n : ℕ). n ≤ 59) front.minute_is short in
-    let rest : List ℕ = drop 3 text in
     grind (arith, nat_tests, le-leb, seen-map, seen-part, seen-table)
 
 -- the fourth or the fifth of five does not hold

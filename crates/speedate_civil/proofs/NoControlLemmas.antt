@@ -81,9 +81,7 @@ year text are = search (rules, and_parts, digits_after, two_digits)
 date_rows : (text : List ℕ) → AllHold (date_table text) → HasNoControl 10 text
 date_rows text rows =
     let to_hyphen = more 4 text (year text rows.1.0) (grind (arith, nat_tests)) in
-    let to_month = digits_after 5 text to_hyphen rows.1.1.1.0 in
-    let to_second_hyphen = more 7 text to_month (grind (arith, nat_tests)) in
-    digits_after 8 text to_second_hyphen rows.1.1.1.1.1.0
+    search (rules, digits_after, more)
 
 pub date_front-no_control : (text : List ℕ)
     → IfOk (date_front text) (λ front. HasNoControl front.1 text)

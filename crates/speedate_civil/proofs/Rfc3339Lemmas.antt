@@ -59,16 +59,14 @@ bytes-are : (count place : ℕ) (text : List ℕ) → place + count ≤ length t
 bytes-are zero place text within = refl
 bytes-are (suc count) place text within =
     let others = bytes-are count (place + 1) text (omega arith) in
-    ap (take (suc count)) (drop_more text place 0 (omega arith))
-    ∙ ap (λ (rest : List ℕ). slice_index text place ∷ rest) others
+    search (rules, drop_more)
 
 -- a text by its first bytes and the rest
 split : (P : List ℕ → Type 0) (count : ℕ) (text : List ℕ) → count ≤ length text
     → P (bytes_from 0 count text ++ drop count text) → P text
 split P count text within =
     let front_is = sym (bytes-are count 0 text (omega (arith, within))) in
-    let front = ap (λ (bytes : List ℕ). bytes ++ drop count text) front_is in
-    subst P (front ∙ take-append-drop count text)
+    search (rules, take-append-drop)
 
 -- they are the text of the number that they spell
 spelled : (text : List ℕ) (place : ℕ) → two_digits_at text place ≡ true

@@ -100,8 +100,7 @@ pub strict-within : (behavior : Behavior) (text : List ℕ) (time : TimeOfDay)
 strict-within behavior text time read =
     let fault = λ (value : TimeOfDay). end_fault value.offset in
     let whole = (with_no_more-iff placed fault text (time_front behavior text) time).0 read in
-    let rows = read-value _ _ (time, length text) whole (rows-within behavior text) refl in
-    first_place-within (length text) (strict_time text) rows
+    grind (arith, nat_tests, read-value, rows-within, first_place-within)
 
 date_time-rows-within : (behavior : Behavior) (text : List ℕ)
     → IfOk (date_time_front behavior text)
