@@ -15,13 +15,15 @@ returns-in_err-require_strict-clause-answer g c =
     c.from_residual-in_err-require_strict.ensures.1 in
     rw (p.1, p.2) (refusal-read g.E.Refusal.refusal (strict_time c.args.bytes.now)
     (time_of_day c.in_ok-time.time)
-    _ _ c.in_ok-time.ensures.answer (rw (shifted-none g.E.Refusal.refusal) at c.in_err-require_strict.ensures.answer))
+    _ _ c.in_ok-time.ensures.answer
+    (rw (shifted-none g.E.Refusal.refusal) at c.in_err-require_strict.ensures.answer))
 
 pub returns-clause-answer : goal.returns-clause-answer
 returns-clause-answer g c =
     refusal-read g.E.Refusal.refusal (strict_time c.args.bytes.now)
     (time_of_day c.in_ok-time.time)
-    _ _ c.in_ok-time.ensures.answer (rw (shifted-none g.E.Refusal.refusal) at c.in_ok-require_strict.ensures.answer)
+    _ _ c.in_ok-time.ensures.answer
+    (rw (shifted-none g.E.Refusal.refusal) at c.in_ok-require_strict.ensures.answer)
 
 pub returns-in_err-require_strict-clause-placed
     : goal.returns-in_err-require_strict-clause-placed
