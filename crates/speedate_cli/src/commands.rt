@@ -1,5 +1,8 @@
 //! Each command before its first line, by what was given.
 
+ghost use Rattle.std.specs.Prelude.{◌≡◌, ◌||◌, IfOk, if◌then◌else◌, is_some};
+ghost use Rattle.speedate_commands.specs.Base.{Offsets};
+
 use crate::idle::Kind;
 use crate::options::Refusal::Usage;
 use crate::options::{self, Options, Refusal};
@@ -29,7 +32,11 @@ pub fn first_between<'a>(given: &ArgMatches<'a>) -> Result<Between<'a>, Refusal>
 }
 
 /// The command `check` before the first line.
-pub fn first_check<'a>(given: &ArgMatches<'a>) -> Result<Check<'a>, Refusal> {
+pub fn first_check<'a>(given: &ArgMatches<'a>) -> Result<Check<'a>, Refusal>
+    // Only if values are compared all have an offset, or none has one.
+    ensures offsets { IfOk result (λ check. check.order.scan.offsets
+        ≡ (if check.reports_late || is_some check.gap then Offsets.AsFirst else Offsets.Any)) }
+{
     let options = options::common(given, Kind::Checks, options::behavior(given)?)?;
     let reports_late = given.get_flag("order");
     let gap = options::gap(given)?;
@@ -47,7 +54,9 @@ pub fn first_check<'a>(given: &ArgMatches<'a>) -> Result<Check<'a>, Refusal> {
 }
 
 /// The command `convert` before the first line.
-pub fn first_convert<'a>(given: &ArgMatches<'a>) -> Result<Convert<'a>, Refusal> {
+pub fn first_convert<'a>(given: &ArgMatches<'a>) -> Result<Convert<'a>, Refusal>
+    ensures offsets { IfOk result (λ convert. convert.scan.offsets ≡ Offsets.Any) }
+{
     let options = options::common(given, Kind::Prints, Truncate)?;
     Ok(Convert {
         scan: first_scan(&options, Offsets::Any),
@@ -58,7 +67,9 @@ pub fn first_convert<'a>(given: &ArgMatches<'a>) -> Result<Convert<'a>, Refusal>
 }
 
 /// What the command `merge` knows before the first line of each file.
-pub fn first_merge<'a>(given: &ArgMatches<'a>) -> Result<Keys<'a>, Refusal> {
+pub fn first_merge<'a>(given: &ArgMatches<'a>) -> Result<Keys<'a>, Refusal>
+    ensures offsets { IfOk result (λ keys. keys.scan.offsets ≡ Offsets.AsFirst) }
+{
     let keys = first_keys(given)?;
     let mut is_given = false;
     for &name in given.get_strs("FILE").unwrap_or(&[]) {
@@ -71,7 +82,9 @@ pub fn first_merge<'a>(given: &ArgMatches<'a>) -> Result<Keys<'a>, Refusal> {
 }
 
 /// What is known of the order of values before the first line.
-fn first_order(scan: Scan<'_>) -> Order<'_> {
+fn first_order(scan: Scan<'_>) -> Order<'_>
+    ensures scan { result.scan ≡ scan.entry }
+{
     Order {
         scan,
         latest: None,
@@ -90,7 +103,9 @@ pub fn first_sum<'a>(given: &ArgMatches<'a>) -> Result<Sum<'a>, Refusal> {
 }
 
 /// What the command `sort` knows before the first line.
-pub fn first_keys<'a>(given: &ArgMatches<'a>) -> Result<Keys<'a>, Refusal> {
+pub fn first_keys<'a>(given: &ArgMatches<'a>) -> Result<Keys<'a>, Refusal>
+    ensures offsets { IfOk result (λ keys. keys.scan.offsets ≡ Offsets.AsFirst) }
+{
     let options = options::common(given, Kind::Prints, Truncate)?;
     if options.has_header && given.get_strs("FILE").unwrap_or(&[]).len() > 1 {
         return Err(Usage("--header goes with one FILE"));
@@ -103,7 +118,9 @@ pub fn first_keys<'a>(given: &ArgMatches<'a>) -> Result<Keys<'a>, Refusal> {
 }
 
 /// The command `summary` before the first line.
-pub fn first_summary<'a>(given: &ArgMatches<'a>) -> Result<Summary<'a>, Refusal> {
+pub fn first_summary<'a>(given: &ArgMatches<'a>) -> Result<Summary<'a>, Refusal>
+    ensures offsets { IfOk result (λ summary. summary.order.scan.offsets ≡ Offsets.AsFirst) }
+{
     let options = options::common(given, Kind::Reports, Truncate)?;
     Ok(Summary {
         order: first_order(first_scan(&options, Offsets::AsFirst)),
@@ -117,7 +134,9 @@ pub fn first_summary<'a>(given: &ArgMatches<'a>) -> Result<Summary<'a>, Refusal>
 }
 
 /// What is known before the first line.
-fn first_scan<'a>(options: &Options<'a>, offsets: Offsets) -> Scan<'a> {
+fn first_scan<'a>(options: &Options<'a>, offsets: Offsets) -> Scan<'a>
+    ensures offsets { result.offsets ≡ offsets }
+{
     let nothing = Report {
         number: 0,
         bad: Bad {

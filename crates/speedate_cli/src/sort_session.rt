@@ -1,8 +1,8 @@
 //! The inputs of `sort`, and what is told of them on standard error.
 
-ghost use Rattle.std.specs.Prelude.{◌≡◌, ◌≤◌, ◌==◌, IfOk, Result, false};
+ghost use Rattle.std.specs.Prelude.{◌≡◌, ◌≤◌, ◌==◌, IfOk, Result, false, true};
 ghost use Rattle.speedate_commands.specs.Status.{lines_status};
-ghost use Rattle.speedate_scan.specs.Scan.{is_without_value};
+ghost use Rattle.speedate_scan.specs.Scan.{is_stopped, is_without_value};
 ghost use Rattle.speedate_sort.specs.Sort.{sorted_text};
 ghost use Rattle.speedate_sort.specs.declared.sort.Unsorted.{Unsorted};
 ghost use Rattle.speedate_cli.specs.Files.{FileEnd, PrintsSorted, end_status, sorted_status};
@@ -23,6 +23,8 @@ const NOTHING: &str = ", and nothing is printed";
 /// Runs `sort` over files, and returns the exit status. Without files it sorts standard input.
 pub fn run_sort<'a>(rt: &HostRuntime, keys: &mut Keys<'a>, files: &[&'a str]) -> u8
     ensures lines { lines_status keys.new.scan.bad 0 false ≤ result }
+    // Once a bad value has ended the run, no further file is begun.
+    ensures stopped { is_stopped keys.old.scan.stop ≡ true → keys.new ≡ keys.old }
 {
     let mut lines = KeyedLines::new(rt.alloc());
     let mut status = 0;
