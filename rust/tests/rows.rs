@@ -314,7 +314,8 @@ fn is_read(row: &[&str], progress: &Progress, numbers: &[impl ToString], errors:
     let mut written = vec!["ok".to_owned(), joined(&numbers[..*lines])];
     written.extend(errors.map(|errors| joined(&errors[..*lines])));
     let kind = row.last().and_then(|last| last.strip_prefix(&reached));
-    kind.is_some_and(|kind| kind.is_empty() == error.is_none()) && row[..row.len() - 1] == written
+    row[..row.len() - 1] == written
+        && kind.is_some_and(|kind| error.as_ref().map_or(kind.is_empty(), |refused| is_expected(refused, kind)))
 }
 
 /// Whether a refusal by a call of a kind names what was expected, if a row has the phrase.
