@@ -8,7 +8,7 @@
  * the room for numbers and, if there is any, for errors, and the text; then the numbers, the errors, how many lines and
  * bytes they are, and the name of the error that ends it. A row of a column of texts has their offsets before the text.
  * A row of a column that is printed has the room for the text, and the numbers; then the text, and the same. A part is
- * its start, its end and its kind.
+ * its start, its end and its kind. A row of a text that is read and printed, as the program does, has just the texts.
  *
  * Each text is read from three places: a block of the heap of its very size, the end of a page after which none can
  * be read, and the beginning of one before which none can be; an empty one also from NULL. Each text is printed into
@@ -27,6 +27,7 @@
 
 #define UNTOUCHED 0xA5
 #define FIELDS 10
+#define ROW_SIZE 512
 /* How many places a column has, most of which no call may touch. */
 #define PLACES 12
 
@@ -467,6 +468,18 @@ static int is_call(const char *name) {
         PRINTS(speedate_##CALL(it, digits, buffer, size, length))                                                      \
     }
 
+/* A text that is read without a configuration, and the text of its value. */
+#define REPRINT(TYPE, NAME, FORM, VALUE)                                                                               \
+    if (is_call(#NAME "_reprint")) {                                                                                   \
+        TYPE value;                                                                                                    \
+        int read = speedate_##NAME##_parse(text, size, FORM, NULL, &value, NULL);                                      \
+        if (read == SPEEDATE_OK)                                                                                       \
+            PRINTS(speedate_##NAME##_to_text(VALUE, buffer, size, length))                                             \
+        say_code(read);                                                                                                \
+        return 1;                                                                                                      \
+    }
+#define WITH_DIGITS value, SPEEDATE_DIGITS_AUTO
+
 /* Calls of a text: the text is the row's last argument. */
 static int run_text(const char *text, size_t size) {
     field = 1;
@@ -498,6 +511,10 @@ static int run_text(const char *text, size_t size) {
           by.parser ? -1 : speedate_datetime_front_column(text, size, &it, flags, again, places, room, &far))
     LINES(int32_t, say_number, datetime_offset_column, datetime_offset_column, -1)
     LINES(int32_t, say_number, time_offset_column, time_offset_column, -1)
+    REPRINT(SpeedateDate, date, SPEEDATE_OR_TIMESTAMP, value)
+    REPRINT(SpeedateTime, time, SPEEDATE_TEXT, WITH_DIGITS)
+    REPRINT(SpeedateDateTime, datetime, SPEEDATE_OR_TIMESTAMP, WITH_DIGITS)
+    REPRINT(SpeedateDuration, duration, SPEEDATE_TEXT, value)
     TEXTS(int32_t, date)
     TEXTS(int64_t, time)
     TEXTS(int64_t, datetime)
@@ -708,7 +725,7 @@ static void put_line_ends(char *text) {
 }
 
 static void run(const char *row) {
-    char copy[256], wanted[256] = "";
+    char copy[ROW_SIZE], wanted[ROW_SIZE] = "";
     int arguments = 1;
     snprintf(copy, sizeof copy, "%s", row);
     int count = cut(copy);
@@ -740,7 +757,7 @@ static void run(const char *row) {
 }
 
 int main(void) {
-    char row[256];
+    char row[ROW_SIZE];
     int rows = 0;
     page = (size_t)sysconf(_SC_PAGESIZE);
     char *pages = mmap(NULL, 3 * page, PROT_NONE, MAP_PRIVATE | MAP_ANONYMOUS, -1, 0);
