@@ -52,21 +52,10 @@ class ParseError(ValueError):
     def text(self):
         return self._source.tobytes() if isinstance(self._source, memoryview) else self._source
 
-    @property
-    def start(self):
-        return self._part()[0]
-
-    @property
-    def end(self):
-        return self._part()[1]
-
-    @property
-    def expected(self):
-        return self._part()[2]
-
-    @property
-    def hint(self):
-        return self._part()[3]
+    start = property(lambda self: self._part()[0])
+    end = property(lambda self: self._part()[1])
+    expected = property(lambda self: self._part()[2])
+    hint = property(lambda self: self._part()[3])
 
     def _part(self):
         """The start, the end, what was expected and the hint, which are found once."""
