@@ -156,19 +156,6 @@ class Sources(unittest.TestCase):
         with self.assertRaisesRegex(TypeError, "^text 1 has to be str or bytes or bytearray or memoryview, not list$"):
             column(Reads(SECOND, []))
 
-    def test_mixed(self):
-        told, errors = collected(MIXED)
-        self.assertEqual(told, [NAT] * 4 + [500_000])
-        self.assertEqual([(it.code, it.index) for it in errors], [("tz_required", 0), ("second_fraction_too_long", 1), ("invalid_char_date_time_sep", 2), ("too_short", 3)])
-        cut = speedate.Config(overflow_behavior="truncate")
-        self.assertEqual(column(MIXED, missing_offset="utc", config=cut), [1_582_978_380_000_000, 1_582_978_394_123_456, NAT, NAT, 500_000])
-
-    def test_texts_of_other_types(self):
-        texts = [SECOND, SECOND.encode(), bytearray(SECOND, "utf-8"), memoryview(SECOND.encode()), spread(SECOND.encode()), type("Text", (str,), {})(SECOND), SECOND.replace("Z", "\u221200:00")]
-        for kind in (list, tuple, iter, lambda it: (one for one in it), lambda it: dict(enumerate(it)).values()):
-            self.assertEqual(column(kind(texts)), [1_000_000] * len(texts))
-        self.assertEqual(column({SECOND}), [1_000_000])
-
     @unittest.skipUnless(numpy, "NumPy is not installed")
     def test_numpy(self):
         moments = numpy.asarray(speedate.datetime_column(
@@ -324,14 +311,6 @@ class Blocks(unittest.TestCase):
                 self.assertEqual([it.index for it in errors], sorted(bad))
             for it in (wrong, *forms(wrong, "\n")):
                 self.assertTrue(read(it, refused="number").tolist() == wanted, (read, type(it)))
-
-    def test_all_refused(self):
-        for lines in (b"x\n" * 70_000, ["x"] * 70_000):
-            # The difference of such lists would take minutes.
-            refused = speedate.datetime_column(lines, refused="collect").refused
-            self.assertTrue(column(lines) == [NAT] * 70_000)
-            self.assertTrue(refused.indices.tolist() == list(range(70_000)) and refused.codes == ["too_short"] * 70_000)
-            self.assertEqual((len(refused), refused[-1].index, refused[-1].start, len(refused[1:3])), (70_000, 69_999, 1, 2))
 
     def test_long_lines(self):
         for size in (1, 262_142, 262_143, 262_144, 262_145, 600_000):
@@ -500,6 +479,8 @@ class Refusals(unittest.TestCase):
                 wanted = sorted([*empty, *(it for it in range(1, 70_000, 3) if it % 40 or not options)])
                 self.assertTrue(made.refused.indices.tolist() == wanted and made.refused.codes == [it.code for it in made.refused])
                 self.assertTrue([(it.index, it.text) for it in made.refused] == [(it, texts[it] if make is list else texts[it].encode()) for it in wanted])
+                refused = made.refused
+                self.assertEqual((len(refused), refused[-1].index, len(refused[1:3])), (len(wanted), wanted[-1], 2))
 
     def test_empty_is_raised_past(self):
         lines = b"\n" * 70_000 + b"x\n"
@@ -583,32 +564,6 @@ def front_of(read, text, **config):
         return read(text, **config)
     except speedate.ParseError as error:
         return error.code, error.start
-
-
-class Others(unittest.TestCase):
-    """Columns of dates and of durations."""
-
-    def test_sources(self):
-        for read, texts, wanted in (
-                (speedate.date_column, ["1970-01-02", "never", "1969-12-31"], [1, NAT, -1]),
-                (speedate.duration_column, ["PT1.5S", "never", "-00:01:00"], [1_500_000, NAT, -60_000_000])):
-            for end in ("\n", "\r\n"):
-                for it in (texts, iter(texts), *forms(texts, end)):
-                    with self.subTest(read, it=it):
-                        told, errors = collected(it, read)
-                        self.assertEqual(told, wanted)
-                        self.assertEqual([it.index for it in errors], [1])
-            with self.assertRaisesRegex(TypeError, "^text 1 has to be str or bytes or bytearray or memoryview, not bool$"):
-                read([texts[0], True])
-            with self.assertRaisesRegex(TypeError, "^texts has to be one column, not dict"):
-                read({"column": texts})
-
-    @unittest.skipUnless(numpy, "NumPy is not installed")
-    def test_numpy(self):
-        days = numpy.asarray(speedate.date_column(b"2020-02-29\nnever\n0000-01-01\n9999-12-31", refused="number"))
-        self.assertEqual(days.astype(str).tolist(), ["2020-02-29", "NaT", "0000-01-01", "9999-12-31"])
-        sizes = numpy.asarray(speedate.duration_column(["PT1.5S", None, "-P1D"]))
-        self.assertEqual(sizes.tolist(), [datetime.timedelta(seconds=1.5), None, datetime.timedelta(-1)])
 
 
 # The calls that read columns of the kinds that are printed, the bounds of their numbers, and the value of a number.
