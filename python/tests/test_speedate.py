@@ -26,9 +26,7 @@ from speedate import _speedate
 ROWS = r"""
 date("0001-01-01") -> datetime.date(1, 1, 1)
 date("20200229") -> ParseError: too_short
-date("20200229", timestamps=True) -> ParseError: date_not_exact
 date("86400000", config=Config("ms", 3600), timestamps=True) -> datetime.date(1970, 1, 2)
-date("") -> ParseError: too_short
 date("2020-02-2\ud800") -> ParseError: invalid_char_day
 date("\ufeff2020-02-29"), datetime_front("\ufeff2020-02-29T12:13") -> ParseError: invalid_char_year: it begins with a byte order mark, which the encoding utf-8-sig drops
 date_front(b"\xef\xbb\xbf2020-02-29 x") -> ParseError: invalid_char_year: it begins with a byte order mark: skip its three bytes
@@ -45,18 +43,12 @@ time(subclass(str, encode=None)("12:13")) -> datetime.time(12, 13)
 time(subclass(bytes, __len__=lambda self: 1 << 40)(b"12:13")) -> datetime.time(12, 13)
 subclass(Config) -> TypeError: Config has no subclasses
 time("12:13", config=Config(timestamp_offset=0)) -> TypeError: config has a timestamp_offset, which is not read here: date and datetime do with timestamps=True
-speedate.datetime("1582978394", timestamps=True) -> datetime.datetime(2020, 2, 29, 12, 13, 14)
-speedate.datetime("1582978394") -> ParseError: invalid_char_date_sep
-speedate.datetime("1.0", config=Config("us", -3600), timestamps=True) -> ParseError: microsecond_fraction_too_long
 speedate.datetime("1.0", config=Config("us", -3600, "truncate"), timestamps=True) -> datetime.datetime(1970, 1, 1, 0, 0, 0, 1, tzinfo=datetime.timezone(datetime.timedelta(days=-1, seconds=82800)))
 speedate.datetime("9999-12-31T23:59:59.999999Z") -> datetime.datetime(9999, 12, 31, 23, 59, 59, 999999, tzinfo=datetime.timezone.utc)
 speedate.datetime("0000-01-01T00:00") -> ParseError: year_zero
 speedate.datetime("2020-01-01T00:00+01:00").tzinfo is time("12:13+0100").tzinfo -> True
 duration("-P999999999D") == datetime.timedelta.min -> True
 duration("P999999999DT23:59:59".replace("DT", " d ").replace("P", "")) -> datetime.timedelta(days=999999999, seconds=86399)
-duration("P1D1Y", config=Config(iso_order="strict")) -> ParseError: duration_unit_order
-time("12:13:14Z", strict=True) -> datetime.time(12, 13, 14, tzinfo=datetime.timezone.utc)
-speedate.datetime("2020-02-29t12:13:14.1234567-01:00", config=Config(overflow_behavior="truncate"), strict=True).microsecond -> 123456
 time_front("12:13\u221200:30 \u00e9") == (time("12:13-00:30"), 11) -> True
 time_front("12:13\u221200:30 \u00e9".encode()) == (time("12:13-00:30"), 13) -> True
 date_front("0000-01-01 x") -> ParseError: year_zero
@@ -90,7 +82,6 @@ hash(date_column([])) -> TypeError: unhashable type: 'Column'
 str(checked(ParseError("too_short", b"12", 2, 2, "a time", 5, "a hint"))) -> "too_short in text 5 at 2: expected a time: b'12' (a hint)"
 date_column(date_column(["1970-01-02", None]), refused="collect").refused.codes, hasattr(date_column([]), "dtype") == (importlib.util.find_spec("numpy") is not None) -> (['too_short', 'invalid_char_year'], True)
 date_column(["x"], refused="collect").refused, len(date_column(["x"], refused="number").refused) -> (<1 refused texts>, 0)
-datetime_front("2020-02-29") -> ParseError: invalid_char_date_time_sep
 speedate.datetime("2020-01-01T00:00Z").tzinfo is datetime.timezone.utc -> True
 datetime_column([]) -> Column('datetime', [])
 datetime_column(b"") -> Column('datetime', [])
@@ -258,18 +249,8 @@ place(date, "\ud800"), place(date, "202\ud800-01-01"), place(date, "2020-02-2\ud
 place(date, subclass(str, encode=None)("2020-02-2\ud800")), place(date, subclass(bytes)(b"2020-01/01")) -> (8, 7)
 place(date, b"\xff" * 10), place(date, b"2020-1\xc3\xa901"), place(date, b"\xff"), place(date, b"2020-01-01\xff") -> (0, 5, 1, 10)
 place(date, "20200229"), place(date, "20200229", timestamps=True), place(date, "86400", config=Config("ms"), timestamps=True) -> (8, 0, 0)
-place(speedate.datetime, "1.0000000", timestamps=True), place(speedate.datetime, "1.0", config=Config("us"), timestamps=True), place(speedate.datetime, "1.0") -> (8, 2, 3)
-place(speedate.datetime, "253402300800000", timestamps=True), place(speedate.datetime, "253402300800000", config=Config(timestamp_offset=60), timestamps=True) -> (0, 0)
-place(time, "12:13:14.1234567x"), place(time, "12:13:14.1234567x", config=Config(overflow_behavior="truncate")) -> (15, 16)
-place(time, "12:13:14.1234567", strict=True), place(time, "12:13:14.1234567", config=Config(overflow_behavior="truncate"), strict=True) -> (15, 16)
-place(speedate.datetime, "2020-02-29T12:13:14\u221201:00", strict=True), place(speedate.datetime, "2020-02-29T12:13:14,5Z", strict=True) -> (19, 19)
-place(speedate.datetime, "2020-02-29T12:13:14+0100", strict=True), place(speedate.datetime, "2020-02-29T12:13:14+0100 ") -> (22, 24)
-place(date_front, "2020-02-3 opening"), place(datetime_front, "2020-02-29 opening"), place(time_front, "12:13\u22121") -> (8, 11, 6)
 place(time, memoryview(b"2x1x.x2x1")[::-2]), place(time, memoryview(bytearray(b"12:13:60"))) -> (2, 6)
-place(date, "2020-02-29"), place(duration, "x"), place(duration, b"P1D ") -> (None, 0, 3)
 place(date_column, ["x"]), place(date_column, b"1970-01-01\n2020-02-30"), place(date_column, ["2020-1\u00e901"]), place(date_column, ["2020-1\u00e901".encode()]) -> (1, 8, 5, 5)
-place(datetime_column, ["1970-01-01T00:00"]), place(datetime_column, b"1970-01-01 00:00:00.5\r\n"), place(datetime_column, ["1"], timestamps=True) -> (16, 21, 1)
-place(datetime_column, ["1970-01-01T00:00"], strict=True), place(datetime_column, ["1.0000000"], timestamps=True) -> (16, 8)
 place(duration_column, ["P1D1Q"]), place(duration_column, b"P106751992D"), place(duration_column, ["P1D1Y"], config=Config(iso_order="strict")) -> (4, 0, 4)
 refusal(date, "2020-02-30"), refusal(date, bytearray(b"2020-02-30")), refusal(date, memoryview(b"2020-02-30")) -> (('2020-02-30', 8), (b'2020-02-30', 8), (b'2020-02-30', 8))
 refusal(date, "0000-01-01"), refusal(speedate.datetime, b"0000-01-01T00:00"), refusal(date_front, memoryview(b"0000-01-01 x")) -> (('0000-01-01', 0), (b'0000-01-01T00:00', 0), (b'0000-01-01 x', 0))
@@ -288,12 +269,9 @@ expected(speedate.datetime, "x"), expected(speedate.datetime, "x", timestamps=Tr
 expected(datetime_column, ["1970-01-01T00:00"]), expected(date_column, ["x"], timestamps=True), expected(duration_column, ["P106751992D"]) -> ('an offset: Z or +01:00', 'a date, YYYY-MM-DD, or a whole number', 'a duration of less than 2^63 microseconds')
 text(datetime.timedelta(days=400)) -> 'P1Y35D'
 datetime_column(["13000000000", "20200229121314"], timestamps=True, missing_offset="utc") -> Column('datetime', [13000000000000000, 20200229121314000])
-part(date, "2020-13-01"), part(date, b"2020-01-01T12:13"), part(date, ""), part(date, "86401", timestamps=True) -> ((5, 7), (10, 16), (0, 0), (0, 5))
 part(date, "202\u00e9-01-01"), part(date, "202\u00e9-01-01".encode()), part(date, "2020\U0001f4c5") -> ((0, 4), (0, 5), (5, 5))
 part(time, "12:13:14\U0001f552"), part(time, "12:13\u221201:60"), part(time, "12:13:14\u221201:00".encode(), strict=True) -> ((8, 9), (9, 11), (8, 11))
 part(time_front, "12:13:14." + "5" * 1000 + "Z \u00e9"), part(time_front, b"12:13:14." + b"5" * 1000) -> ((15, 1009), (15, 1009))
-part(duration, "1h30m"), part(duration, "00:0\u00e9\u00e9\u00e9\u00e9\u00e9\u00e9\u00e9"), part(duration, "P1DT4294967296S") -> ((1, 2), (9, 10), (4, 14))
-part(speedate.datetime, "2020-02-29T1:13:14"), part(datetime_front, "2020-02-29 opening"), part(speedate.datetime, "1.00000000", timestamps=True) -> ((11, 12), (11, 12), (8, 10))
 part(datetime_column, ["1970-01-01T00:00"]), part(date_column, ["2020-1\u00e901"]), part(duration_column, b"P106751992D") -> ((16, 16), (5, 7), (0, 11))
 text(datetime.datetime.max) -> '9999-12-31T23:59:59.999999'
 text(datetime.datetime(2020, 10, 25, 2, tzinfo=Zone())) -> '2020-10-25T02:00:00+02:00'
@@ -369,10 +347,10 @@ def reading(read):
     return lambda call, *given, **named: read(error_of(call, *given, **named))
 
 
-# The text and the start of the part; the part that is wrong, and what was expected; the start alone, or None; the part; and what was expected.
+# The text and the start of the part; the part that is wrong, and what was expected; the start alone; the part; and what was expected.
 refusal = reading(lambda error: (error.text, error.start))
 whole = reading(lambda error: (error.text[error.start:error.end], error.expected))
-place = reading(lambda error: error and error.start)
+place = reading(lambda error: error.start)
 part = reading(lambda error: (error.start, error.end))
 expected = reading(lambda error: error.expected)
 
