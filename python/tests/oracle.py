@@ -247,12 +247,14 @@ class Config:
 
     def __post_init__(self):
         offset = self.timestamp_offset
-        vars(self)["_numbers"] = _Config(
-            0 if offset is None else _integer("timestamp_offset", offset, -86_399, 86_399),
+        if offset is not None:
+            offset = _integer("timestamp_offset", offset, -86_399, 86_399)
+        vars(self).update(timestamp_offset=offset, _numbers=_Config(
+            offset or 0,
             offset is not None,
             _choice("timestamp_unit", self.timestamp_unit, "infer", "s", "ms", "us"),
             _choice("overflow_behavior", self.overflow_behavior, "error", "truncate"),
-            _choice("iso_order", self.iso_order, "lax", "strict"))
+            _choice("iso_order", self.iso_order, "lax", "strict")))
 
 
 _DEFAULT = Config()

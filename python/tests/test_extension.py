@@ -442,8 +442,9 @@ class Extension(unittest.TestCase):
             self.assertGreater(numbers[name], 4 * min(COUNT // 10, 2_000) // 20, name)
 
     def test_wrong_types(self):
-        for name, positional, named in wrong_calls():
-            wanted, told = (outcome(side, name, positional, named) for side in (oracle, speedate))
+        configs = [("Config", (), {field: wrong}) for field in speedate.Config.__match_args__ for wrong in ODD]
+        for name, positional, named in [*wrong_calls(), *configs]:
+            wanted, told = (outcome(side, name, positional, named) for side in SIDES)
             with self.subTest(name, named={word: it(speedate) for word, it in named.items() if word != "text"}):
                 self.assertEqual(told, wanted)
 

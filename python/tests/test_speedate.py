@@ -1,5 +1,5 @@
 """Tests of the module that is installed: its docstrings and types, the rows below and those of C, the recorded lines of diff/,
-arguments of wrong types, and texts that `datetime` reads too."""
+and texts that `datetime` reads too."""
 import array
 import ast
 import collections
@@ -388,16 +388,6 @@ def subclass(kind, **members):
 
 
 CALLS = [getattr(speedate, name) for name in (*speedate.__all__, "Config")]
-# Of each argument one that is right, and its types among the wrong ones.
-FLAG, NAME = (True, bool), ("us", str)
-ARGUMENTS = {
-    "text": ("2020-02-29", str, bytes), "config": (None, type(None), speedate.Config), "timestamps": FLAG, "strict": FLAG,
-    "value": ("2020-02-29", str, bytes, datetime.date), "timestamp_unit": NAME, "timestamp_offset": (0, int, type(None)), "overflow_behavior": NAME,
-    "iso_order": NAME, "texts": ([], bytes, list), "missing_offset": ("utc", str), "refused": ("number", str), "empty": ("nat", str), "lines": FLAG,
-    "numbers": ([], list, dict, array.array, memoryview), "kind": ("date", str, type(None)), "digits": (3, int, type(None)),
-}
-WRONG = [None, True, 0, 1.0, 3j, "1", b"1", [], {}, object(), speedate.text, array.array("d", [1]), memoryview(b"12345678").cast("d"),
-         datetime.date(2020, 2, 29), speedate.Config, speedate.Config()]
 
 
 def drawn(draw):
@@ -526,15 +516,6 @@ class Speedate(unittest.TestCase):
             for line, *_, wanted in rows:
                 with self.subTest(line):
                     self.assertEqual(reply(line), represented(wanted))
-
-    def test_wrong_types(self):
-        for call in CALLS:
-            parameters = inspect.signature(call).parameters.values()
-            needed = {it.name: ARGUMENTS[it.name][0] for it in parameters if it.default is it.empty}
-            for name in (it.name for it in parameters):
-                for wrong in (it for it in WRONG if type(it) not in ARGUMENTS[name][1:]):
-                    with self.subTest(f"{call.__name__}({name}={wrong!r})"), self.assertRaisesRegex(TypeError, type(wrong).__name__):
-                        call(**{**needed, name: wrong})
 
     def test_rows_of_c(self):
         ran, left = collections.Counter(), collections.Counter()
