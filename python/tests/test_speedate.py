@@ -1,7 +1,6 @@
-"""Tests of the module that is installed: its docstrings and types, the rows below and those of C, the recorded lines of diff/,
+"""Tests of the module that is installed: its docstrings and names, the rows below and those of C, the recorded lines of diff/,
 and texts that `datetime` reads too."""
 import array
-import ast
 import collections
 import copy
 import datetime
@@ -426,20 +425,6 @@ def represented(answer):
     return answer.replace("-PT0S", "PT0S")
 
 
-def parameters(function):
-    """The parameters of a function of a stub: names, kinds and defaults."""
-    it = function.args
-    positional = [*zip(it.args, [None] * (len(it.args) - len(it.defaults)) + it.defaults)]
-    rows = [("", *row) for row in positional] + [("*", *row) for row in zip(it.kwonlyargs, it.kw_defaults)]
-    return [(kind + name.arg, repr(ast.literal_eval(default)) if default else None) for kind, name, default in rows]
-
-
-def shown(signature):
-    """The same of a function."""
-    stars = {inspect.Parameter.POSITIONAL_OR_KEYWORD: "", inspect.Parameter.KEYWORD_ONLY: "*"}
-    return [(stars.get(it.kind, it.kind) + it.name, None if it.default is it.empty else repr(it.default)) for it in signature.parameters.values()]
-
-
 def answer(call):
     try:
         return repr(call())
@@ -616,26 +601,6 @@ class Speedate(unittest.TestCase):
         page = pydoc.render_doc(speedate, renderer=pydoc.plaintext)
         self.assertNotIn("CLASSES", page)
         self.assertEqual([name for name in functions if f"\n    {name}(" not in page], [])
-
-    def test_types(self):
-        package = pathlib.Path(speedate.__file__).parent
-        for name, module in (("_speedate", _speedate), ("_types", sys.modules["speedate._types"])):
-            stub = ast.parse((package / f"{name}.pyi").read_text("utf-8"))
-            public = [it for it in vars(module) if not it.startswith("__") and getattr(vars(module)[it], "__module__", None) in ("speedate", f"speedate.{name}")]
-            classes = {it.name: it for it in stub.body if isinstance(it, ast.ClassDef)}
-            functions = {it.name: it for it in stub.body if isinstance(it, ast.FunctionDef)}
-            imported = {it.asname for node in stub.body if isinstance(node, ast.ImportFrom) for it in node.names if it.asname}
-            helpers = {it for it in public if it.startswith("_") and name == "_types"}
-            self.assertEqual({*classes, *functions, *imported}, {*public} - helpers)
-            for word, it in functions.items():
-                self.assertEqual(parameters(it), shown(inspect.signature(getattr(module, word))), word)
-            for word, it in classes.items():
-                made = next(member for member in it.body if isinstance(member, ast.FunctionDef) and member.name in ("__init__", "__new__"))
-                self.assertEqual(parameters(made)[1:], shown(inspect.signature(getattr(module, word))), word)
-        for name in ("ParseError", "Column", "Refused"):
-            members = {it.target.id if isinstance(it, ast.AnnAssign) else it.name for it in classes[name].body}
-            self.assertEqual({it for it in members if not it.startswith("_")}, {it for it in dir(getattr(speedate, name)) if not it.startswith("_")} - {*dir(ValueError)} | ({"code"} if name == "ParseError" else set()), name)
-        self.assertEqual([it.name for it in classes["Config"].body if isinstance(it, ast.FunctionDef)][1:], list(speedate.Config.__match_args__))
 
     def test_loaded_again(self):
         before = {name: getattr(speedate, name) for name in (*speedate.__all__, "Column", "Config", "ParseError", "Refused")}
