@@ -3,26 +3,18 @@
 
 use speedate::{Date, DateTime, Duration, ParseError, Time};
 
+const FILES: [&str; 2] = [include_str!("../../diff/answers.txt"), include_str!("../../diff/known_differences.txt")];
+
 #[test]
 fn answers() {
-    compare(include_str!("../../diff/answers.txt"));
-}
-
-#[test]
-fn known_differences() {
-    compare(include_str!("../../diff/known_differences.txt"));
-}
-
-fn compare(file: &str) {
-    let rows: Vec<&str> = file.lines().filter(|row| !row.starts_with('#')).collect();
-    let wrong: Vec<_> = rows.iter().filter(|row| !is_right(row)).collect();
-    assert!(wrong.is_empty(), "{wrong:#?}");
-    assert!(!rows.is_empty());
-}
-
-fn is_right(row: &str) -> bool {
-    let fields: Vec<&str> = row.split('\t').collect();
-    fields.len() > 1 && fields.last() == Some(&reply(fields[0]).as_str())
+    for file in FILES {
+        let rows: Vec<_> = file.lines().filter(|row| !row.starts_with('#')).collect();
+        assert!(!rows.is_empty());
+        for row in rows {
+            let (line, answers) = row.split_once('\t').expect(row);
+            assert_eq!(Some(&*reply(line)), answers.rsplit('\t').next(), "{line}");
+        }
+    }
 }
 
 /// What the program answers to a line.
