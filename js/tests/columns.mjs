@@ -69,6 +69,14 @@ function moment(line, { missingOffset, unit, ...options }) {
   return { number: inUnit(BigInt(milliseconds) * 1000n + BigInt(value.microsecond), unit) };
 }
 
+/** What a line has in a column of the fronts of lines: what its front has, and the size of that. */
+function front(line, { form, ...options }) {
+  const bytes = Buffer.from(line);
+  const { ok, value } = safeParseDateTimeFront(bytes, { overflow: options.overflow });
+  const it = moment(ok ? bytes.subarray(0, value.size).toString() : line, options);
+  return { ...it, size: it.refusal ? 0 : value.size };
+}
+
 /** What a line has in a column of what clocks show, by the call of its text, and by the date on which the clock stands if it shows none. */
 const clockBy = (safeParse, date) => (line, { unit, ...options }) => {
   const { ok, value, ...refusal } = safeParse(Buffer.from(line), options);
@@ -105,7 +113,8 @@ function expected({ of, Numbers }, text, options) {
   const lines = linesOf(text);
   const its = lines.map((it) => of(it, options));
   const refusals = its.flatMap(({ refusal }, index) => (refusal ? [{ index, text: new Uint8Array(Buffer.from(lines[index])), ...refusal }] : []));
-  return { numbers: Numbers(options).from(its, (it) => it.number), refusedCount: refusals.length, refusals };
+  const sizes = options.form === "front" ? { sizes: Int32Array.from(its, (it) => it.size) } : {};
+  return { numbers: Numbers(options).from(its, (it) => it.number), ...sizes, refusedCount: refusals.length, refusals };
 }
 
 /** Compares a column, by all ways of refusing, and gives the number of lines that are refused. */
@@ -140,20 +149,24 @@ const DURATIONS = [
   "P1DT2H", "-PT#M", "PT0.######S", "-PT#####.######S", "0#:1#", "-1#:2#:3#.#######", "2 days, 1#:1#", "P1D1Y", "P#Y#M#D", "P10675199#D", "-P106751991DT4H54.77580#S", "P105######DT4H54.77####S", "P999999999D",
   "", "x", "1 day, 24:00", "P1D\u2212",
 ];
+const FRONTS = DATE_TIMES.flatMap((it) => ["", " GET /", "x", "0", " \u{1f600}", ",Z"].map((rest) => it + rest));
 const LINE_ENDS = ["\n", "\n", "\n", "\r\n", "\r\r\n", "\n\n", "\r"];
 const anyOf = (choices) => Object.fromEntries(Object.entries(choices).map(([name, all]) => [name, one(all)]).filter(([, it]) => it !== undefined));
 const OVERFLOW = { overflow: [undefined, "error", "truncate"] };
 const STRICT = { form: [undefined, "text", "strict"], ...OVERFLOW };
 const UNIT = { unit: [undefined, "ms", "us"] };
+const MISSING = { missingOffset: [undefined, "error", "utc"] };
+const FRONT = { form: ["front"], ...MISSING, ...OVERFLOW, ...UNIT };
 const OR_TIMESTAMP = { form: ["orTimestamp"], timestampUnit: ["infer", "s", "ms", "us"] };
 const dateTimeOptions = (more) => anyOf({ ...(below(2) ? STRICT : { ...OR_TIMESTAMP, ...OVERFLOW }), ...more });
 const KINDS = [
   { kind: "date", of: day, Numbers: asIntegers, forms: DATES, drawn: () => anyOf(below(2) ? OR_TIMESTAMP : { form: [undefined, "text"] }) },
-  { kind: "dateTime", of: moment, Numbers: byUnit, forms: DATE_TIMES, drawn: () => dateTimeOptions({ missingOffset: [undefined, "error", "utc"], ...UNIT }) },
+  { kind: "dateTime", of: moment, Numbers: byUnit, forms: DATE_TIMES, drawn: () => dateTimeOptions({ ...MISSING, ...UNIT }) },
   { kind: "dateTimeClock", of: clockBy(safeParseDateTime, {}), Numbers: byUnit, forms: DATE_TIMES, drawn: () => dateTimeOptions(UNIT) },
   { kind: "dateTimeOffset", of: offsetBy(safeParseDateTime), Numbers: asIntegers, forms: DATE_TIMES, drawn: () => dateTimeOptions({}) },
   { kind: "time", of: clockBy(safeParseTime, EPOCH), Numbers: byUnit, forms: TIMES, drawn: () => anyOf({ ...STRICT, ...UNIT }) },
   { kind: "timeOffset", of: offsetBy(safeParseTime), Numbers: asIntegers, forms: TIMES, drawn: () => anyOf(STRICT) },
+  { kind: "dateTime", of: front, Numbers: byUnit, forms: FRONTS, drawn: () => anyOf(FRONT) },
   { kind: "duration", of: length, Numbers: byUnit, forms: DURATIONS, drawn: () => anyOf({ isoOrder: [undefined, "lax", "strict"], ...OVERFLOW, ...UNIT }) },
 ];
 const refusedOnes = KINDS.map(() => 0);
@@ -185,38 +198,6 @@ for (const [i, it] of numbersOf(lines.join("\n"), "dateTime", { unit: "us" }).en
   const of = (call) => thrown(call)?.code ?? call().getTime();
   assert.equal(of(() => dateOf(toDate, dateTimeFromTimestamp, it)), of(() => toDate(withOffset(parseDateTime(lines[i]), 0))), lines[i]);
 }
-
-// ---- Fronts of lines: beside the front of each ----
-
-const fronts = { accepted: 0, refused: 0 };
-for (let i = 0; i < 2000; i++) {
-  const { overflow, missingOffset, unit } = anyOf({ missingOffset: [undefined, "error", "utc"], ...OVERFLOW, ...UNIT });
-  const options = { form: "front", overflow, missingOffset, unit };
-  const text = Array.from({ length: below(8) }, () => digits(one(DATE_TIMES)) + one(["", " GET /", "x", "0", " \u{1f600}", ",Z"]) + one(LINE_ENDS)).join("");
-  const wanted = linesOf(text).map((line, index) => {
-    const { ok, value: front, code } = safeParseDateTimeFront(Buffer.from(line), { overflow });
-    const refused = { number: unit === "us" ? TOO_FEW_MICROSECONDS : NaN, size: 0 };
-    if (!ok) return { ...refused, refusal: { index, code } };
-    if (front.value.offsetSeconds === null && missingOffset !== "utc") return { ...refused, refusal: { index, code: "tz_required" } };
-    return { number: moment(Buffer.from(line).subarray(0, front.size).toString(), { overflow, missingOffset, unit }).number, size: front.size };
-  });
-  const numbers = byUnit({ unit }).from(wanted, (it) => it.number);
-  const sizes = Int32Array.from(wanted, (it) => it.size);
-  const refused = wanted.flatMap(({ refusal }) => (refusal ? [refusal] : []));
-  fronts.refused += refused.length;
-  fronts.accepted += sizes.length - refused.length;
-  const { refusals, ...column } = readColumn(text, "dateTime", { ...options, refused: "collect" });
-  assert.deepEqual(column, { numbers, sizes, refusedCount: refused.length }, text);
-  assert.deepEqual(refusals.map(({ index, code }) => ({ index, code })), refused, text);
-  assert.deepEqual(readColumn(text, "dateTime", { ...options, refused: "number" }), { ...column, refusals: [] });
-  const [at, reader] = [below(text.length + 1), columnReader("dateTime", { ...options, refused: "collect" })];
-  const parts = [reader.read(text.slice(0, at)), reader.read(text.slice(at)), reader.end()];
-  for (const name of ["numbers", "sizes", "refusals"]) assert.deepEqual(parts.flatMap((it) => [...it[name]]), [...{ numbers, sizes, refusals }[name]], text);
-  const error = thrown(() => readColumn(text, "dateTime", options));
-  if (refused.length > 0) assert.deepEqual({ ...error }, { name: "SpeedateError", ...refusals[0] }, text);
-  for (const { start, end, text: line } of refusals) assert.ok(start <= end && end <= line.length, text);
-}
-assert.ok(fronts.accepted > 1000 && fronts.refused > 1000, JSON.stringify(fronts));
 
 // ---- Columns in print: beside the text of each value, and read again ----
 
@@ -294,16 +275,21 @@ function byPieces({ kind }, pieces, options) {
     return part;
   });
   parts.push(reader.end());
-  const numbers = parts[0].numbers.constructor.from(parts.flatMap((it) => Array.from(it.numbers)));
-  return { numbers, refusedCount: parts.reduce((sum, it) => sum + it.refusedCount, 0), refusals: parts.flatMap((it) => it.refusals) };
+  const joined = (name) => parts[0][name].constructor.from(parts.flatMap((it) => Array.from(it[name])));
+  const sizes = options.form === "front" ? { sizes: joined("sizes") } : {};
+  const refusedCount = parts.reduce((sum, it) => sum + it.refusedCount, 0);
+  return { numbers: joined("numbers"), ...sizes, refusedCount, refusals: joined("refusals") };
 }
 
 const TEXT = "2020-02-29T12:13:14.5Z\r\n\n2021-02-29T12:13Z\n2020-02-29T12:13\u221201:00\r\n\r\n1970-01-01T00:00:00.000001Z";
 const DAYS_TEXT = "2020-02-29\r\n\n2021-02-29\n1969-12-31\n\r\n0000-01-01\n";
+const FRONTS_TEXT = "2020-02-29T12:13:14.5Z /\r\n\n2021-02-29\n2020-02-29T12:13\u221201:00 x\r\n1970-01-01 00:00";
 const TIMES_TEXT = "12:13:14.5Z\r\n\n24:00\n12:13\u221201:00\r\n\r\n00:00:00.000001+23:59";
 for (const [kind, text, options] of [
   [KINDS[0], DAYS_TEXT, {}], [KINDS[1], TEXT, {}], [KINDS[1], `${TEXT}\n`, { unit: "us" }], [KINDS[1], `${TEXT}\r\n`, { overflow: "truncate" }],
-  [KINDS[2], TEXT, {}], [KINDS[3], TEXT, {}], [KINDS[4], TIMES_TEXT, { unit: "us" }], [KINDS[5], TIMES_TEXT, {}], [KINDS[6], "PT1.5S\r\n\nP999999999D\n-00:01\u2212\r\n1 day", {}],
+  [KINDS[2], TEXT, {}], [KINDS[3], TEXT, {}], [KINDS[4], TIMES_TEXT, { unit: "us" }], [KINDS[5], TIMES_TEXT, {}],
+  [KINDS[6], FRONTS_TEXT, { form: "front", missingOffset: "utc" }],
+  [KINDS[7], "PT1.5S\r\n\nP999999999D\n-00:01\u2212\r\n1 day", {}],
 ]) {
   const bytes = Buffer.from(text);
   const whole = expected(kind, text, options);
@@ -313,7 +299,7 @@ for (const [kind, text, options] of [
   }
   assert.deepEqual(byPieces(kind, Array.from(bytes, (it) => [it]), options), whole);
   assert.deepEqual(byPieces(kind, Array.from(text), options), whole);
-  assert.deepEqual(byPieces(kind, [], options), { numbers: kind.Numbers(options).of(), refusedCount: 0, refusals: [] });
+  assert.deepEqual(byPieces(kind, [], options), expected(kind, "", options));
 }
 {
   const reader = columnReader("date");
