@@ -355,27 +355,21 @@ for (const size of [63, 64, 65, 65000, 66000, 2 ** 24, 2 ** 24 + 1]) {
 
 // ---- Where errors start and end: in units of a string, otherwise in bytes ----
 
-/** A reader, a text that it refuses, and where the part starts and ends in a string and in bytes. */
+/** A reader, a text that it refuses, and where the part starts and ends in a string and in bytes. rows.mjs has more. */
 const PARTS = [
-  ["Date", "2020-13-01", [5, 7], [5, 7]], ["Date", "20200229", [8, 8], [8, 8]], ["Date", "2020-01-01T12:13", [10, 16], [10, 16]], ["Date", "", [0, 0], [0, 0]],
-  ["Date", "86400", [0, 5], [0, 5], { form: "orTimestamp", timestampUnit: "us" }], ["Date", "86401", [0, 5], [0, 5], { form: "orTimestamp", timestampUnit: "s" }],
+  ["Date", "20200229", [8, 8], [8, 8]],
   ["Date", "\u00e9", [1, 1], [2, 2]], ["Date", "\u2212", [1, 1], [3, 3]], ["Date", "\u{1f600}", [2, 2], [4, 4]], ["Date", "\ud83d", [1, 1], [3, 3]], ["Date", "\ud83d\u{1f600}\ude00", [0, 3], [0, 7]],
   ["Date", "202\u00e9-01-01", [0, 4], [0, 5]], ["Date", "2020\u{1f4c5}01-01", [4, 6], [4, 8]], ["Date", "2020\ud83d01-01", [4, 5], [4, 7]], ["Date", "2020-02-29\u{1f600}", [10, 12], [10, 14]],
   ["Date", `2020-01-01${"\u00e9".repeat(70)}`, [10, 80], [10, 150]], ["Date", `2020-01-01${"\u00e9".repeat(2 ** 24)}`, [10, 2 ** 24 + 10], [10, 2 ** 25 + 10]],
   ["Date", `2020-01-01${"x".repeat(2 ** 24)}`, [10, 2 ** 24 + 10], [10, 2 ** 24 + 10]],
-  ["Time", "12:13:60", [6, 8], [6, 8]], ["Time", "9:30 AM", [0, 1], [0, 1]], ["Time", "12:13\u221201:60", [9, 11], [11, 13]], ["Time", "12:13\u221208:00\u{1f600}", [11, 13], [13, 17]],
-  ["Time", "12:13:14\u{1f552}", [8, 10], [8, 12]], ["Time", "12:13:14.12345678", [15, 17], [15, 17]], ["Time", "12:13:14.1234567x", [15, 16], [15, 16]],
-  ["Time", "12:13:14.1234567x", [16, 17], [16, 17], { overflow: "truncate" }], ["Time", "\u00e9\u00e9", [2, 2], [4, 4]], ["Time", "12:13:14,5Z", [8, 9], [8, 9], { form: "strict" }],
-  ["Time", "12:13:14.5", [10, 10], [10, 10], { form: "strict" }], ["Time", "12:13:14\u221208:00", [8, 9], [8, 11], { form: "strict" }],
-  ["DateTime", "2020-02-29T12:60", [14, 16], [14, 16]], ["DateTime", "2020-02-29T1:13:14", [11, 12], [11, 12]], ["DateTime", "1.0", [3, 3], [3, 3]], ["DateTime", "1.00000000Z", [0, 4], [0, 4]],
-  ["DateTime", "1.0000000", [8, 9], [8, 9], { form: "orTimestamp", timestampUnit: "s" }], ["DateTime", "1.00000000", [8, 10], [8, 10], { form: "orTimestamp", timestampUnit: "s" }],
-  ["DateTime", "1.0", [2, 3], [2, 3], { form: "orTimestamp", timestampUnit: "us" }], ["DateTime", "2020-02-29 12:13:14Z", [10, 11], [10, 11], { form: "strict" }],
+  ["Time", "9:30 AM", [0, 1], [0, 1]], ["Time", "12:13\u221208:00\u{1f600}", [11, 13], [13, 17]],
+  ["Time", "12:13:14\u{1f552}", [8, 10], [8, 12]],
+  ["Time", "\u00e9\u00e9", [2, 2], [4, 4]],
+  ["DateTime", "1.00000000Z", [0, 4], [0, 4]],
   ["DateTime", "2020-02-29T12:13:14.1234567\u22121", [28, 29], [30, 31], { overflow: "truncate" }], ["DateTime", "2020-02-29T12:13", [16, 16], [16, 16], { missingOffset: "error" }],
-  ["Duration", "P1D1Q", [4, 5], [4, 5]], ["Duration", "PT", [2, 2], [2, 2]], ["Duration", "12345", [5, 5], [5, 5]], ["Duration", "1 dax", [3, 4], [3, 4]], ["Duration", "\u{1f552}", [0, 2], [0, 4]],
-  ["Duration", "1h30m", [1, 2], [1, 2]], ["Duration", "1 day, 24:00", [7, 9], [7, 9]], ["Duration", "P1DT4294967296S", [4, 14], [4, 14]], ["Duration", "P1D1Y", [4, 5], [4, 5], { isoOrder: "strict" }],
-  ["Duration", `00:0${"\u00e9".repeat(7)}`, [9, 10], [15, 16]], ["Duration", `00:0${"\u2212".repeat(4)}`, [7, 8], [15, 16]], ["Duration", `00:0${"\u{1f600}".repeat(3)}`, [8, 10], [15, 16]],
-  ["Duration", "00:00:00.1234567x", [15, 16], [15, 16]], ["Duration", "00:00:00.1234567x", [16, 17], [16, 17], { overflow: "truncate" }],
-  ["DateFront", "2020-02-3 opening", [8, 10], [8, 10]], ["DateFront", "2021-02-29 opening", [8, 10], [8, 10]], ["TimeFront", "12:13\u22121 opening", [6, 8], [8, 10]],
+  ["Duration", "\u{1f552}", [0, 2], [0, 4]],
+  ["Duration", `00:0${"\u2212".repeat(4)}`, [7, 8], [15, 16]], ["Duration", `00:0${"\u{1f600}".repeat(3)}`, [8, 10], [15, 16]],
+  ["TimeFront", "12:13\u22121 opening", [6, 8], [8, 10]],
   ["TimeFront", `12:13:14.${"5".repeat(100)} opening \u00e9`, [15, 109], [15, 109]], ["DateTimeFront", "2020-02-29 opening", [11, 12], [11, 12]],
   ["DateTimeFront", "2020-02-29T12:13\u22121 opening", [17, 19], [19, 21]],
 ];
