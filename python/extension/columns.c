@@ -273,11 +273,7 @@ static int number_of_call(const Column *column) {
 }
 
 static int raise_refusal(Column *column, int code, Py_ssize_t index, PyObject *source) {
-    PyObject *number = PyLong_FromLong(number_of_call(column) | (code & INTEGER_FLAG ? OF_INTEGER : 0));
-    if (number)
-        raise_error(new_error(column->state, code & ~INTEGER_FLAG, index, source, number));
-    Py_XDECREF(number);
-    return -1;
+    return raise_error(new_error(column->state, code, index, source, number_of_call(column))), -1;
 }
 
 /* Ends the column at a text that is refused, or goes on. It takes the reference to the text. */

@@ -65,7 +65,7 @@ typedef struct {
 } Text;
 
 int wrong_type(const char *name, const char *kinds, PyObject *value);
-PyObject *new_error(const State *state, int code, Py_ssize_t index, PyObject *source, PyObject *call);
+PyObject *new_error(const State *state, int code, Py_ssize_t index, PyObject *source, int call);
 PyObject *raise_error(PyObject *error);
 PyObject *raise_mistake(int code);
 
@@ -180,7 +180,7 @@ extern const Parser parsers[ALL_PARSERS];
 /* What is added to the number of a parser and its configuration, which is less than the first of them. */
 enum { OF_COLUMN = 256, ASSUMES_UTC = 512, OF_LINE = 1024, OF_INTEGER = 2048 };
 
-#define INTEGER_FLAG 128 /* added to the code of an integer that a column refuses */
+#define INTEGER_FLAG 128 /* added to the code of an integer that is refused */
 
 /* What no one can write of a text, and may be kept: a str, or the bytes that were read. */
 static inline PyObject *source_of(PyObject *object, const Text *text) {

@@ -52,16 +52,19 @@ int wrong_type(const char *name, const char *kinds, PyObject *value) {
 }
 
 /* A ParseError without a call of its __init__, which would take longer than all the rest. It finds its part when it is asked
- * for it. Its index is negative if it is of no column. */
-PyObject *new_error(const State *state, int code, Py_ssize_t index, PyObject *source, PyObject *call) {
+ * for it. Its index is negative if it is of no column. A flag of the code says that the text is of an integer. */
+PyObject *new_error(const State *state, int code, Py_ssize_t index, PyObject *source, int call) {
+    if (code & INTEGER_FLAG)
+        return new_error(state, code & ~INTEGER_FLAG, index, source, call | OF_INTEGER);
     if (code < 0 || code >= ALL_CODES || !state->held[ATTRIBUTES + code])
         return raise_mistake(code);
     PyTypeObject *type = (PyTypeObject *)state->held[PARSE_ERROR], *base = (PyTypeObject *)PyExc_ValueError;
     PyObject *error = base->tp_new(type, state->held[ARGUMENTS + code], NULL);
     PyObject *attributes = error ? PyDict_Copy(state->held[ATTRIBUTES + code]) : NULL;
     PyObject *place = attributes && index >= 0 ? PyLong_FromSsize_t(index) : NULL;
-    PyObject *kept[SLOTS] = {[SOURCE] = source, [CALL_NUMBER] = call};
-    if (!attributes || (index >= 0 && (!place || PyDict_SetItem(attributes, state->held[INDEX], place) < 0))) {
+    PyObject *number = attributes ? PyLong_FromLong(call) : NULL;
+    PyObject *kept[SLOTS] = {[SOURCE] = source, [CALL_NUMBER] = number};
+    if (!number || (index >= 0 && (!place || PyDict_SetItem(attributes, state->held[INDEX], place) < 0))) {
         Py_XDECREF(attributes);
         Py_CLEAR(error);
     } else {
@@ -71,6 +74,7 @@ PyObject *new_error(const State *state, int code, Py_ssize_t index, PyObject *so
             *(PyObject **)((char *)error + state->offsets[i]) = kept[i];
         }
     }
+    Py_XDECREF(number);
     Py_XDECREF(place);
     return error;
 }

@@ -323,9 +323,8 @@ static PyObject *refuse(const State *state, int code, PyObject *object, const Te
     if (code > LAST_OF_TEXTS && code < YEAR_ZERO)
         return raise_mistake(code);
     PyObject *source = text ? source_of(object, text) : call_on_item(state, DIGITS, -1, object, parser);
-    PyObject *number = PyLong_FromLong(call_number(parser, config) | (text ? 0 : OF_INTEGER));
-    PyObject *error = source && number ? new_error(state, code, -1, source, number) : NULL;
-    Py_XDECREF(number);
+    int flagged = code | (text ? 0 : INTEGER_FLAG);
+    PyObject *error = source ? new_error(state, flagged, -1, source, call_number(parser, config)) : NULL;
     if (!text)
         Py_XDECREF(source);
     return raise_error(error);
@@ -616,8 +615,5 @@ PyObject *call_refusal(PyObject *module, PyObject *arguments) {
     int code, call;
     if (!PyArg_ParseTuple(arguments, "inOi:_refusal", &code, &index, &source, &call))
         return NULL;
-    PyObject *number = PyLong_FromLong(call | (code & INTEGER_FLAG ? OF_INTEGER : 0));
-    PyObject *error = number ? new_error(PyModule_GetState(module), code & ~INTEGER_FLAG, index, source, number) : NULL;
-    Py_XDECREF(number);
-    return error;
+    return new_error(PyModule_GetState(module), code, index, source, call);
 }
