@@ -154,26 +154,6 @@ _CALLS = {
 }
 
 
-class _Parser:
-    """A parser in a form."""
-
-    def __init__(self, library, kind, ending):
-        self.__name__, self.type = f"speedate_{kind}_parse{ending}", _TYPES[kind]
-        self.form = _FORMS.get(ending, int(kind.startswith("date")))
-        self.call = getattr(library, f"speedate_{kind}_parse")
-        self.call.argtypes = [*_TEXT, ctypes.c_int, ctypes.POINTER(_Config), ctypes.POINTER(self.type), ctypes.POINTER(_Part)]
-
-    def __call__(self, text, size, *arguments, part=None):
-        """The arguments are the configuration, if there is one, the value, and at a front the size."""
-        config = arguments[0] if isinstance(arguments[0], _Config) else None
-        out, *taken = arguments[config is not None:]
-        part = _Part() if taken and part is None else part
-        code = self.call(text, size, self.form, config, out, part)
-        if taken and code == 0:
-            taken[0].value = part.end
-        return code
-
-
 def _load(path):
     """The library, with the types of its calls."""
     library = ctypes.PyDLL(str(path))
@@ -181,16 +161,32 @@ def _load(path):
         call = getattr(library, f"speedate_{name}")
         call.argtypes, call.restype = types, ctypes.c_int
     library.speedate_code_string.restype = ctypes.c_char_p
-    for kind, endings in {"date": ["_text", "", "_front"], "time": ["", "_strict", "_front"],
-                          "datetime": ["_text", "", "_strict", "_front"], "duration": [""]}.items():
-        parsers = [_Parser(library, kind, ending) for ending in endings]
-        for it in parsers:
-            setattr(library, it.__name__, it)
     return library
 
 
 _library = _load(pathlib.Path(__file__).resolve().parents[2] / "out/libspeedate.so")
 _Buffer = ctypes.c_char * 64
+
+
+class _Parser:
+    """A parser in a form, which gives the code, the value and the part of a text."""
+
+    def __init__(self, kind, ending):
+        self.call, self.type = getattr(_library, f"speedate_{kind}_parse"), _TYPES[kind]
+        self.call.argtypes = [*_TEXT, ctypes.c_int, ctypes.POINTER(_Config), ctypes.POINTER(self.type), ctypes.POINTER(_Part)]
+        self.form = _FORMS.get(ending, int(kind.startswith("date")))
+        self.kind = self(b"")[2].kind  # an empty text is refused
+
+    def __call__(self, whole, config=None):
+        out, part = self.type(), _Part()
+        return self.call(whole, len(whole), self.form, config, out, part), out, part
+
+
+_PARSERS = {
+    kind + ending: _Parser(kind, ending)
+    for kind, endings in {"date": ["_text", "", "_front"], "time": ["", "_strict", "_front"],
+                          "datetime": ["_text", "", "_strict", "_front"], "duration": [""]}.items()
+    for ending in endings}
 
 
 def _printed(call, value, *digits):
@@ -293,20 +289,12 @@ def _end(text, end):
     return len(_bytes(text)[:end].decode("utf-8", "surrogatepass")) if isinstance(text, str) else end
 
 
-def _parsed_or_part(call, whole, *numbers):
-    """The code for which a text is refused, and the part."""
-    part, taken = _Part(), [ctypes.c_size_t()] * (call.form == 3)
-    return call(whole, len(whole), *numbers, call.type(), *taken, part=part), part
-
-
-def _error(call, code, text, *numbers):
+def _error(parser, text, *numbers):
     """The error of a text, with its part, and a hint if nothing but a byte order mark refuses it."""
     whole, hint = _bytes(text), None
-    told, part = _parsed_or_part(call, whole, *numbers)
-    assert told == code
-    if whole.startswith(MARK):
-        if _parsed_or_part(call, whole[3:], *numbers)[0] == 0:
-            hint = MARK_WORDS[isinstance(text, str)]
+    code, _, part = parser(whole, *numbers)
+    if whole.startswith(MARK) and parser(whole[3:], *numbers)[0] == 0:
+        hint = MARK_WORDS[isinstance(text, str)]
     return ParseError(code).of(_kept(text), _counted(text, part.start), _end(text, part.end), _expected(code, part.kind), hint)
 
 
@@ -318,33 +306,33 @@ def _value_of_text(out, text, size):
         raise error.of(_kept(text), 0, size, LACKING[error.code])
 
 
-def _read_front(call, text, *numbers):
-    """The value that a call reads of a text, and its size: of all of the text, unless the call is one of fronts."""
-    whole, out, taken = _bytes(text), call.type(), [ctypes.c_size_t()] * (call.form == 3)
-    code = call(whole, len(whole), *numbers, out, *taken)
+def _read_front(parser, text, *numbers):
+    """The value that a parser reads of a text, and its size: of all of the text, unless the parser is one of fronts."""
+    code, out, part = parser(_bytes(text), *numbers)
     if code:
-        raise _error(call, code, text, *numbers)
-    size = _end(text, taken[0].value if taken else len(whole))
+        raise _error(parser, text, *numbers)
+    size = _end(text, part.end)
     return _value_of_text(out, text, size), size
 
 
-def _read_integer(call, out, kind, value, *numbers):
+def _read_integer(of_timestamp, kind, value, numbers):
     """The value of a timestamp."""
     whole, digits = _whole("value", -1, value), _digits(-1, value, True)
-    code = call(whole, *numbers, out) if -(2**63) <= whole < 2**63 else NUMBER_TOO_LARGE
+    code, out = of_timestamp(whole, numbers) if -(2**63) <= whole < 2**63 else (NUMBER_TOO_LARGE, None)
     if code:
-        raise ParseError(code).of(digits, 0, len(digits), "a number that fits 64 bits" if code == NUMBER_TOO_LARGE else _expected(code, kind))
+        words = "a number that fits 64 bits" if code == NUMBER_TOO_LARGE else _expected(code, kind)
+        raise ParseError(code).of(digits, 0, len(digits), words)
     return _value_of_text(out, digits, len(digits))
 
 
-def _date_of_timestamp(timestamp, numbers, out):
-    """The date of a timestamp, which is parsed as its digits are."""
-    digits = str(timestamp).encode()
-    return _library.speedate_date_parse(digits, len(digits), numbers, out)
+def _date_of_timestamp(timestamp, numbers):
+    """The code and the date of a timestamp, which is parsed as its digits are."""
+    return _PARSERS["date"](str(timestamp).encode(), numbers)[:2]
 
 
-def _datetime_of_timestamp(timestamp, numbers, out):
-    return _library.speedate_datetime_from_timestamp(timestamp, 0, numbers, out)
+def _datetime_of_timestamp(timestamp, numbers):
+    out = _DateTime()
+    return _library.speedate_datetime_from_timestamp(timestamp, 0, numbers, out), out
 
 
 def _is_text(value):
@@ -360,9 +348,8 @@ def _form(timestamps, strict):
 
 
 def _parser(kind, ending, config, timestamps):
-    """The parser of a kind whose form ends its name, the numbers of the configuration, and those that it is given."""
-    call, numbers = getattr(_library, f"speedate_{kind}_parse{ending}"), _configured(config, _OF_TIMESTAMPS if timestamps else ())
-    return call, numbers, [] if call.__name__ == "speedate_date_parse_text" else [numbers]
+    """The parser of a kind whose form ends its name, and the numbers of the configuration."""
+    return _PARSERS[kind + ending], _configured(config, _OF_TIMESTAMPS if timestamps else ())
 
 
 def _read(kind, ending, value, config, timestamps=None, of_timestamp=None):
@@ -370,8 +357,8 @@ def _read(kind, ending, value, config, timestamps=None, of_timestamp=None):
     if not _is_text(value) and not (timestamps and hasattr(type(value), "__index__")):
         raise _wrong_text(-1, value, timestamps is not None)
     _is_text(value) and _bytes(value)
-    call, numbers, given = _parser(kind, ending, config, timestamps)
-    return _read_front(call, value, *given)[0] if _is_text(value) else _read_integer(of_timestamp, call.type(), KINDS[call.__name__], value, numbers)
+    parser, numbers = _parser(kind, ending, config, timestamps)
+    return _read_front(parser, value, numbers)[0] if _is_text(value) else _read_integer(of_timestamp, parser.kind, value, numbers)
 
 
 def date(value, *, config=None, timestamps=False):
@@ -391,15 +378,15 @@ def duration(value, *, config=None):
 
 
 def date_front(text):
-    return _read_front(_library.speedate_date_parse_front, text)
+    return _read_front(_PARSERS["date_front"], text)
 
 
 def time_front(text, *, config=None):
-    return _read_front(_library.speedate_time_parse_front, text, _configured(config))
+    return _read_front(_PARSERS["time_front"], text, _configured(config))
 
 
 def datetime_front(text, *, config=None):
-    return _read_front(_library.speedate_datetime_parse_front, text, _configured(config))
+    return _read_front(_PARSERS["datetime_front"], text, _configured(config))
 
 
 def _view(texts):
@@ -464,15 +451,14 @@ def _column(kind, ending, number_of, config, texts, refused, empty, lines, times
     _choice("refused", refused, "stop", "number", "collect")
     _choice("empty", empty, "error", "nat")
     _flag("lines", lines)
-    parser, numbers, given = _parser(kind.partition("_")[0], ending, config, timestamps)
+    parser, numbers = _parser(kind.partition("_")[0], ending, config, timestamps)
 
-    def number(call, *arguments):
-        out = parser.type()
-        _check(call(*arguments, out))
+    def number(code, out, *_):
+        _check(code)
         return number_of(out)
 
     def read(whole):
-        return number(parser, whole, len(whole), *given)
+        return number(*parser(whole, numbers))
 
     column, has_timestamps = Column(kind, array.array("q"), []), timestamps is not None
     for index, (text, is_line) in enumerate(_lines(texts, lines)):
@@ -489,12 +475,12 @@ def _column(kind, ending, number_of, config, texts, refused, empty, lines, times
             continue
         try:
             if is_integer and timestamps:
-                column.numbers.append(number(of_timestamp, _fitting(_whole("text", index, text), -(2**63), 2**63 - 1), numbers))
+                column.numbers.append(number(*of_timestamp(_fitting(_whole("text", index, text), -(2**63), 2**63 - 1), numbers)))
             else:
                 column.numbers.append(read(whole))
         except ParseError as error:
             error = ParseError(error.number, index)
-            place, end, words = _part_in_column(parser, whole, error.number, *given)
+            place, end, words = _part_in_column(parser, whole, error.number, numbers)
             hint = None
             if is_integer and not timestamps:
                 hint = INTEGER_WORDS[has_timestamps]
@@ -523,18 +509,11 @@ def _hint(read, whole, is_str, ends):
         pass
 
 
-def _part_in_column(call, whole, number, *numbers):
+def _part_in_column(parser, whole, number, numbers):
     """The part of an error in bytes, and what was expected. A column itself refuses what lacks an offset, or is too large."""
-    code, part = _parsed_or_part(call, whole, *numbers)
-    words = _expected(code or number, KINDS[call.__name__])
+    code, _, part = parser(whole, numbers)
+    words = _expected(code or number, parser.kind)
     return (part.start, part.end, words) if code else (len(whole) * (number == TZ_REQUIRED), len(whole), words)
-
-
-# The kind of each call that parses texts of columns, by the numbers of the header.
-KINDS = {
-    f"speedate_{name}": kind for kind, name in enumerate([
-        "date_parse_text", "date_parse", "time_parse", "time_parse_strict", "datetime_parse_text", "datetime_parse",
-        "datetime_parse_strict", "duration_parse"], 1)}
 
 
 def _check(code):
@@ -601,9 +580,9 @@ def duration_column(texts, *, config=None, refused="stop", empty="error", lines=
 
 def _line(number, kind):
     """The text of a number of a column, by the calls that make the value of a number and print it."""
-    micros, out = _Config(0, kind == "datetime", 3), {"date": _Date, "time": _Time, "duration": _Duration}.get(kind, _DateTime)()
     if kind == "date":
-        _check(_date_of_timestamp(number * 86_400, _Config(0, 0, 1), out))
+        code, out = _date_of_timestamp(number * 86_400, _Config(0, 0, 1))
+        _check(code)
         return _printed(_library.speedate_date_to_text, out)
     if kind == "time":
         _check(40 * (not 0 <= number < 86_400_000_000))  # time_too_large
@@ -612,7 +591,8 @@ def _line(number, kind):
     if kind == "duration":
         seconds, micro = divmod(abs(number), 1_000_000)
         return _printed(_library.speedate_duration_to_text, _Duration(number < 0, *divmod(seconds, 86_400), micro))
-    _check(_library.speedate_datetime_from_timestamp(number, 0, micros, out))
+    code, out = _datetime_of_timestamp(number, _Config(0, kind == "datetime", 3))
+    _check(code)
     return _printed(_library.speedate_datetime_to_text, out, -1)
 
 
