@@ -167,12 +167,10 @@ class Sources(unittest.TestCase):
         self.assertEqual(column(numpy.array([SECOND, None, numpy.nan, numpy.float64("nan")], dtype=object)), [1_000_000, NAT, NAT, NAT])
         # What pandas.isna says is missing, of each type.
         missing = [numpy.float32("nan"), numpy.float16("nan"), numpy.datetime64("NaT"), numpy.timedelta64("NaT"), decimal.Decimal("nan"), *([pandas.NA, pandas.NaT] if pandas else [])]
-        self.assertEqual(column([*missing, SECOND]), [NAT] * len(missing) + [1_000_000])
+        for options in ({}, {"timestamps": True}):
+            self.assertEqual(column([*missing, SECOND], **options), [NAT] * len(missing) + [1_000_000])
         if pandas:
             self.assertEqual([it for it in missing if not pandas.isna(it)], [])
-        for wrong, kind in ((numpy.zeros(2), "float64"), (moments, "datetime64")):
-            with self.assertRaisesRegex(TypeError, f"^text 0 has to be .*, not {kind}(: .* makes integers of floats, .*|: it is parsed already)?$"):
-                column(wrong)
 
     @unittest.skipUnless(pandas, "pandas is not installed")
     def test_durations_of_pandas(self):
@@ -193,15 +191,6 @@ class Sources(unittest.TestCase):
             read = speedate.datetime_column(it, config=unix, timestamps=True)
             self.assertEqual(numpy.asarray(read).tolist(), seconds.astype("datetime64[s]").tolist())
         self.assertEqual(speedate.date_column(seconds, config=speedate.Config("s"), timestamps=True).tolist(), days.tolist())
-        for kind in ("i2", "u2", "i4", "u4", "i8", "u8"):
-            self.assertEqual(column(numpy.array([0, 20_000], kind), config=unix, timestamps=True), [0, 20_000_000_000])
-        if pandas:
-            self.assertEqual(column(pandas.Series([1, None], dtype="Int64"), config=unix, timestamps=True), [1_000_000, NAT])
-        # A number that is too large is refused, and no error of an argument, wherever it is.
-        for make in (list, iter, lambda it: numpy.array(it, "u8"), lambda it: array.array("Q", it), lambda it: numpy.array(it, "O")):
-            told, errors = collected(make([0, 2**63, 2**64 - 1, 1]), config=unix, timestamps=True)
-            self.assertEqual(told, [0, NAT, NAT, 1_000_000])
-            self.assertEqual([(it.index, it.code, it.start) for it in errors], [(1, "number_too_large", 0), (2, "number_too_large", 0)])
         for wrong, kind in ((numpy.array([True]), "bool_?"), (numpy.zeros(2), "float64"), (days.astype("M8[D]"), "datetime64")):
             with self.assertRaisesRegex(TypeError, f"^text 0 has to be .*, not {kind}(: .* makes integers of floats, .*|: it is parsed already)?$"):
                 column(wrong, config=unix, timestamps=True)
@@ -240,9 +229,6 @@ class Sources(unittest.TestCase):
         with self.assertRaisesRegex(TypeError, 'astype\\("Int64"\\)'):
             column(frame["a"], config=unix, timestamps=True)
         self.assertEqual(column(frame["a"].astype("Int64"), config=unix, timestamps=True), [1_000_000, NAT])
-        # What is missing is so with timestamps too.
-        missing = [numpy.timedelta64("NaT"), numpy.datetime64("NaT"), numpy.float32("nan"), pandas.NA, pandas.NaT, decimal.Decimal("nan"), None]
-        self.assertEqual(column(missing, timestamps=True), [NAT] * len(missing))
 
     @unittest.skipUnless(pandas and not hasattr(sys, "gettotalrefcount"), "there is no pandas, or a debug Python, which its objects stop")
     def test_pandas(self):
@@ -432,20 +418,6 @@ class Units(unittest.TestCase):
 
 class Refusals(unittest.TestCase):
     """What a column tells of the texts that it refuses."""
-
-    def test_texts_and_places(self):
-        texts = ["x", f"{SECOND}\u00e9", "1970-01-01T00:00", SECOND, "", "2020-02-30T00:00Z"]
-        places = [1, 20, 16, 0, 8]
-        for make in (list, iter, lambda it: [one.encode() for one in it], lambda it: "\n".join(it).encode(), lambda it: bytearray("\r\n".join([*it, ""]).encode()),
-                     lambda it: io.BytesIO("\r\n".join(it).encode()), lambda it: io.StringIO("\n".join(it)), lambda it: [memoryview(one.encode()) for one in it]):
-            errors = collected(make(texts))[1]
-            self.assertEqual([(it.index, it.start) for it in errors], list(zip((0, 1, 2, 4, 5), places)), make(texts))
-            kept = [it.text for it in errors]
-            self.assertEqual([it if isinstance(it, str) else it.decode() for it in kept], [texts[it.index] for it in errors])
-            for it in errors:
-                with self.assertRaises(speedate.ParseError) as caught:
-                    speedate.datetime_column([it.text])
-                self.assertEqual((caught.exception.code, caught.exception.start), (it.code, it.start))
 
     def test_written_later(self):
         data = bytearray(b"1970-01-01T00:00Z\n24:00\n")
