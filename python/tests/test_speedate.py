@@ -84,9 +84,6 @@ date_column(["x"], refused="collect").refused, len(date_column(["x"], refused="n
 speedate.datetime("2020-01-01T00:00Z").tzinfo is datetime.timezone.utc -> True
 datetime_column([]) -> Column('datetime', [])
 datetime_column(b"") -> Column('datetime', [])
-datetime_column(b"\n") -> ParseError: too_short in text 0
-datetime_column(b"1970-01-01T00:00Z\r\n1970-01-01T00:00:01Z\r\n1970-01-01T00:00:02Z\n") -> Column('datetime', [0, 1000000, 2000000])
-datetime_column(b"1970-01-01T00:00Z\r") -> Column('datetime', [0])
 datetime_column(b"1970-01-01T00:00Z\r\r") -> ParseError: extra_characters in text 0
 datetime_column(b"1970-01-01T00:00Z\r\r\n") -> ParseError: extra_characters in text 0
 datetime_column(b"1970-01-01T00:00Z\n\r\n") -> ParseError: too_short in text 1
@@ -133,8 +130,6 @@ datetime_column([], refused=[]) -> TypeError: refused has to be str, not list
 datetime_column(["1970-01-01T00:00:01"]) -> ParseError: tz_required in text 0
 datetime_column(["1970-01-01T00:00:01"], missing_offset="utc") -> Column('datetime', [1000000])
 datetime_column(["1970-01-01T00:00:01"], missing_offset="utc", strict=True) -> ParseError: tz_required in text 0
-datetime_column(["1970-01-01 00:00Z"], strict=True, refused="number") -> Column('datetime', [-9223372036854775808])
-datetime_column(["1", "1.5"], timestamps=True) -> ParseError: tz_required in text 0
 datetime_column(["1", "1.5"], config=Config(timestamp_offset=0), timestamps=True) -> Column('datetime', [1000000, 1500000])
 datetime_column(["1"], config=Config("us", 3600), timestamps=True) -> Column('datetime', [-3599999999])
 datetime_column(["1"], config=Config(timestamp_offset=0)) -> TypeError: config has a timestamp_offset, which is not read here: date and datetime do with timestamps=True
@@ -143,17 +138,12 @@ datetime_column([], missing_offset="UTC") -> ValueError: missing_offset has to b
 datetime_column([], refused="raise") -> ValueError: refused has to be stop or number or collect
 date_column([]), duration_column(b"") -> (Column('date', []), Column('duration', []))
 date_column(["1970-01-02", b"0000-01-01", None, "9999-12-31"]) -> Column('date', [1, -719528, -9223372036854775808, 2932896])
-date_column(b"1970-01-02\r\n1969-12-31\n1970-01-01") -> Column('date', [1, -1, 0])
 date_column(b"1970-01-02\n1970-01-01\r") -> Column('date', [1, 0])
 date_column(["1970-01-02\n"]) -> ParseError: extra_characters in text 0: it has a line ending, which lines=True drops
 date_column(["1970-01-02\n", ""], lines=True, empty="nat"), date_column(b"1970-01-02\n\n", empty="nat") -> (Column('date', [1, -9223372036854775808]), Column('date', [1, -9223372036854775808]))
-date_column(["0000-01-01"]), datetime_column(["0000-01-01T00:00Z"]) -> (Column('date', [-719528]), Column('datetime', [-62167219200000000]))
-date_column([""], refused="number"), date_column(b"\n", refused="number") -> (Column('date', [-9223372036854775808]), Column('date', [-9223372036854775808]))
-date_column(["1970-01-02T00:00Z"]) -> ParseError: extra_characters in text 0
 date_column(["86400"]) -> ParseError: too_short in text 0
 date_column(["86400", "1970-01-03"], timestamps=True), date_column(b"86400\n1970-01-03", timestamps=True) -> (Column('date', [1, 2]), Column('date', [1, 2]))
 date_column(["86400000"], config=Config("ms"), timestamps=True), date_column(b"86400000", config=Config("ms"), timestamps=True) -> (Column('date', [1]), Column('date', [1]))
-date_column(b"1", timestamps=True) -> ParseError: date_not_exact in text 0
 date_column([], config=Config("ms")) -> TypeError: config has a timestamp_unit, which is not read here: date and datetime do with timestamps=True
 date_column([], strict=True) -> TypeError: date_column() got an unexpected keyword argument 'strict'
 date_column("1970-01-02") -> TypeError: texts has to be an iterable of texts, a file, or bytes, not str
@@ -198,13 +188,10 @@ datetime_clock_column([253402300800], config=Config("s", 3600), timestamps=True)
 datetime_clock_column([], config=Config("ms")) -> TypeError: config has a timestamp_unit, which is not read here: date and datetime do with timestamps=True
 datetime_offset_column(["1970-01-01T01:00+01:00", b"1970-01-01T00:00Z", None, "1970-01-01T00:00-2359"]), datetime_offset_column(b"1970-01-01T01:00+01:00\n1970-01-01T00:00z") -> (Column('datetime_offset', [3600, 0, -9223372036854775808, -86340]), Column('datetime_offset', [3600, 0]))
 datetime_offset_column(["1970-01-01T00:00"]), datetime_offset_column(b"1970-01-01T00:00") -> ParseError: tz_required in text 0
-datetime_offset_column(["1970-01-01T00:00", "1970-01-01T00:00Z"], refused="number"), datetime_offset_column(b"1970-01-01T00:00\n1970-01-01T00:00Z", refused="number") -> (Column('datetime_offset', [-9223372036854775808, 0]), Column('datetime_offset', [-9223372036854775808, 0]))
 datetime_offset_column(["1", 2, "1970-01-01T00:00-00:01"], config=Config("ms", 5400), timestamps=True), datetime_offset_column(array.array("i", [1]), config=Config("s", -1), timestamps=True) -> (Column('datetime_offset', [5400, 5400, -60]), Column('datetime_offset', [-1]))
 datetime_offset_column([1], timestamps=True), datetime_offset_column(["1"], timestamps=True) -> ParseError: tz_required in text 0
 datetime_offset_column([2**60], timestamps=True) -> ParseError: date_too_large in text 0
-datetime_offset_column(["1970-01-01 00:00:01Z"], strict=True) -> ParseError: invalid_char_date_time_sep in text 0
 time_column(["12:13:14.5", b"12:13:14.5+01:00", None, "23:59:59.999999Z"]), time_column(b"12:13:14.5\r\n00:00\n") -> (Column('time', [43994500000, 43994500000, -9223372036854775808, 86399999999]), Column('time', [43994500000, 0]))
-time_column(["24:00"]), time_column(b"24:00") -> ParseError: out_of_range_hour in text 0
 time_column(["00:00:01.1234567", "x"], config=Config(overflow_behavior="truncate"), refused="number"), time_column(b"00:00:01.1234567\nx", config=Config(overflow_behavior="truncate"), refused="number") -> (Column('time', [1123456, -9223372036854775808]), Column('time', [1123456, -9223372036854775808]))
 time_column(["00:00:01Z", "00:00Z"], strict=True, refused="number"), time_column(b"00:00:01Z\n00:00:01\n", strict=True, refused="number") -> (Column('time', [1000000, -9223372036854775808]), Column('time', [1000000, -9223372036854775808]))
 time_column([], timestamps=True) -> TypeError: time_column() got an unexpected keyword argument 'timestamps'
@@ -213,19 +200,15 @@ time_column([], config=Config(timestamp_offset=0)) -> TypeError: config has a ti
 listed(b"1970-01-01T00:00:00.5\n1970-01-01", datetime_offset_column) -> ([0, 1], ['tz_required', 'invalid_char_date_time_sep'], [21, 10])
 expected(time_column, ["1:30"]), expected(datetime_clock_column, ["x"], timestamps=True) -> ('a time: HH:MM or HH:MM:SS', 'a date-time, as YYYY-MM-DDTHH:MM:SS, or a number')
 duration_column(["PT1.5S", "-00:01:00", "1 day", "-PT0S"]) -> Column('duration', [1500000, -60000000, 86400000000, 0])
-duration_column(b"PT1.5S\r\n-00:01:00\n1 day") -> Column('duration', [1500000, -60000000, 86400000000])
 duration_column(["P106751991DT4H54.775807S"]) -> Column('duration', [9223372036854775807])
 duration_column(["-P106751991DT4H54.775808S"]) -> ParseError: number_too_large in text 0
-duration_column(b"PT0S\nP106751992D") -> ParseError: number_too_large in text 1
 duration_column(["PT0S\n"]) -> ParseError: duration_invalid_number in text 0: it has a line ending, which lines=True drops
 duration_column(["PT1S\n", ""], lines=True, empty="nat"), duration_column(b"PT1S\n\n", empty="nat") -> (Column('duration', [1000000, -9223372036854775808]), Column('duration', [1000000, -9223372036854775808]))
 duration_column([text(datetime.timedelta(seconds=-1)), str(datetime.timedelta(seconds=-1))]) -> Column('duration', [-1000000, -172799000000])
 duration_column(b"P1D1Y\nPT1S", config=Config(iso_order="strict"), refused="number") -> Column('duration', [-9223372036854775808, 1000000])
 duration_column(["PT0.1234567S", "00:00:00.1234567"], config=Config(overflow_behavior="truncate")) -> Column('duration', [123457, 123456])
 duration_column([], timestamps=True) -> TypeError: duration_column() got an unexpected keyword argument 'timestamps'
-faulted(["PT1S", None, "P106751992D", "x"], duration_column) -> (4, ['number_too_large in text 2', 'duration_invalid_number in text 3'])
 faulted(b"PT1S\n\nP106751992D\nx", duration_column) -> (4, ['too_short in text 1', 'number_too_large in text 2', 'duration_invalid_number in text 3'])
-faulted(b"1970-01-01\nx\n2021-02-29", date_column) -> (3, ['too_short in text 1', 'out_of_range_day in text 2'])
 Config(timestamp_offset=86_400) -> ValueError: timestamp_offset has to be from -86399 to 86399
 Config(iso_order="loose") -> ValueError: iso_order has to be lax or strict
 Config(timestamp_offset=numbers(3600)).timestamp_offset -> 3600
