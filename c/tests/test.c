@@ -448,6 +448,14 @@ static int is_call(const char *name) {
         WRITES(TYPE, SAY, speedate_##NAME(first, second, out))                                                         \
     }
 
+#define THREE_VALUES(TYPE, SAY, NAME, FIRST, READ_FIRST, SECOND, READ_SECOND, THIRD, READ_THIRD)                       \
+    if (is_call(#NAME)) {                                                                                              \
+        FIRST first = READ_FIRST();                                                                                    \
+        SECOND second = READ_SECOND();                                                                                 \
+        THIRD third = READ_THIRD();                                                                                    \
+        WRITES(TYPE, SAY, speedate_##NAME(first, second, third, out))                                                  \
+    }
+
 #define CHECK(NAME, TYPE, READ)                                                                                        \
     if (is_call(#NAME)) {                                                                                              \
         TYPE it = READ();                                                                                              \
@@ -539,12 +547,8 @@ static int run_value(void) {
     CHECK(date_check, SpeedateDate, date)
     PRINT(date_to_text, SpeedateDate, date)
     TWO_VALUES(int32_t, say_number, date_compare, SpeedateDate, date, SpeedateDate, date)
-    if (is_call("date_from_timestamp")) {
-        int64_t timestamp = number();
-        uint8_t exact = (uint8_t)number();
-        SpeedateConfig it = config();
-        WRITES(SpeedateDate, say_date, speedate_date_from_timestamp(timestamp, exact, it, out))
-    }
+    THREE_VALUES(SpeedateDate, say_date, date_from_timestamp, int64_t, number, uint8_t, (uint8_t)number, SpeedateConfig,
+                 config)
     VALUE(int64_t, say_number, date_timestamp, SpeedateDate, date)
     VALUE(int64_t, say_number, date_timestamp_ms, SpeedateDate, date)
     VALUE(int32_t, say_number, date_days, SpeedateDate, date)
@@ -556,11 +560,8 @@ static int run_value(void) {
     PRINT_DIGITS(time_to_text, time_to_text, SpeedateTime, time_value, SPEEDATE_DIGITS_AUTO)
     PRINT_DIGITS(time_to_text_with_digits, time_to_text, SpeedateTime, time_value, (int)number())
     TWO_VALUES(int32_t, say_number, time_compare, SpeedateTime, time_value, SpeedateTime, time_value)
-    if (is_call("time_from_timestamp")) {
-        uint32_t second = (uint32_t)number(), microsecond = (uint32_t)number();
-        SpeedateConfig it = config();
-        WRITES(SpeedateTime, say_time, speedate_time_from_timestamp(second, microsecond, it, out))
-    }
+    THREE_VALUES(SpeedateTime, say_time, time_from_timestamp, uint32_t, (uint32_t)number, uint32_t, (uint32_t)number,
+                 SpeedateConfig, config)
     VALUE(uint32_t, say_number, time_total_seconds, SpeedateTime, time_value)
     VALUE(uint32_t, say_number, time_total_ms, SpeedateTime, time_value)
     TWO_VALUES(SpeedateTime, say_time, time_in_timezone, SpeedateTime, time_value, int32_t, (int32_t)number)
@@ -568,17 +569,9 @@ static int run_value(void) {
     PRINT_DIGITS(datetime_to_text, datetime_to_text, SpeedateDateTime, datetime, SPEEDATE_DIGITS_AUTO)
     PRINT_DIGITS(datetime_to_text_with_digits, datetime_to_text, SpeedateDateTime, datetime, (int)number())
     TWO_VALUES(int32_t, say_number, datetime_compare, SpeedateDateTime, datetime, SpeedateDateTime, datetime)
-    if (is_call("datetime_from_timestamp")) {
-        int64_t timestamp = number();
-        uint32_t microsecond = (uint32_t)number();
-        const SpeedateConfig *it = config_or_null();
-        WRITES(SpeedateDateTime, say_datetime, speedate_datetime_from_timestamp(timestamp, microsecond, it, out))
-    }
-    if (is_call("datetime_timestamp_microseconds")) {
-        int64_t timestamp = number();
-        SpeedateConfig it = config();
-        WRITES(int64_t, say_number, speedate_datetime_timestamp_microseconds(timestamp, it, out))
-    }
+    THREE_VALUES(SpeedateDateTime, say_datetime, datetime_from_timestamp, int64_t, number, uint32_t, (uint32_t)number,
+                 const SpeedateConfig *, config_or_null)
+    TWO_VALUES(int64_t, say_number, datetime_timestamp_microseconds, int64_t, number, SpeedateConfig, config)
     VALUE(int64_t, say_number, datetime_clock_seconds, SpeedateDateTime, datetime)
     VALUE(int64_t, say_number, datetime_clock_milliseconds, SpeedateDateTime, datetime)
     VALUE(int64_t, say_number, datetime_unix_seconds, SpeedateDateTime, datetime)
