@@ -58,7 +58,8 @@ struct ColumnReader {
     int parser; /* of a text of a list */
     SpeedateConfig config;
     SpeedateColumnConfig lines;
-    bool empty_is_nat, items_are_lines;
+    int empty_is_nat;
+    bool items_are_lines;
 };
 
 static int number_of_datetime(const ColumnReader *reader, const Value *value, int64_t *number) {
@@ -140,7 +141,7 @@ static int date_of_timestamp(const ColumnReader *reader, int64_t timestamp, int6
     return code == SPEEDATE_OK ? reader->number_of(reader, &value, number) : code;
 }
 
-/* What becomes of texts that are refused. */
+/* What becomes of texts that are refused, in the order of the choices. */
 enum { STOP, NUMBER, COLLECT };
 
 /* The index and the code of each text that is refused, in arrays and in the rows that are being filled, and the texts. */
@@ -708,18 +709,6 @@ static PyObject *column_of(Column *column, PyObject *texts, const char *kind) {
     return made;
 }
 
-/* Takes what becomes of texts that are refused. */
-static int take_refused(const State *state, PyObject *value, int *out) {
-    if (!value)
-        return 0;
-    PyObject *place = PyObject_CallFunction(state->held[CHOICE], "sOsss", "refused", value, "stop", "number", "collect");
-    if (!place)
-        return -1;
-    *out = (int)PyLong_AsLong(place);
-    Py_DECREF(place);
-    return 0;
-}
-
 /* A call on columns. The parameters that all have come first, and its parsers in the order of their numbers in C. */
 enum { TEXTS, CONFIGURATION, REFUSED_TEXTS, EMPTY, LINES };
 #define OTHERS "config", "refused", "empty", "lines"
@@ -745,14 +734,13 @@ static PyObject *read_column(const ColumnCall *call, GIVEN) {
     ColumnReader *reader = &column.reader;
     const Signature *signature = &call->signature;
     PyObject *bound[COLUMN_ARGUMENTS] = {NULL};
-    bool assumes_utc = false;
-    int form;
+    int assumes_utc = false, form;
     if (bind(signature, arguments, count, keywords, bound) < 0 ||
         take_form(argument_of(signature, "timestamps", bound), argument_of(signature, "strict", bound), &form) < 0 ||
         take_choice(column.state, "missing_offset", argument_of(signature, "missing_offset", bound), "error", "utc",
-                    &assumes_utc) < 0 ||
-        take_refused(column.state, bound[REFUSED_TEXTS], &column.refused) < 0 ||
-        take_choice(column.state, "empty", bound[EMPTY], "error", "nat", &reader->empty_is_nat) < 0 ||
+                    NULL, &assumes_utc) < 0 ||
+        take_choice(column.state, "refused", bound[REFUSED_TEXTS], "stop", "number", "collect", &column.refused) < 0 ||
+        take_choice(column.state, "empty", bound[EMPTY], "error", "nat", NULL, &reader->empty_is_nat) < 0 ||
         take_flag("lines", bound[LINES], &reader->items_are_lines) < 0 ||
         take_config(column.state, bound[CONFIGURATION], form, &reader->config) < 0)
         return NULL;

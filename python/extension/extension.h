@@ -133,7 +133,7 @@ static inline int take_text(PyObject *object, Py_ssize_t index, Text *text) {
 int take_integer(const State *state, const char *name, PyObject *value, int64_t low, int64_t high, int64_t *out);
 int take_flag(const char *name, PyObject *value, bool *out);
 int take_choice(const State *state, const char *name, PyObject *value, const char *first, const char *second,
-                bool *out);
+                const char *third, int *out);
 int take_form(PyObject *timestamps, PyObject *strict, int *out);
 int take_config(const State *state, PyObject *config, int form, SpeedateConfig *out);
 
@@ -189,6 +189,7 @@ static inline PyObject *source_of(PyObject *object, const Text *text) {
 
 PyObject *new_zone(const State *state, int offset);
 int call_number(int parser, SpeedateConfig config);
+PyObject *expected_of(int code, int kind);
 PyObject *call_on_item(const State *state, int function, Py_ssize_t index, PyObject *item, int parser);
 
 /* ---- Numbers in memory, and items: columns.c ---- */

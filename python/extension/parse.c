@@ -119,15 +119,16 @@ int take_flag(const char *name, PyObject *value, bool *out) {
     return 0;
 }
 
-/* Takes whether a choice is the second of two. */
+/* Takes the number of a choice. The third one is NULL if there are two. */
 int take_choice(const State *state, const char *name, PyObject *value, const char *first, const char *second,
-                bool *out) {
+                const char *third, int *out) {
     if (!value)
         return 0;
-    PyObject *place = PyObject_CallFunction(state->held[CHOICE], "sOss", name, value, first, second);
+    const char *format = third ? "sOsss" : "sOss";
+    PyObject *place = PyObject_CallFunction(state->held[CHOICE], format, name, value, first, second, third);
     if (!place)
         return -1;
-    *out = PyObject_IsTrue(place) == 1;
+    *out = (int)PyLong_AsLong(place);
     Py_DECREF(place);
     return 0;
 }
@@ -534,7 +535,7 @@ static int hint_of(const Call *call, PyObject *object, const Text *text) {
 }
 
 /* What was expected where a call gave a code. */
-static PyObject *expected_of(int code, int kind) {
+PyObject *expected_of(int code, int kind) {
     char text[SPEEDATE_CODE_TEXT_SIZE];
     size_t length;
     SpeedatePart part = SPEEDATE_PART_NONE;
