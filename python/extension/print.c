@@ -213,20 +213,17 @@ static int make_room(PrintedColumn *column) {
 
 /* Raises the ParseError of a number that has no text, as its class makes it: it does not find its part in a text. */
 static int refuse_number(const PrintedColumn *column, int code, Py_ssize_t index, PyObject *integer) {
-    static const char too_large[] = "a number that fits 64 bits, or 32 if it counts days";
     const State *state = column->state;
-    SpeedatePart part = SPEEDATE_PART_NONE;
-    char words[SPEEDATE_CODE_TEXT_SIZE];
-    size_t length;
-    if (speedate_code_expected(code, &part, words, sizeof words, &length) != SPEEDATE_OK)
-        return Py_XDECREF(integer), raise_mistake(code), -1;
-    PyObject *digits = integer ? call_on_item(state, DIGITS, index, integer, DURATION) : NULL;
-    Py_XDECREF(integer);
+    bool is_too_large = code == SPEEDATE_NUMBER_TOO_LARGE;
+    PyObject *words = is_too_large ? PyUnicode_FromString("a number that fits 64 bits, or 32 if it counts days")
+                                   : expected_of(code, SPEEDATE_KIND_NONE);
+    PyObject *digits = words && integer ? call_on_item(state, DIGITS, index, integer, DURATION) : NULL;
     if (digits)
-        raise_error(PyObject_CallFunction(state->held[PARSE_ERROR], "sOinsn", speedate_code_string(code), digits, 0,
-                                          PyUnicode_GET_LENGTH(digits),
-                                          code == SPEEDATE_NUMBER_TOO_LARGE ? too_large : words, index));
+        raise_error(PyObject_CallFunction(state->held[PARSE_ERROR], "sOinOn", speedate_code_string(code), digits, 0,
+                                          PyUnicode_GET_LENGTH(digits), words, index));
+    Py_XDECREF(words);
     Py_XDECREF(digits);
+    Py_XDECREF(integer);
     return -1;
 }
 
