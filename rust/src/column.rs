@@ -62,13 +62,7 @@ pub trait LineReader: sealed::Sealed {
     type Number: Copy;
 
     #[doc(hidden)]
-    fn column(
-        &self,
-        text: &[u8],
-        config: LineConfig,
-        out: &mut [Self::Number],
-        errors: &mut [u8],
-    ) -> Result<Progress, ParseError>;
+    fn column(&self, text: &[u8], config: LineConfig, places: Places<Self::Number>) -> Result<Progress, ParseError>;
 }
 
 /// Reads the whole lines of a text as numbers, in order, as many as `out` has room for, and returns how far it came.
@@ -110,12 +104,14 @@ pub fn read_column<R: LineReader>(
     out: &mut [R::Number],
     errors: Option<&mut [u8]>,
 ) -> Result<Progress, ParseError> {
-    let (out, errors) = places(out, errors);
-    reader.column(text, config, out, errors)
+    reader.column(text, config, places(out, errors))
 }
 
-/// The places that C is given: without places for errors it reads a column of only numbers.
-fn places<'a, N>(out: &'a mut [N], errors: Option<&'a mut [u8]>) -> (&'a mut [N], &'a mut [u8]) {
+/// The places that C is given, of numbers and of errors.
+type Places<'a, N> = (&'a mut [N], &'a mut [u8]);
+
+/// Without places for errors C reads a column of only numbers.
+fn places<'a, N>(out: &'a mut [N], errors: Option<&'a mut [u8]>) -> Places<'a, N> {
     match errors {
         Some(errors) if errors.is_empty() => (&mut [], errors),
         errors => (out, errors.unwrap_or_default()),
@@ -142,8 +138,7 @@ pub trait TextReader: LineReader {
         &self,
         bytes: &[u8],
         offsets: &[i32],
-        out: &mut [Self::Number],
-        errors: &mut [u8],
+        places: Places<Self::Number>,
     ) -> Result<Option<Progress>, ParseError>;
 }
 
@@ -181,8 +176,7 @@ pub fn read_texts<R: TextReader>(
     out: &mut [R::Number],
     errors: Option<&mut [u8]>,
 ) -> Result<Option<Progress>, ParseError> {
-    let (out, errors) = places(out, errors);
-    reader.texts(bytes, offsets, out, errors)
+    reader.texts(bytes, offsets, places(out, errors))
 }
 
 /// Defines what a reader reads, by its function of C for lines, and that for texts if there is one.
@@ -196,8 +190,7 @@ macro_rules! reader {
                 &self,
                 bytes: &[u8],
                 offsets: &[i32],
-                out: &mut [$number],
-                errors: &mut [u8],
+                (out, errors): Places<$number>,
             ) -> Result<Option<Progress>, ParseError> {
                 match ffi::$texts(bytes, offsets, WHOLE, self, out, errors) {
                     Err(Code::VALUE_OUT_OF_RANGE) => Ok(None),
@@ -213,14 +206,8 @@ macro_rules! reader {
             type Number = $number;
 
             #[inline]
-            fn column(
-                &self,
-                text: &[u8],
-                config: LineConfig,
-                out: &mut [$number],
-                errors: &mut [u8],
-            ) -> Result<Progress, ParseError> {
-                Ok(ffi::$column(text, config, self, out, errors)?)
+            fn column(&self, text: &[u8], config: LineConfig, places: Places<$number>) -> Result<Progress, ParseError> {
+                Ok(ffi::$column(text, config, self, places.0, places.1)?)
             }
         }
     };
