@@ -11,7 +11,6 @@ import functools
 import io
 import itertools
 import pathlib
-import struct
 
 from speedate._types import _FIELDS, _UNITS, _choice, _digits, _integer, _items, _missing, _plain, _whole, _wrong, _wrong_text
 
@@ -81,46 +80,36 @@ class _Config(ctypes.Structure):
 
 class _Date(ctypes.Structure):
     _fields_ = [("year", ctypes.c_uint16), ("month", ctypes.c_uint8), ("day", ctypes.c_uint8)]
-    numbers = struct.Struct("=HBB").unpack
 
     def value(self):
-        year, month, day = self.numbers(self)
-        if year == 0:
+        if self.year == 0:
             raise ParseError(YEAR_ZERO)
-        return _datetime.date(year, month, day)
+        return _datetime.date(self.year, self.month, self.day)
 
 
 class _Time(ctypes.Structure):
     _fields_ = [(name, ctypes.c_uint8) for name in ("hour", "minute", "second", "has_offset")] + [
         ("microsecond", ctypes.c_uint32), ("offset", ctypes.c_int32)]
-    numbers = struct.Struct("=BBBBIi").unpack
 
     def value(self):
-        hour, minute, second, has_offset, microsecond, offset = self.numbers(self)
-        return _datetime.time(hour, minute, second, microsecond, _zone(offset) if has_offset else None)
+        zone = _zone(self.offset) if self.has_offset else None
+        return _datetime.time(self.hour, self.minute, self.second, self.microsecond, zone)
 
 
 class _DateTime(ctypes.Structure):
     _fields_ = _Date._fields_ + _Time._fields_
-    numbers = struct.Struct("=HBBBBBBIi").unpack
 
     def value(self):
-        year, month, day, hour, minute, second, has_offset, microsecond, offset = self.numbers(self)
-        if year == 0:
-            raise ParseError(YEAR_ZERO)
-        zone = _zone(offset) if has_offset else None
-        return _datetime.datetime(year, month, day, hour, minute, second, microsecond, zone)
+        return _datetime.datetime.combine(_Date.value(self), _Time.value(self))
 
 
 class _Duration(ctypes.Structure):
     _fields_ = [(name, ctypes.c_uint32) for name in ("negative", "day", "second", "microsecond")]
-    numbers = struct.Struct("=IIII").unpack
 
     def value(self):
-        negative, day, second, microsecond = self.numbers(self)
-        size = _datetime.timedelta(day, second, microsecond)
+        size = _datetime.timedelta(self.day, self.second, self.microsecond)
         try:
-            return -size if negative else size
+            return -size if self.negative else size
         except OverflowError:
             raise ParseError(DURATION_TOO_SMALL) from None
 
