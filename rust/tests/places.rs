@@ -158,8 +158,9 @@ fn are_digits(text: &[u8], place: usize, count: usize) -> bool {
     (place..place + count).all(|place| at(text, place).is_ascii_digit())
 }
 
-fn number(text: &[u8], place: usize, count: usize) -> usize {
-    (place..place + count).fold(0, |number, place| 10 * number + usize::from(at(text, place) - b'0'))
+/// The number of some digits.
+fn number(text: &[u8], place: usize, digits: usize) -> u128 {
+    text.iter().skip(place).take(digits).fold(0, |number, byte| 10 * number + u128::from(byte - b'0'))
 }
 
 fn run(text: &[u8], place: usize) -> usize {
@@ -184,7 +185,7 @@ fn date(text: &[u8]) -> Taken {
     let leap = if year % 100 == 0 { year % 400 == 0 } else { year % 4 == 0 };
     let days = match month {
         4 | 6 | 9 | 11 => 30,
-        2 => 28 + usize::from(leap),
+        2 => 28 + u128::from(leap),
         _ => 31,
     };
     first(&[
@@ -332,7 +333,7 @@ fn iso_duration(body: &[u8]) -> Taken {
         let digits = run(body, place);
         first(&[
             (digits > 0, ParseError::DurationInvalidNumber, place),
-            (long_number(body, place, digits) <= limit, ParseError::DurationValueTooLarge, place),
+            (number(body, place, digits) <= limit, ParseError::DurationValueTooLarge, place),
             (!has_fraction, ParseError::DurationInvalidFraction, place),
         ])?;
         let mark = place + digits;
@@ -348,8 +349,8 @@ fn iso_duration(body: &[u8]) -> Taken {
             return Err((error, unit));
         };
         let seconds = if is_time { one } else { 86_400 * one };
-        let (numerator, power) = (seconds * long_number(body, mark + 1, decimals), 10_u128.pow(decimals as u32));
-        let (whole, number) = (numerator / power, long_number(body, place, digits));
+        let (numerator, power) = (seconds * number(body, mark + 1, decimals), 10_u128.pow(decimals as u32));
+        let (whole, number) = (numerator / power, number(body, place, digits));
         let last = &sums[sums.len() - 1];
         let sum = Sum {
             place,
@@ -373,14 +374,9 @@ fn iso_duration(body: &[u8]) -> Taken {
     Ok(body.len())
 }
 
-/// The number of some digits.
-fn long_number(text: &[u8], place: usize, digits: usize) -> u128 {
-    text.iter().skip(place).take(digits).fold(0, |number, byte| 10 * number + u128::from(byte - b'0'))
-}
-
 fn days(text: &[u8], behavior: MicrosecondsPrecisionOverflowBehavior) -> Taken {
     let digits = run(text, 0);
-    let days = long_number(text, 0, digits);
+    let days = number(text, 0, digits);
     let letter = digits + usize::from(at(text, digits) == b' ');
     let ending = letter + 1;
     first(&[
@@ -414,7 +410,7 @@ fn hours_and_clock(text: &[u8], behavior: MicrosecondsPrecisionOverflowBehavior)
         (colon <= 10, ParseError::DurationHourValueTooLarge, 0),
         (run(text, 0) == colon, ParseError::InvalidCharHour, 0),
     ])?;
-    let (hours, minute, second) = (long_number(text, 0, colon), colon + 1, colon + 4);
+    let (hours, minute, second) = (number(text, 0, colon), colon + 1, colon + 4);
     first(&[
         (hours <= 2_400_000_000, ParseError::DurationHourValueTooLarge, 0),
         (behavior == Truncate || end - minute <= 12, ParseError::SecondFractionTooLong, colon + 13),
