@@ -428,6 +428,11 @@ class Refusals(unittest.TestCase):
             data[18:23] = b"24:00"
         del source
 
+    def test_unit(self):
+        """The digits that a unit does not have."""
+        error = collected(["1.0000000"], config=speedate.Config("us"), timestamps=True)[1][0]
+        self.assertEqual((error.code, error.start, error.end), ("microsecond_fraction_too_long", 2, 9))
+
     def test_kept_item(self):
         class Text(str):
             pass
