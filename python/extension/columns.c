@@ -734,7 +734,7 @@ static PyObject *read_column(const ColumnCall *call, GIVEN) {
     ColumnReader *reader = &column.reader;
     const Signature *signature = &call->signature;
     PyObject *bound[COLUMN_ARGUMENTS] = {NULL};
-    int assumes_utc = false, form;
+    int assumes_utc = 0, form;
     if (bind(signature, arguments, count, keywords, bound) < 0 ||
         take_form(argument_of(signature, "timestamps", bound), argument_of(signature, "strict", bound), &form) < 0 ||
         take_choice(column.state, "missing_offset", argument_of(signature, "missing_offset", bound), "error", "utc",
