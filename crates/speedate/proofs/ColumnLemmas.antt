@@ -3,7 +3,7 @@ use Rattle.std.proofs.Common.{rules, Bool, false, ◌≡◌, ap, refl, ℕ, zero
 use Rattle.std.proofs.Math.Seq.{take-nil}
 use Rattle.std.proofs.lemmas.List.{take-append-drop, drop-drop, drop-take, length-drop, length-take, length-take-le}
 use Rattle.speedate.specs.declared.column.Line.{Line}
-use Rattle.speedate.specs.Lines.{unfinished_line, whole_lines}
+use Rattle.speedate_base.specs.Lines.{unfinished_line, whole_lines}
 use Rattle.speedate.specs.Column.{Column, IsFirstLine, IsFirstLineOf, LineConfig, LineError, entry}
 use Rattle.speedate.specs.Column.{column, line_answer, onto_column, text_column, overwritten}
 

@@ -8,9 +8,9 @@ use Rattle.speedate_base.specs.Ascii.{HasNoControl, carriage_return, line_feed}
 use Rattle.speedate.specs.Column.{Column, LineConfig, LineError, column, entry, line_answer}
 use Rattle.speedate.specs.Column.{onto_column, text_column}
 use Rattle.speedate.specs.ColumnText.{ColumnText, column_text, number_or, onto_lines}
-use Rattle.speedate.specs.Lines.{complete_lines, lines, unfinished_line, whole_lines}
-use Rattle.speedate.proofs.LineLemmas.{EndsNoLine, IsFree, pieces-append, pieces-line}
-use Rattle.speedate.proofs.LineLemmas.{no_return-printed}
+use Rattle.speedate_base.specs.Lines.{complete_lines, lines, unfinished_line, whole_lines}
+use Rattle.speedate_base.proofs.LineLemmas.{EndsNoLine, IsFree, pieces-append, pieces-line}
+use Rattle.speedate_base.proofs.LineLemmas.{no_return-printed}
 
 -- the whole text, by what is printed of it and the text of what is left
 pub record IsPrintedSoFar (whole left : ColumnText) (lines bytes : ℕ) (out_old out : List ℕ)

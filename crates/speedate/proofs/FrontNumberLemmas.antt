@@ -20,7 +20,7 @@ use Rattle.speedate.specs.declared.column.date_time.DateTimeReader.{DateTimeRead
 use Rattle.speedate.specs.Column.{HasNoEnd, IsFront, date_number, date_time_number}
 use Rattle.speedate.specs.Column.{date_time_of_line, epoch, taken_answer, text_behavior}
 use Rattle.speedate.proofs.DurationAnswerLemmas.{then-seen}
-use Rattle.speedate.proofs.LineLemmas.{IsOneLine-printed, no_return-printed}
+use Rattle.speedate_base.proofs.LineLemmas.{IsOneLine-printed, no_return-printed}
 
 -- nothing is read of no bytes
 some-read : {A E : Type 0} (answer : List ℕ → Result A E) (text : List ℕ) (value : A)

@@ -1,3 +1,4 @@
+pub use Rattle.speedate_base.proofs.LineLemmas
 mod ClockFormLemmas
 mod DayFormLemmas
 mod DurationAnswerLemmas
@@ -11,8 +12,6 @@ mod IsoAmountLemmas
 mod IsoFormLemmas
 mod IsoItemLemmas
 mod IsoTextLemmas
-pub mod LineLemmas
-mod MarkLemmas
 mod WholeLineLemmas
 mod ColumnLemmas
 mod TextsLemmas

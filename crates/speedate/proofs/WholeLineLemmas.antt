@@ -4,9 +4,9 @@ use Rattle.std.proofs.lemmas.Bool.{cases_lt, ne_eqb, false≢true}
 use Rattle.std.proofs.lemmas.List.{length-take, length-take-le, get_or-take, get_or_past, take-take, take_all, drop_all}
 use Rattle.speedate_base.specs.Ascii.{carriage_return, line_feed}
 use Rattle.speedate.specs.Column.{IsFirstLineOf, LineConfig}
-use Rattle.speedate.specs.Lines.{Pieces, pieces, last_line, unfinished_line, whole_lines}
-use Rattle.speedate.specs.Lines.{without_return, IsOneLine, IsLineEnd}
-use Rattle.speedate.proofs.LineLemmas.{pieces-from, pieces-rest, joined_one_line}
+use Rattle.speedate_base.specs.Lines.{Pieces, pieces, last_line, unfinished_line, whole_lines}
+use Rattle.speedate_base.specs.Lines.{without_return, IsOneLine, IsLineEnd}
+use Rattle.speedate_base.proofs.LineLemmas.{pieces-from, pieces-rest, joined_one_line}
 
 -- the whole lines of some pieces
 abbrev whole : Bool → Pieces → List (List ℕ)

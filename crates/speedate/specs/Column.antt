@@ -33,7 +33,7 @@ use Rattle.speedate.specs.declared.column.time.TimeParser.{TimeParser}
 use Rattle.speedate.specs.declared.column.time.TimeReader.{TimeReader}
 use Rattle.speedate.specs.Duration.{duration_answer, signed_amount}
 use Rattle.speedate.specs.DurationNumbers.{DurationNumbers}
-use Rattle.speedate.specs.Lines.{IsOneLine, unfinished_line, whole_lines, without_return}
+use Rattle.speedate_base.specs.Lines.{IsOneLine, unfinished_line, whole_lines, without_return}
 
 -- the numbers of lines, the number of the error of each, which is 0 for none, and the error of the
 -- line after these, if it ends the column

@@ -59,7 +59,6 @@
 
 mod column;
 mod duration;
-mod lines;
 
 pub use column::{
     DatePrinter, DateReader, DateTimeClockPrinter, DateTimeClockReader, DateTimeFront,
@@ -69,12 +68,12 @@ pub use column::{
     print_column, read_column, read_column_with_errors, read_texts, timestamp_microseconds,
 };
 pub use duration::{DAYS_MAX, Duration, DurationSum};
-pub use lines::line_end;
 pub use speedate_base::config::{
     DateConfig, DateConfigBuilder, DateTimeConfig, DateTimeConfigBuilder, IsoOrder,
     MicrosecondsPrecisionOverflowBehavior, TimeConfig, TimeConfigBuilder, TimestampUnit,
 };
 pub use speedate_base::faults::{CallKind, ConfigError, ParseError};
+pub use speedate_base::lines::line_end;
 pub use speedate_base::numbers::{
     Decimal, IntFloat, float_parse_bytes, float_parse_str, int_parse_bytes, int_parse_str,
 };

@@ -6,6 +6,8 @@ pub mod RefusalLemmas
 pub mod RequirementLemmas
 pub mod TextLemmas
 pub mod TimestampLemmas
+pub mod LineLemmas
+mod MarkLemmas
 mod BetweenLemmas
 mod BlockLemmas
 mod EightDigitsLemmas

@@ -9,4 +9,5 @@ pub mod Offset
 pub mod Nearest
 pub mod Timestamp
 pub mod Config
+pub mod Lines
 pub mod Refused

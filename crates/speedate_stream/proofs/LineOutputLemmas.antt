@@ -1,7 +1,7 @@
 -- What is printed for a line, by its parts.
 use Rattle.std.proofs.Common.{◌≡◌, ◌∙◌, ap, sym, refl, ℕ, List, [], ◌∷◌, ◌++◌, false, Option, Some, None, is_none}
 use Rattle.std.proofs.lemmas.Bool.{false≢true}
-use Rattle.speedate.specs.Ascii.{line_feed}
+use Rattle.speedate_base.specs.Ascii.{line_feed}
 use Rattle.speedate_stream.specs.Machine.{part_of, rest_of}
 
 -- a line that is printed itself ends with a line feed

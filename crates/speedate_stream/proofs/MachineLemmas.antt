@@ -1,9 +1,9 @@
 -- Where a machine is after a text, piece by piece.
 use Rattle.std.proofs.Common.{◌≡◌, ◌∙◌, ap, sym, refl, ℕ, ◌+◌, ◌-◌, true, List, [], ◌∷◌, ◌++◌, length, take, drop, append_assoc, arith}
 use Rattle.std.proofs.lemmas.List.{take_more}
-use Rattle.speedate.specs.Ascii.{line_feed}
-use Rattle.speedate.specs.Lines.{complete_lines, unfinished_line, IsLineEnd, IsOneLine, Pieces}
-use Rattle.speedate.proofs.LineLemmas.{pieces-from, pieces-rest}
+use Rattle.speedate_base.specs.Ascii.{line_feed}
+use Rattle.speedate_base.specs.Lines.{complete_lines, unfinished_line, IsLineEnd, IsOneLine, Pieces}
+use Rattle.speedate_base.proofs.LineLemmas.{pieces-from, pieces-rest}
 use Rattle.speedate_stream.specs.Machine.{Machine, head, in_line, is_passed, passed}
 use Rattle.speedate_stream.specs.Machine.{line_output, lines_output, position_after}
 use Rattle.speedate_stream.specs.Machine.{position_from, printed_after, state_after}

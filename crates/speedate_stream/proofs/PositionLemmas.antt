@@ -5,11 +5,11 @@ use Rattle.std.proofs.lemmas.List.{take_all, length-take, length-take-le, take-a
 use Rattle.std.proofs.lemmas.List.Elements.{All-take, All-nil, All-get_or}
 use Rattle.std.proofs.Math.ListN.{get_or-append}
 use Rattle.std.proofs.Math.Bool.{and-false}
-use Rattle.speedate.specs.Ascii.{line_feed}
-use Rattle.speedate.specs.Lines.{Pieces, IsOneLine, onto_first, complete_lines, last_line, lines}
-use Rattle.speedate.specs.Lines.{unfinished_line}
-use Rattle.speedate.proofs.LineLemmas.{EndsNoLine, IsFree, pieces-append, pieces-onto_first}
-use Rattle.speedate.proofs.LineLemmas.{unfinished-free}
+use Rattle.speedate_base.specs.Ascii.{line_feed}
+use Rattle.speedate_base.specs.Lines.{Pieces, IsOneLine, onto_first, complete_lines, last_line}
+use Rattle.speedate_base.specs.Lines.{lines, unfinished_line}
+use Rattle.speedate_base.proofs.LineLemmas.{EndsNoLine, IsFree, pieces-append, pieces-onto_first}
+use Rattle.speedate_base.proofs.LineLemmas.{unfinished-free}
 use Rattle.speedate_stream.specs.Machine.{Machine, Position, after_pieces, head, in_line, is_passed}
 use Rattle.speedate_stream.specs.Machine.{line_output, lines_output, longest_line, part_of, passed}
 use Rattle.speedate_stream.specs.Machine.{position_after, position_from, printed_after, rest_of}

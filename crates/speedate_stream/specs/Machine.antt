@@ -1,7 +1,7 @@
 -- Machines over lines: what a program prints for each line of a text, one after the other.
 use Rattle.std.specs.Prelude.{ℕ, ◌+◌, ◌&&◌, List, [], ◌∷◌, ◌++◌, length, take, drop, min, nat_lt, Bool, true, false, Option, Some, None, is_some}
-use Rattle.speedate.specs.Ascii.{line_feed}
-use Rattle.speedate.specs.Lines.{complete_lines, last_line, lines, unfinished_line}
+use Rattle.speedate_base.specs.Ascii.{line_feed}
+use Rattle.speedate_base.specs.Lines.{complete_lines, last_line, lines, unfinished_line}
 
 -- how many bytes of a line a machine sees, but for one more, which tells that the line is longer
 abbrev pub longest_line : ℕ

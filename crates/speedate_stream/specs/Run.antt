@@ -2,7 +2,7 @@
 use Rattle.std.specs.Prelude.{◌≡◌, ℕ, ◌≤◌, List, [], ◌++◌, length, take, Option, ◌⊎◌, Bool, true, false, ◌||◌, Result, Ok, Err, is_err, OnOk, OnErr}
 use Rattle.std.specs.Io.KnownBytes.{Consumes, IsAtEnd, Appends}
 use Rattle.speedate_stream.specs.declared.run.RunError.{RunError}
-use Rattle.speedate.specs.Lines.{lines}
+use Rattle.speedate_base.specs.Lines.{lines}
 use Rattle.speedate_stream.specs.Machine.{Machine, lines_output, position_after, progress}
 use Rattle.speedate_stream.specs.Machine.{state_after}
 use Rattle.speedate_stream.specs.Watch.{Watch}

@@ -4,8 +4,8 @@ ghost use Rattle.std.specs.Prelude.{◌≡◌, ◌+◌, ◌^◌, ◌<◌, ◌≤
 ghost use Rattle.std.specs.Option.{ForSome};
 ghost use Rattle.std.specs.Io.KnownBytes.{Keeps, IsAtEnd};
 ghost use Rattle.arrayvec.specs.ArrayVec.{array_vec_len};
-ghost use Rattle.speedate.specs.Ascii.{line_feed};
-ghost use Rattle.speedate.specs.Lines.{IsOneLine, complete_lines, unfinished_line};
+ghost use Rattle.speedate_base.specs.Ascii.{line_feed};
+ghost use Rattle.speedate_base.specs.Lines.{IsOneLine, complete_lines, unfinished_line};
 ghost use Rattle.speedate_stream.specs.Machine.{head, in_line, part_of, is_passed, line_output, lines_output};
 ghost use Rattle.speedate_stream.specs.Machine.{position_from, state_after, ending, after_ending};
 ghost use Rattle.speedate_stream.specs.Run.{ReadsAfter, EndsBy, Ends, Writes, OnlyWrites};
@@ -15,7 +15,7 @@ ghost use Rattle.speedate_stream.specs.Watch.{one_more};
 use crate::buffer::{PENDING_MAX, Pending, STEP_MAX, push_bytes};
 use crate::machine::{HEAD_MAX, LineMachine, Observer, SEEN_MAX};
 use crate::watched::{Failed, Watched};
-use speedate::line_end;
+use speedate_base::lines::line_end;
 use std::io::{Read, Write};
 
 /// How many bytes there is room for at each read, at least.

@@ -1,12 +1,12 @@
 //! The column of a text.
 
 ghost use Rattle.std.specs.Prelude.{◌≡◌, ◌≤◌, ◌++◌, [], IfSome, MatchOption, None, Some, drop, false, length, min, slice_set, take};
-ghost use Rattle.speedate.specs.Lines.{unfinished_line, whole_lines};
+ghost use Rattle.speedate_base.specs.Lines.{unfinished_line, whole_lines};
 ghost use Rattle.speedate.specs.Column.{HasNoEnd, IsFirstLine, IsFirstLineOf, entry, overwritten};
 ghost use Rattle.speedate.specs.Column.{ended_part, text_column};
 
 use super::{Line, LineConfig, LineError, LineReader, Progress};
-use crate::lines::{line_end, without_return};
+use speedate_base::lines::{line_end, without_return};
 use speedate_base::numbers::byte_at;
 
 /// Reads the whole lines of a text as numbers, in order, as many as `out` has room for, and returns how

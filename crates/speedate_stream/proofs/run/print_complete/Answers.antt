@@ -1,7 +1,7 @@
 use Rattle.std.proofs.Common.{rules, ◌∙◌, ap, sym, ℕ, ◌+◌, ◌-◌, List, ◌++◌, take, drop, append_assoc, append-nil, arith}
 use Rattle.std.proofs.Math.Bool.{or-false}
-use Rattle.speedate.specs.Lines.{Pieces, complete_lines}
-use Rattle.speedate.proofs.LineLemmas.{pieces-from, pieces-rest}
+use Rattle.speedate_base.specs.Lines.{Pieces, complete_lines}
+use Rattle.speedate_base.proofs.LineLemmas.{pieces-from, pieces-rest}
 use Rattle.speedate_stream.specs.Machine.{head, line_output, lines_output, state_after}
 use Rattle.speedate_stream.proofs.SentLemmas.{AppendsBut-trans, AppendsBut-more, AppendsBut-same}
 use Rattle.speedate_stream.proofs.SentLemmas.{OnlyWrites-failed}

@@ -1,5 +1,5 @@
 use Rattle.std.proofs.Common.{◌≡◌, ◌-◌, ◌≤◌, ◌++◌, length, drop}
-use Rattle.speedate.specs.Lines.{IsOneLine, complete_lines, unfinished_line}
+use Rattle.speedate_base.specs.Lines.{IsOneLine, complete_lines, unfinished_line}
 use Rattle.speedate_stream.specs.Machine.{lines_output, state_after}
 use Rattle.speedate_stream.specs.Run.{AppendsBut}
 use Rattle.speedate_stream.proofs.run.print_complete.Given as goal

@@ -1,5 +1,5 @@
 use Rattle.std.proofs.Common.{rules, ◌≡◌, ap, sym, List, ℕ, [], ◌∷◌, ◌++◌, append_assoc, is_none, false}
-use Rattle.speedate.specs.Ascii.{line_feed}
+use Rattle.speedate_base.specs.Ascii.{line_feed}
 use Rattle.speedate_stream.specs.Machine.{head, part_of, rest_of}
 use Rattle.speedate_stream.proofs.LineOutputLemmas.{rest_of-part}
 use Rattle.speedate_stream.proofs.SentLemmas.{OnlyWrites-front, OnlyWrites-line, OnlyWrites-part}

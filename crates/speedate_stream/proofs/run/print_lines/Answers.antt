@@ -1,6 +1,6 @@
 use Rattle.std.proofs.Common.{rules, ◌≡◌, ◌++◌, ◌∙◌, ap, refl, List, ℕ, ◌-◌, length, take, drop}
 use Rattle.std.proofs.lemmas.List.{take_rest}
-use Rattle.speedate.specs.Lines.{complete_lines, unfinished_line}
+use Rattle.speedate_base.specs.Lines.{complete_lines, unfinished_line}
 use Rattle.speedate_stream.specs.Machine.{Machine, Position, in_line, is_passed, lines_output}
 use Rattle.speedate_stream.specs.Machine.{position_after, state_after}
 use Rattle.speedate_stream.proofs.MachineLemmas.{position-pieces}

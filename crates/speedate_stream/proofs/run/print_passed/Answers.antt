@@ -1,6 +1,6 @@
 use Rattle.std.proofs.Common.{rules, ◌≡◌, true, ◌∙◌, ap, sym, refl, List, ℕ, ◌+◌, ◌-◌, length, take, drop, arith}
 use Rattle.std.proofs.lemmas.List.{take_rest, drop-drop, drop_all}
-use Rattle.speedate.specs.Lines.{IsLineEnd}
+use Rattle.speedate_base.specs.Lines.{IsLineEnd}
 use Rattle.speedate_stream.specs.Machine.{Machine, Position, head, position_after, position_from}
 use Rattle.speedate_stream.specs.Machine.{printed_after}
 use Rattle.speedate_stream.proofs.MachineLemmas.{passed-line, passed-rest}

@@ -3,7 +3,7 @@ use Rattle.std.proofs.KnownBytes.{Appends-kept, Appends-trans, Consumes-trans}
 use Rattle.std.proofs.Math.Bool.{or-false}
 use Rattle.std.proofs.lemmas.List.{length-take-le}
 use Rattle.std.specs.Io.KnownBytes.{Appends, Consumes}
-use Rattle.speedate.specs.Lines.{lines}
+use Rattle.speedate_base.specs.Lines.{lines}
 use Rattle.speedate_stream.specs.Machine.{Position, lines_output, progress}
 use Rattle.speedate_stream.proofs.PositionLemmas.{IsOneLine-kept, position-block}
 use Rattle.speedate_stream.proofs.PositionLemmas.{lines_output-ended, state_after-ended}

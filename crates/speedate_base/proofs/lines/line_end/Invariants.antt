@@ -1,6 +1,6 @@
 use Rattle.std.proofs.Common.{◌-◌, ◌≤◌, length}
-use Rattle.speedate.specs.Lines.{IsOneLine}
-use Rattle.speedate.proofs.lines.line_end.Given as goal
+use Rattle.speedate_base.specs.Lines.{IsOneLine}
+use Rattle.speedate_base.proofs.lines.line_end.Given as goal
 
 abbrev pub invariant-loop-place : goal.invariant-loop-place
 invariant-loop-place l = record {

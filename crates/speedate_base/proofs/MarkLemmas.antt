@@ -6,8 +6,8 @@ use Rattle.std.proofs.lemmas.List.Elements.{All-head, All-tail, All-from_get_or}
 use lib.Lanes.{chunk, mask_l}
 use lib.Count.{count_trailing_zeros}
 use Rattle.speedate_base.specs.Ascii.{line_feed}
-use Rattle.speedate.specs.Lines.{is_line_feed, IsOneLine, IsLineEnd}
-use Rattle.speedate.proofs.LineLemmas.{EndsNoLine, IsFree, joined_one_line}
+use Rattle.speedate_base.specs.Lines.{is_line_feed, IsOneLine, IsLineEnd}
+use Rattle.speedate_base.proofs.LineLemmas.{EndsNoLine, IsFree, joined_one_line}
 
 -- the marks of a part of a text
 abbrev pub marks_at : List ℕ → ℕ → ℕ

@@ -2,9 +2,9 @@
 
 ghost use Rattle.std.specs.Prelude.{◌≡◌, ◌≤◌, length, map, MatchOption};
 ghost use Rattle.std.specs.Simd.Lanes.{mask_l};
-ghost use Rattle.speedate.specs.Lines.{is_line_feed, IsLineEnd, IsOneLine, without_return};
+ghost use Rattle.speedate_base.specs.Lines.{is_line_feed, IsLineEnd, IsOneLine, without_return};
 
-use speedate_base::numbers::byte_at;
+use crate::numbers::byte_at;
 use std::simd::prelude::*;
 
 /// How many bytes are looked at together.
@@ -52,7 +52,7 @@ fn line_feeds(lanes: u8x16) -> u64
 
 /// A line without the carriage return that it may end with, if that is to be dropped.
 #[inline(always)]
-pub(crate) fn without_return(line: &[u8], drops: bool) -> &[u8]
+pub fn without_return(line: &[u8], drops: bool) -> &[u8]
     ensures line { result.now ≡ without_return drops line.now }
 {
     if !drops {

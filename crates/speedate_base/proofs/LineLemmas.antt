@@ -4,8 +4,8 @@ use Rattle.std.proofs.lemmas.Bool.{cases_lt, eqb-false, ne_eqb}
 use Rattle.std.proofs.lemmas.List.{take_rest, length-take, get_or-take, get_or-drop, take-append-drop, drop_more, drop-drop}
 use Rattle.std.proofs.lemmas.List.Elements.{All-head, All-tail, All-nil, All-cons, All-from_get_or}
 use Rattle.speedate_base.specs.Ascii.{HasNoControl, carriage_return, line_feed}
-use Rattle.speedate.specs.Lines.{Pieces, pieces, onto_first, complete_lines, unfinished_line}
-use Rattle.speedate.specs.Lines.{IsOneLine, IsLineEnd}
+use Rattle.speedate_base.specs.Lines.{Pieces, pieces, onto_first, complete_lines, unfinished_line}
+use Rattle.speedate_base.specs.Lines.{IsOneLine, IsLineEnd}
 
 -- a byte that ends no line
 abbrev pub EndsNoLine : ℕ → Type 0

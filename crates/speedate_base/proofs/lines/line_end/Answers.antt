@@ -1,6 +1,6 @@
 use Rattle.std.proofs.Common.{arith, rules}
-use Rattle.speedate.proofs.MarkLemmas.{IsOneLine-from_marks, IsLineEnd-from_marks}
-use Rattle.speedate.proofs.lines.line_end.Goals as goal
+use Rattle.speedate_base.proofs.MarkLemmas.{IsOneLine-from_marks, IsLineEnd-from_marks}
+use Rattle.speedate_base.proofs.lines.line_end.Goals as goal
 
 pub returns-then-marks-ne0 : goal.returns-then-marks-ne0
 returns-then-marks-ne0 c =
