@@ -10,13 +10,14 @@ ghost use Rattle.speedate.specs.Duration.{duration_numbers};
 ghost use Rattle.speedate.specs.Time.{time_of_day};
 
 use speedate::{
-    CallKind, ConfigError, Date, DateConfig, DateConfigBuilder, DatePrinter, DateReader, DateTime,
-    DateTimeClockPrinter, DateTimeClockReader, DateTimeConfig, DateTimeConfigBuilder,
-    DateTimeFront, DateTimeFrontReader, DateTimeOffsetReader, DateTimeParser, DateTimePrinter,
-    DateTimeReader, Decimal, Duration, DurationPrinter, DurationReader, DurationSum,
-    FractionDigits, IntFloat, IsoOrder, LineConfig, LineError,
+    CallKind, ConfigError, Date, DateConfig, DateConfigBuilder, DateForm, DatePrinter, DateReader,
+    DateTime, DateTimeClockPrinter, DateTimeClockReader, DateTimeConfig, DateTimeConfigBuilder,
+    DateTimeForm, DateTimeFront, DateTimeFrontReader, DateTimeOffsetReader, DateTimeParser,
+    DateTimePrinter, DateTimeReader, Decimal, Duration, DurationPrinter, DurationReader,
+    DurationSum, FractionDigits, IntFloat, IsoOrder, LineConfig, LineError,
     MicrosecondsPrecisionOverflowBehavior, Moment, ParseError, Progress, Refused, Time, TimeConfig,
-    TimeConfigBuilder, TimeOffsetReader, TimeParser, TimePrinter, TimeReader, TimestampUnit,
+    TimeConfigBuilder, TimeForm, TimeOffsetReader, TimeParser, TimePrinter, TimeReader,
+    TimestampUnit,
 };
 use speedate_base::numbers::{DigitRun, Fraction};
 use speedate_base::util::{UnixTime, UnixUnit};
@@ -36,6 +37,8 @@ pub struct Each<'a> {
         IsoOrder,
         TimestampUnit,
     ),
+    /// How a text is read.
+    pub forms: (DateForm, TimeForm, DateTimeForm),
     /// The configurations.
     pub configs: (DateConfig, TimeConfig, DateTimeConfig),
     /// The builders of configurations.
@@ -94,6 +97,19 @@ pub fn same_choices(first: &Each<'_>, second: &Each<'_>) -> (bool, bool, bool, b
         first.choices.0 == second.choices.0,
         first.choices.1 == second.choices.1,
         first.choices.2 == second.choices.2,
+    )
+}
+
+/// Whether the forms are equal: false for two variants.
+pub fn same_forms(first: &Each<'_>, second: &Each<'_>) -> (bool, bool, bool)
+    ensures date { IsTrue result.0 ↔ (first.now.forms.0 ≡ second.now.forms.0) }
+    ensures time { IsTrue result.1 ↔ (first.now.forms.1 ≡ second.now.forms.1) }
+    ensures date_time { IsTrue result.2 ↔ (first.now.forms.2 ≡ second.now.forms.2) }
+{
+    (
+        first.forms.0 == second.forms.0,
+        first.forms.1 == second.forms.1,
+        first.forms.2 == second.forms.2,
     )
 }
 
@@ -219,6 +235,15 @@ pub fn defaults() -> (
     ensures behavior { result.0 ≡ MicrosecondsPrecisionOverflowBehavior.Error }
     ensures unit { result.1 ≡ TimestampUnit.Infer }
     ensures order { result.2 ≡ IsoOrder.Lax }
+{
+    Default::default()
+}
+
+/// The default forms: the whole text is a value, and no number is a timestamp.
+pub fn default_forms() -> (DateForm, TimeForm, DateTimeForm)
+    ensures date { result.0 ≡ DateForm.Text }
+    ensures time { result.1 ≡ TimeForm.Text }
+    ensures date_time { result.2 ≡ DateTimeForm.Text }
 {
     Default::default()
 }
