@@ -270,7 +270,7 @@ static int number_of_call(const Column *column) {
     const ColumnReader *reader = &column->reader;
     bool needs_offset = !reader->lines.assumes_utc && reader->number_of != number_of_clock;
     return call_number(reader->parser, reader->config) + OF_COLUMN + (needs_offset ? 0 : ASSUMES_UTC) +
-           (column->are_lines ? OF_LINE : 0);
+           (column->are_lines ? OF_LINE : 0) + (reader->config.has_timestamp_offset ? HAS_OFFSET : 0);
 }
 
 static int raise_refusal(Column *column, int code, Py_ssize_t index, PyObject *source) {
@@ -487,19 +487,25 @@ int view_memory(PyObject *texts, bool (*has)(const Py_buffer *), PyObject **view
     return none ? 0 : -1;
 }
 
-/* Whether an item is not equal to itself, as NaN of any type is, and NaT. What cannot be asked is. */
-static bool differs_from_itself(PyObject *item) {
+/* Whether an item is not equal to itself, as NaN of any type is, and NaT. What cannot be asked is, unless the program is to
+ * end. */
+static int differs_from_itself(PyObject *item) {
     PyObject *differs = PyObject_RichCompare(item, item, Py_NE);
-    bool told = differs && PyObject_IsTrue(differs) == 1;
+    int told = differs ? PyObject_IsTrue(differs) : -1;
     Py_XDECREF(differs);
+    if (told >= 0 || !PyErr_ExceptionMatches(PyExc_Exception))
+        return told;
     PyErr_Clear();
-    return told;
+    return 0;
 }
 
 /* Whether an item is missing, as pandas tells. What it has for that is asked for once, and kept. */
 int is_missing(const State *state, PyObject **kept, PyObject *item) {
-    if (item == Py_None || (PyFloat_Check(item) ? isnan(PyFloat_AS_DOUBLE(item)) : differs_from_itself(item)))
-        return 1;
+    int told = item == Py_None       ? 1
+               : PyFloat_Check(item) ? isnan(PyFloat_AS_DOUBLE(item)) != 0
+                                     : differs_from_itself(item);
+    if (told != 0)
+        return told;
     if (!*kept && !(*kept = PyObject_CallObject(state->held[MISSING], NULL)))
         return -1;
     for (Py_ssize_t i = 0; PyTuple_Check(*kept) && i < PyTuple_GET_SIZE(*kept); i++)

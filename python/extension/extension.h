@@ -178,7 +178,7 @@ typedef struct {
 extern const Parser parsers[ALL_PARSERS];
 
 /* What is added to the number of a parser and its configuration, which is less than the first of them. */
-enum { OF_COLUMN = 256, ASSUMES_UTC = 512, OF_LINE = 1024, OF_INTEGER = 2048 };
+enum { OF_COLUMN = 256, ASSUMES_UTC = 512, OF_LINE = 1024, OF_INTEGER = 2048, HAS_OFFSET = 4096 };
 
 #define INTEGER_FLAG 128 /* added to the code of an integer that is refused */
 

@@ -489,12 +489,15 @@ typedef struct {
 
 static int take_call(int number, Call *call) {
     *call = (Call){number & 15,
-                   {.timestamp_unit = number >> 4 & 3, .overflow_behavior = number >> 6 & 1, .iso_order = number >> 7 & 1},
+                   {.timestamp_unit = number >> 4 & 3,
+                    .overflow_behavior = number >> 6 & 1,
+                    .iso_order = number >> 7 & 1,
+                    .has_timestamp_offset = (number & HAS_OFFSET) != 0},
                    number & OF_COLUMN,
                    number & ASSUMES_UTC,
                    number & OF_LINE,
                    number & OF_INTEGER};
-    if (number >= 0 && number < 2 * OF_INTEGER && call->parser != NO_PARSER && call->parser < ALL_PARSERS)
+    if (number >= 0 && number < 2 * HAS_OFFSET && call->parser != NO_PARSER && call->parser < ALL_PARSERS)
         return 0;
     return PyErr_Format(PyExc_ValueError, "no call has the number %d", number), -1;
 }

@@ -2,7 +2,7 @@ import array
 import ctypes
 import datetime as _datetime
 import mmap
-from typing import Any, Iterable, List, Literal, Mapping, Optional, SupportsIndex, Tuple, Union, overload
+from typing import Any, FrozenSet, Iterable, List, Literal, Mapping, Optional, Set, SupportsIndex, Tuple, Union, overload
 
 from ._types import Column as Column, Config as Config, ParseError as ParseError, Refused as Refused
 
@@ -12,7 +12,7 @@ _Text = Union[str, bytes, bytearray, memoryview]
 _Bytes = Union[bytes, bytearray, memoryview, mmap.mmap, array.array[int], ctypes.Array[Any]]
 _Texts = Union[Iterable[Union[_Text, SupportsIndex, None]], _Bytes]
 # What iterates over texts and is no column: the overload for it has no result, so that its use is an error.
-_NoColumn = Union[str, Mapping[Any, Any]]
+_NoColumn = Union[str, Mapping[Any, Any], Set[Any], FrozenSet[Any]]
 _MissingOffset = Literal["error", "utc"]
 _Refused = Literal["stop", "number", "collect"]
 _Empty = Literal["error", "nat"]

@@ -23,7 +23,8 @@ class ParseError(ValueError):
       `frame.iloc[error.index]` is the row.
     - `hint`: `None`, or what mends the text: a byte order mark, a line ending, or an integer among texts.
 
-    `str()` is one line of printable characters, with 60 characters of the text. `message()` has lines for a terminal.
+    `str()` is one line of printable characters, with 60 characters of the text, and `repr()` has these too. `message()` has
+    lines for a terminal.
     A copy, as after pickling, has at most 4,096 characters of the text, and counts its `start` and `end` in these.
 
     >>> for text in ("2021-02-29", "0000-01-01"):
@@ -86,6 +87,11 @@ class ParseError(ValueError):
                           ^^
         """
         return "\n".join([self._told(), *_marked(self.text, self.start, self.end), *([] if self.hint is None else [self.hint])])
+
+    def __repr__(self):
+        piece, _, before, after = _piece(self.text, self.start)
+        index = "" if self.index is None else f", index={self.index}"
+        return f"{type(self).__name__}({self.code!r}, text={before}{piece!r}{after}, start={self.start}, end={self.end}{index})"
 
     def __reduce__(self):
         text, (start, end, expected, hint) = _plain_text(self.text), self._part()
@@ -152,6 +158,12 @@ class Refused:
 
         return map(_refusal, self._codes, self.indices, self._texts, repeat(self._call))
 
+    def _among(self, places):
+        """The errors of the texts at a range of places, where each has its position in this range."""
+        rows = [it for it, index in enumerate(self.indices) if index in places][::1 if places.step > 0 else -1]
+        indices = array.array("q", [places.index(self.indices[it]) for it in rows])
+        return Refused(indices, array.array("B", [self._codes[it] for it in rows]), [self._texts[it] for it in rows], self._call)
+
     @property
     def codes(self):
         from ._speedate import _names
@@ -179,6 +191,7 @@ class Column:
     - `refused`: the errors of the texts that were refused, if the call was asked to collect them
 
     `numpy.asarray(column)` has the numbers as `datetime64` or `timedelta64`, with NaT, without a copy. So has a column of pandas.
+    A slice is a `Column` too. It has a copy of its numbers, and the errors of its texts, which count from its first text.
 
     >>> column = date_column(["1970-01-02", "never"], refused="collect")
     >>> column, column.refused.indices, column.refused.codes
@@ -197,7 +210,9 @@ class Column:
         return len(self.numbers)
 
     def __getitem__(self, place):
-        return self.numbers[place]
+        if not isinstance(place, slice):
+            return self.numbers[place]
+        return type(self)(self.kind, self.numbers[place], self.refused._among(range(len(self))[place]))
 
     def __iter__(self):
         return iter(self.numbers)
@@ -386,6 +401,8 @@ def _checked(name, values):
 
     if isinstance(values, Mapping) or hasattr(values, "columns"):
         raise TypeError(f"{name} has to be one column, not {type(values).__name__}: pass its values, or one of its columns")
+    if isinstance(values, (set, frozenset)):
+        raise TypeError(f"{name} has to be one column, not {type(values).__name__}: its items have no order")
     values = values.to_numpy() if _is_of_pandas(values) and values.dtype.kind in "Oiu" else values
     of_numpy = getattr(values, "dtype", None)
     if getattr(of_numpy, "itemsize", 0) > 1 and getattr(values, "ndim", 1) != 1:

@@ -601,8 +601,9 @@ def _numbers_of(numbers, kind):
         return numbers.numbers, kind
     if isinstance(numbers, (str, bytes, bytearray)):
         raise TypeError(f"numbers has to be an iterable of integers, not {type(numbers).__name__}")
-    if isinstance(numbers, dict):
-        raise TypeError(f"numbers has to be one column, not {type(numbers).__name__}: pass its values, or one of its columns")
+    if isinstance(numbers, (dict, set)):
+        why = "its items have no order" if isinstance(numbers, set) else "pass its values, or one of its columns"
+        raise TypeError(f"numbers has to be one column, not {type(numbers).__name__}: {why}")
     return numbers, kind
 
 

@@ -68,6 +68,13 @@ def forms(texts, end):
     yield from (data, data[:-len(end)], bytearray(data), memoryview(bytearray(data)), array.array("b", data), spread(data), io.BytesIO(data), io.StringIO(whole, newline=""))
 
 
+def rows(texts):
+    """The texts in each kind of input that has items."""
+    yield from (texts, tuple(texts), iter(texts))
+    if numpy:
+        yield from (numpy.array(texts), numpy.array(texts, "S"))
+
+
 class Exporter:
     """What has bytes in Python 3.12 and later."""
 
@@ -278,20 +285,20 @@ class Blocks(unittest.TestCase):
 
     def test_many(self):
         for read, texts, numbers in self.columns():
-            for it in (texts, tuple(texts), iter(texts), *forms(texts, "\n"), *forms(texts, "\r\n")):
+            for it in (*rows(texts), *forms(texts, "\n"), *forms(texts, "\r\n")):
                 self.assertTrue(read(it).tolist() == numbers, (read, type(it)))
             self.assertTrue(collected(texts, read) == (numbers, []))
             last = len(texts) - 1
             for index in (1_000, 32_767, 32_768, last):
                 wrong = [*texts[:index], "-", *texts[index + 1:]]
-                for it in (wrong, iter(wrong), *forms(wrong, "\n")):
+                for it in (*rows(wrong), *forms(wrong, "\n")):
                     with self.assertRaisesRegex(speedate.ParseError, f"^too_short in text {index} at ") as caught:
                         read(it)
                     self.assertEqual(caught.exception.index, index)
             bad = {0, 5, 32_767, 32_768, last}
             wrong = ["-" if it in bad else text for it, text in enumerate(texts)]
             wanted = [NAT if it in bad else number for it, number in enumerate(numbers)]
-            for it in (wrong, iter(wrong), *forms(wrong, "\r\n")):
+            for it in (*rows(wrong), *forms(wrong, "\r\n")):
                 told, errors = collected(it, read)
                 self.assertTrue(told == wanted, (read, type(it)))
                 self.assertEqual([it.index for it in errors], sorted(bad))
@@ -339,6 +346,14 @@ class Units(unittest.TestCase):
             again = pickle.loads(pickle.dumps(column))
             self.assertEqual((again, list(map(str, again.refused)), again.refused.indices), (column, list(map(str, column.refused)), column.refused.indices))
 
+    def test_slices(self):
+        """A part of a column is the column of that part of its texts."""
+        texts = ["x", SECOND, None, "1970-01-01", b"y", "PT1S", SECOND, 5, ""]
+        for read in (speedate.datetime_column, speedate.date_column, speedate.duration_column):
+            for place in itertools.starmap(slice, itertools.product((None, -9, -3, 0, 2, 9), (None, -2, 0, 5, 12), (None, -3, -1, 2))):
+                part, wanted = read(texts, refused="collect")[place], read(texts[place], refused="collect")
+                self.assertEqual((part, part.refused.indices, list(map(str, part.refused))), (wanted, wanted.refused.indices, list(map(str, wanted.refused))), place)
+
     @unittest.skipUnless(numpy, "NumPy is not installed")
     def test_numpy(self):
         for column, unit, number in self.made():
@@ -363,7 +378,7 @@ class Units(unittest.TestCase):
             wanted = [pandas.Timestamp(number, unit=unit[3:-1]) if unit[0] == "M" else pandas.Timedelta(number, unit=unit[3:-1]), pandas.NaT]
             frame = pandas.DataFrame({"a": [1, 2]})
             frame["b"] = column
-            made = [pandas.Series(column), frame.assign(m=column)["m"], frame["b"], pandas.DataFrame({"m": column})["m"], pandas.Series(column, index=[5, 3])]
+            made = [pandas.Series(column), pandas.Series(column[:]), pandas.Series(column[::-1])[::-1], frame.assign(m=column)["m"], frame["b"], pandas.DataFrame({"m": column})["m"], pandas.Series(column, index=[5, 3])]
             if unit[0] == "M":
                 made += [pandas.Series(pandas.to_datetime(column)), pandas.Series(pandas.to_datetime(column, utc=True)).dt.tz_convert(None)]
             else:
@@ -432,6 +447,18 @@ class Refusals(unittest.TestCase):
         """The digits that a unit does not have."""
         error = collected(["1.0000000"], config=speedate.Config("us"), timestamps=True)[1][0]
         self.assertEqual((error.code, error.start, error.end), ("microsecond_fraction_too_long", 2, 9))
+
+    def test_end_of_the_program(self):
+        """What an item raises as it is compared means that it is not missing, unless it is to end the program."""
+        for error, wanted in ((ValueError, TypeError), (KeyboardInterrupt, KeyboardInterrupt), (SystemExit, SystemExit)):
+            def fail(*_):
+                raise error
+
+            for compared in (fail, lambda *_: type("Truth", (), {"__bool__": fail})()):
+                item = type("Item", (), {"__ne__": compared})()
+                for call in (speedate.datetime_column, functools.partial(speedate.text_column, kind="date")):
+                    with self.assertRaises(wanted):
+                        call([item])
 
     def test_kept_item(self):
         class Text(str):

@@ -573,7 +573,7 @@ class Extension(unittest.TestCase):
 
     def test_tampered_error(self):
         for slot in ("_source", "_call"):
-            for it in (None, *range(-1, 4_200), 2**31, 2**70, "", "12:13", speedate.Config("ms", 0), 1.5, b"x", [], memoryview(b"12345678").cast("d")):
+            for it in (None, *range(-1, 8_300), 2**31, 2**70, "", "12:13", speedate.Config("ms", 0), 1.5, b"x", [], memoryview(b"12345678").cast("d")):
                 for call in (speedate.time, lambda text: speedate.date("1x", config=speedate.Config("ms"), timestamps=True)):
                     error = error_of(call, "12:13:60")
                     setattr(error, slot, it)

@@ -6,6 +6,7 @@ import copy
 import datetime
 import decimal
 import doctest
+import functools
 import importlib.metadata
 import importlib.util
 import inspect
@@ -91,6 +92,8 @@ datetime_column(["1970-01-01T00:00Z\n"]) -> ParseError: extra_characters in text
 datetime_column(["1970-01-01T00:00Z\n", "1970-01-01T00:00:01Z\r\n", b"1970-01-01T00:00:02Z\r"], lines=True) -> Column('datetime', [0, 1000000, 2000000])
 datetime_column(["1970-01-01T00:00\n"]) -> ParseError: invalid_char_tz_sign in text 0
 datetime_column(["1970-01-01T00:00\n"], missing_offset="utc") -> ParseError: invalid_char_tz_sign in text 0: it has a line ending, which lines=True drops
+faulted(["1654646404\n", "1970-01-01T00:00\n"], functools.partial(datetime_column, config=Config("s", 3600), timestamps=True)) -> (2, ['invalid_char_date_sep in text 0: it has a line ending, which lines=True drops', 'invalid_char_tz_sign in text 1'])
+faulted(["1654646404\n"], functools.partial(datetime_column, timestamps=True)) -> (1, ['invalid_char_date_sep in text 0'])
 datetime_column([], lines=1) -> TypeError: lines has to be bool, not int
 datetime_column(["\ufeff1970-01-01T00:00Z"]) -> ParseError: invalid_char_year in text 0: it begins with a byte order mark, which the encoding utf-8-sig drops
 datetime_column(b"\xef\xbb\xbf1970-01-01T00:00Z\n1970-01-01T00:00Z\n") -> ParseError: invalid_char_year in text 0: it begins with a byte order mark: skip its three bytes
@@ -108,8 +111,10 @@ datetime_column(memoryview(b"1970-01-01T00:00Z\n\n"), refused="number") -> Colum
 datetime_column(it for it in ["0000-01-01T00:00Z", b"9999-12-31T23:59:59.999999-23:59"]) -> Column('datetime', [-62167219200000000, 253402387139999999])
 datetime_column("1970-01-01T00:00Z") -> TypeError: texts has to be an iterable of texts, a file, or bytes, not str
 datetime_column({"moment": ["1970-01-01T00:00Z"]}, refused="number") -> TypeError: texts has to be one column, not dict: pass its values, or one of its columns
+datetime_column({"1970-01-01T00:00Z"}, refused="number") -> TypeError: texts has to be one column, not set: its items have no order
+text_column(frozenset([1]), kind="date") -> TypeError: numbers has to be one column, not frozenset: its items have no order
 datetime_column(types.MappingProxyType({})) -> TypeError: texts has to be one column, not mappingproxy: pass its values, or one of its columns
-datetime_column({"b": "1970-01-01T00:00Z"}.values()) -> Column('datetime', [0])
+datetime_column({"b": "1970-01-01T00:00Z"}.values()), datetime_column({"1970-01-01T00:00Z": 1}.keys()) -> (Column('datetime', [0]), Column('datetime', [0]))
 datetime_column(memoryview(b"12345678").cast("d")) -> TypeError: text 0 has to be str or bytes or bytearray or memoryview, not float: in pandas astype("Int64") makes integers of floats, which timestamps=True reads
 datetime_column(["1970-01-01T00:00Z", 5], refused="number"), time_column([5, "00:00"], refused="number") -> (Column('datetime', [0, -9223372036854775808]), Column('time', [-9223372036854775808, 0]))
 datetime_column(["1970-01-01T00:00Z", memoryview(b"12345678").cast("d")]) -> TypeError: text 1 has to be a memoryview of bytes, not of format d
@@ -312,7 +317,7 @@ def checked(error):
     """The error, whose copies have all that it has. The bytes of a text that is a memoryview are copied."""
     for it in (copy.copy(error), copy.deepcopy(error), pickle.loads(pickle.dumps(error)), pickle.loads(pickle.dumps(copy.copy(error)))):
         assert told(it) == told(error) and type(it) is type(error), told(it)
-    assert 0 <= error.start <= error.end <= len(error.text) and repr(error) == f"ParseError({error.code!r})"
+    assert 0 <= error.start <= error.end <= len(error.text)
     return error
 
 
@@ -555,6 +560,8 @@ class Speedate(unittest.TestCase):
                 first = f"{error.code}{quoted.partition('{}')[0]}{error.expected}"
                 self.assertEqual(str(error), error.code + quoted.format(error.expected))
                 self.assertEqual(error.message().split("\n"), [first, f"    {line}", f"    {carets}"])
+                index = "" if error.index is None else f", index={error.index}"
+                self.assertEqual(repr(error), f"ParseError('{error.code}', text={quoted.partition('{}: ')[2]}, start={error.start}, end={error.end}{index})")
                 self.assertEqual((str(copy.copy(error)), copy.copy(error).message()), (str(error), error.message()))
 
     def test_long_texts(self):

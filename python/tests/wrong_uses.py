@@ -30,11 +30,11 @@ column = speedate.date_column(generated(), empty="nat")
 column = speedate.date_column(io.StringIO())
 column = speedate.duration_column(io.BytesIO(), refused="stop")
 column = speedate.time_column(row.values(), strict=True)
-column = speedate.time_column({""}, lines=True)
+column = speedate.time_column({"": 1}.keys(), lines=True)
 column = speedate.datetime_clock_column(mmap.mmap(-1, 1))
 column = speedate.datetime_offset_column(array.array("q"), timestamps=True)
 lines: bytes = speedate.text_column(column) + speedate.text_column([1, None], kind="duration")
-total: int = sum(column) + column[0] + len(column) + len(column.numbers)
+total: int = sum(column) + column[0] + len(column[1:].refused) + len(column.numbers)
 shown: List[str] = [f"{it.message()} {it.text[it.start:it.end]!r} {len(it.text)} {it.expected.title()}" for it in column.refused] + column.refused.codes
 error: speedate.ParseError = speedate.ParseError("too_short", b"", 0, 0, "a date: YYYY-MM-DD")
 
@@ -55,6 +55,7 @@ speedate.text(None)  # call-overload
 speedate.date(1.5, timestamps=True)  # call-overload
 column = speedate.datetime_column("1970-01-01T00:00Z")  # assignment
 column = speedate.date_column(row)  # assignment
+column = speedate.date_column({""})  # assignment
 print(speedate.duration_column({}).tolist())  # attr-defined
 column = speedate.time_column(floats)  # arg-type
 column = speedate.datetime_column(mixed)  # arg-type
