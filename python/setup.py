@@ -17,8 +17,13 @@ import tarfile
 import tempfile
 import zipfile
 
+import setuptools
 from setuptools import Command, Extension, setup
 
+if int(setuptools.__version__.partition(".")[0]) < 61:
+    sys.exit(f"setuptools {setuptools.__version__} does not read pyproject.toml: it has to be 61 or later")
+if {"develop", "editable_wheel"} & {*sys.argv}:
+    sys.exit("pip install -e is not supported, because the extension is compiled in a temporary folder: install without -e")
 SCRIPT = pathlib.Path(__file__).resolve().parent.parent / "bin/build_python"
 if not os.path.exists("lib"):
     if not SCRIPT.exists():
@@ -111,13 +116,8 @@ if not os.path.exists(f"{sysconfig.get_path('include')}/Python.h"):
     sys.exit(f"there is no Python.h for {sys.executable}; on Debian: apt-get install python3-dev")
 os.umask(0o022)
 setup(
-    name="speedate", version=VERSION, license="MIT", python_requires=">=3.8", zip_safe=False,
-    description="Exact dates, times of day, date-times and durations, parsed from texts and printed",
+    version=VERSION, zip_safe=False,
     long_description=pathlib.Path("README.md").read_text("utf-8"), long_description_content_type="text/markdown",
-    classifiers=[
-        "Intended Audience :: Developers", "License :: OSI Approved :: MIT License",
-        "Operating System :: POSIX :: Linux", "Programming Language :: C", "Programming Language :: Python :: 3",
-        "Programming Language :: Python :: Implementation :: CPython", "Typing :: Typed"],
     packages=["speedate"], package_data={"speedate": ["*.pyi", "py.typed", "GRAMMAR.md"]},
     # What the include path of the interpreter has comes first: it may have another pyconfig.h than the folders of the system.
     ext_modules=[Extension(

@@ -52,6 +52,12 @@ class Wheel(unittest.TestCase):
         self.assertEqual((fields["Wheel-Version"], fields["Root-Is-Purelib"], fields.get_all("Tag")), ("1.0", "false", [f"{python}-{abi}-{platform}"]))
         fields, page = said(files[f"{info}/METADATA"].decode())
         self.assertEqual((fields["Name"], fields["Version"], fields["License-File"], fields["Requires-Python"]), ("speedate", version, "LICENSE", ">=3.8"))
+        if sys.version_info >= (3, 11):
+            import tomllib
+
+            stated = tomllib.loads((ROOT / "python/pyproject.toml").read_text("utf-8"))["project"]
+            told = {"name": fields["Name"], "description": fields["Summary"], "license": {"text": fields["License"]}, "requires-python": fields["Requires-Python"], "classifiers": fields.get_all("Classifier")}
+            self.assertEqual({**told, "dynamic": ["version", "readme"]}, stated)
         self.assertIn("# Calling the library from Python", page)
         self.assertEqual([it for it in re.findall(r"\]\(([^)]*)\)", page) if not it.startswith("https://")], [])
 
