@@ -175,7 +175,7 @@ def csv_rows(folder):
     def frame(_):
         table = pandas.read_csv(path, dtype=str, keep_default_na=False)
         column = speedate.datetime_column(table["moment"], empty="nat")
-        return pandas.Series(column, index=table.index).dt.tz_localize("UTC")
+        return column.series().dt.tz_localize("UTC")
 
     def to_datetime(_):
         return pandas.to_datetime(pandas.read_csv(path)["moment"], utc=True)

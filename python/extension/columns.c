@@ -161,6 +161,7 @@ typedef struct {
     int refused;
     Table *table;      /* of what is collected */
     PyObject *missing; /* what pandas has for a missing text, once that was asked for */
+    PyObject *labels;  /* of a Series of pandas, or None */
     PyObject *array;
     int64_t *numbers;
     size_t room, count; /* of the block */
@@ -487,26 +488,22 @@ int view_memory(PyObject *texts, bool (*has)(const Py_buffer *), PyObject **view
     return none ? 0 : -1;
 }
 
-/* Whether an item is not equal to itself, as NaN of any type is, and NaT. What cannot be asked is, unless the program is to
- * end. */
-static int differs_from_itself(PyObject *item) {
+/* Whether an item is not equal to itself, as NaN of any type is, and NaT. What cannot be asked is, but what is to end the program
+ * stays raised. */
+static bool differs_from_itself(PyObject *item) {
     PyObject *differs = PyObject_RichCompare(item, item, Py_NE);
-    int told = differs ? PyObject_IsTrue(differs) : -1;
+    bool told = differs && PyObject_IsTrue(differs) == 1;
     Py_XDECREF(differs);
-    if (told >= 0 || !PyErr_ExceptionMatches(PyExc_Exception))
-        return told;
-    PyErr_Clear();
-    return 0;
+    if (PyErr_Occurred() && PyErr_ExceptionMatches(PyExc_Exception))
+        PyErr_Clear();
+    return told;
 }
 
 /* Whether an item is missing, as pandas tells. What it has for that is asked for once, and kept. */
 int is_missing(const State *state, PyObject **kept, PyObject *item) {
-    int told = item == Py_None       ? 1
-               : PyFloat_Check(item) ? isnan(PyFloat_AS_DOUBLE(item)) != 0
-                                     : differs_from_itself(item);
-    if (told != 0)
-        return told;
-    if (!*kept && !(*kept = PyObject_CallObject(state->held[MISSING], NULL)))
+    if (item == Py_None || (PyFloat_Check(item) ? isnan(PyFloat_AS_DOUBLE(item)) : differs_from_itself(item)))
+        return 1;
+    if (PyErr_Occurred() || (!*kept && !(*kept = PyObject_CallObject(state->held[MISSING], NULL))))
         return -1;
     for (Py_ssize_t i = 0; PyTuple_Check(*kept) && i < PyTuple_GET_SIZE(*kept); i++)
         if (PyTuple_GET_ITEM(*kept, i) == item)
@@ -680,11 +677,13 @@ static int add_texts(Column *column, PyObject *texts) {
         return add_others(column, texts, false);
     if (PyByteArray_Check(texts))
         return add_made(column, PyBytes_FromStringAndSize(PyByteArray_AS_STRING(texts), PyByteArray_GET_SIZE(texts)));
-    PyObject *items, *pair = PyObject_CallFunctionObjArgs(column->state->held[ITEMS], texts, NULL);
+    PyObject *items, *found = PyObject_CallFunctionObjArgs(column->state->held[ITEMS], texts, NULL);
     int are_lines, status = -1;
-    if (pair && PyArg_ParseTuple(pair, "Op", &items, &are_lines))
+    if (found && PyArg_ParseTuple(found, "OpO", &items, &are_lines, &column->labels)) {
+        Py_INCREF(column->labels);
         status = add_others(column, items, are_lines);
-    Py_XDECREF(pair);
+    }
+    Py_XDECREF(found);
     return status;
 }
 
@@ -697,6 +696,9 @@ static PyObject *new_column(Column *column, const char *kind) {
                                         table->arrays[CODES], table->texts, number_of_call(column));
     if (name && (refused || !table))
         made = PyObject_CallFunctionObjArgs(column->state->held[COLUMN], name, column->array, refused, NULL);
+    if (made && column->labels && column->labels != Py_None &&
+        PyObject_SetAttrString(made, "_labels", column->labels) < 0)
+        Py_CLEAR(made);
     Py_XDECREF(refused);
     Py_XDECREF(name);
     return made;
@@ -711,6 +713,7 @@ static PyObject *column_of(Column *column, PyObject *texts, const char *kind) {
     drop_table(column->table);
     Py_XDECREF(column->array);
     Py_XDECREF(column->missing);
+    Py_XDECREF(column->labels);
     PyMem_Free(column->numbers);
     return made;
 }
@@ -750,24 +753,25 @@ static PyObject *read_column(const ColumnCall *call, GIVEN) {
         take_flag("lines", bound[LINES], &reader->items_are_lines) < 0 ||
         take_config(column.state, bound[CONFIGURATION], form, &reader->config) < 0)
         return NULL;
-    reader->lines = (SpeedateColumnConfig){.drops_returns = 1, .parser = (uint8_t)form, .assumes_utc = assumes_utc};
+    reader->parser = call->parser[form];
+    reader->lines = (SpeedateColumnConfig){
+        .drops_returns = 1, .parser = (uint8_t)parsers[reader->parser].form, .assumes_utc = assumes_utc};
     reader->read = call->read;
     reader->number_of = call->number_of;
     reader->of_timestamp = form == SPEEDATE_OR_TIMESTAMP ? call->of_timestamp : NULL;
-    reader->parser = call->parser[form];
     return column_of(&column, bound[TEXTS], call->kind);
 }
 
 #define DATETIME_PARSERS {DATETIME_TEXT, DATETIME_OR_TIMESTAMP, DATETIME_STRICT}
-CALL(datetime_column, read_column, ColumnCall, {"datetime_column", {"texts", OTHERS, "timestamps", "strict", "missing_offset"}, 1},
+CALL(datetime_column, read_column, ColumnCall, {"datetime_column", {"value", OTHERS, "timestamps", "strict", "missing_offset"}, 1},
      read_datetimes, number_of_datetime, datetime_of_timestamp, DATETIME_PARSERS, "datetime")
-CALL(datetime_clock_column, read_column, ColumnCall, {"datetime_clock_column", {"texts", OTHERS, "timestamps", "strict"}, 1},
+CALL(datetime_clock_column, read_column, ColumnCall, {"datetime_clock_column", {"value", OTHERS, "timestamps", "strict"}, 1},
      read_clocks, number_of_clock, clock_of_timestamp, DATETIME_PARSERS, "datetime_clock")
-CALL(datetime_offset_column, read_column, ColumnCall, {"datetime_offset_column", {"texts", OTHERS, "timestamps", "strict"}, 1},
+CALL(datetime_offset_column, read_column, ColumnCall, {"datetime_offset_column", {"value", OTHERS, "timestamps", "strict"}, 1},
      read_offsets, number_of_offset, offset_of_timestamp, DATETIME_PARSERS, "datetime_offset")
-CALL(date_column, read_column, ColumnCall, {"date_column", {"texts", OTHERS, "timestamps"}, 1},
-     read_dates, number_of_date, date_of_timestamp, {DATE, DATE_OR_TIMESTAMP, NO_PARSER}, "date")
-CALL(time_column, read_column, ColumnCall, {"time_column", {"texts", OTHERS, "strict"}, 1},
+CALL(date_column, read_column, ColumnCall, {"date_column", {"value", OTHERS, "timestamps", "strict"}, 1},
+     read_dates, number_of_date, date_of_timestamp, {DATE, DATE_OR_TIMESTAMP, DATE}, "date")
+CALL(time_column, read_column, ColumnCall, {"time_column", {"value", OTHERS, "strict"}, 1},
      read_times, number_of_time, NULL, {TIME, NO_PARSER, TIME_STRICT}, "time")
-CALL(duration_column, read_column, ColumnCall, {"duration_column", {"texts", OTHERS}, 1},
+CALL(duration_column, read_column, ColumnCall, {"duration_column", {"value", OTHERS}, 1},
      read_durations, number_of_duration, NULL, {DURATION, NO_PARSER, NO_PARSER}, "duration")

@@ -253,26 +253,26 @@ static PyMethodDef methods[] = {
            "Its sign covers the whole text, but in `str()` of a timedelta only the days: print it with `text`.\n\n"
            ">>> duration(\"-1 day, 23:59:59\")\n"
            "datetime.timedelta(days=-2, seconds=1)\n"),
-    METHOD(date_front, "(text)",
+    METHOD(date_front, "(value)",
            "The date at the front of a text, and its size: of a `str` in characters, otherwise in bytes. What follows the size\n"
            "is yours to read.\n\n"
            ">>> date_front(\"2020-02-29 opening balance\")\n"
            "(datetime.date(2020, 2, 29), 10)\n"),
-    METHOD(time_front, "(text, *, config=None)",
+    METHOD(time_front, "(value, *, config=None)",
            "The time at the front of a text, and its size as `date_front` counts it.\n\n"
            ">>> time_front(\"12:13 lunch\")\n"
            "(datetime.time(12, 13), 5)\n"),
-    METHOD(datetime_front, "(text, *, config=None)",
+    METHOD(datetime_front, "(value, *, config=None)",
            "The date-time at the front of a text, and its size as `date_front` counts it.\n\n"
            "What follows the size is yours to read. An offset after a space is not part of the value, which is naive then:\n\n"
            ">>> moment, size = datetime_front(\"2026-11-01 08:00:00 -0500\")\n"
            ">>> moment, \"2026-11-01 08:00:00 -0500\"[size:]\n"
            "(datetime.datetime(2026, 11, 1, 8, 0), ' -0500')\n"),
     METHOD(datetime_column,
-           "(texts, *, config=None, timestamps=False, strict=False, missing_offset='error', refused='stop', empty='error', "
+           "(value, *, config=None, timestamps=False, strict=False, missing_offset='error', refused='stop', empty='error', "
            "lines=False)",
            "The microseconds from 1970-01-01T00:00Z to each date-time.\n\n"
-           "`texts` is an iterable of texts, each as `datetime` parses it; or a file, or bytes in memory, such as `bytes` and an\n"
+           "`value` is an iterable of texts, each as `datetime` parses it; or a file, or bytes in memory, such as `bytes` and an\n"
            "`mmap`, of which each line is a text. A file is read from its current position: call `seek(0)` after writing. A line\n"
            "feed ends a line; the last line may lack it. A carriage return at the end of a line is dropped. With `lines=True`\n"
            "the items of an iterable, such as `list(file)`, are lines too. A `str`, a mapping, a set and a DataFrame are a\n"
@@ -295,7 +295,7 @@ static PyMethodDef methods[] = {
            "(Column('datetime', [0, -9223372036854775808]), 'too_short', b'never')\n\n"
            NUMPY("datetime64[us]")),
     METHOD(datetime_clock_column,
-           "(texts, *, config=None, timestamps=False, strict=False, refused='stop', empty='error', lines=False)",
+           "(value, *, config=None, timestamps=False, strict=False, refused='stop', empty='error', lines=False)",
            "The microseconds from 1970-01-01T00:00 that the clock of each date-time shows.\n\n"
            "The arguments mean what they do in `datetime_column`. The clock is read whatever the offset is, which\n"
            "`datetime_offset_column` reads. A timestamp shows the clock of UTC.\n\n"
@@ -303,27 +303,27 @@ static PyMethodDef methods[] = {
            "Column('datetime_clock', [1000000, 3600000000])\n\n"
            NUMPY("datetime64[us]")),
     METHOD(datetime_offset_column,
-           "(texts, *, config=None, timestamps=False, strict=False, refused='stop', empty='error', lines=False)",
+           "(value, *, config=None, timestamps=False, strict=False, refused='stop', empty='error', lines=False)",
            "The seconds of the offset of each date-time, positive east of UTC.\n\n"
            "The arguments mean what they do in `datetime_column`. A date-time without an offset fails with `tz_required`. A\n"
            "timestamp has the offset of the configuration.\n\n"
            ">>> datetime_offset_column([\"1970-01-01T00:00:01Z\", \"1970-01-01T01:00+01:00\"])\n"
            "Column('datetime_offset', [0, 3600])\n\n"
            NUMPY("timedelta64[s]")),
-    METHOD(date_column, "(texts, *, config=None, timestamps=False, refused='stop', empty='error', lines=False)",
+    METHOD(date_column, "(value, *, config=None, timestamps=False, strict=False, refused='stop', empty='error', lines=False)",
            "The days from 1970-01-01 to each date.\n\n"
-           "The arguments mean what they do in `datetime_column`, and each text is parsed as by `date`. The year 0 is accepted,\n"
-           "although `date` has no such value.\n\n"
+           "The arguments mean what they do in `datetime_column`, and each text is parsed as by `date`. With `strict=True` it\n"
+           "is the same. The year 0 is accepted, although `date` has no such value.\n\n"
            ">>> date_column(b\"1970-01-02\\n1969-12-31\\n\")\n"
            "Column('date', [1, -1])\n\n"
            NUMPY("datetime64[D]")),
-    METHOD(time_column, "(texts, *, config=None, strict=False, refused='stop', empty='error', lines=False)",
+    METHOD(time_column, "(value, *, config=None, strict=False, refused='stop', empty='error', lines=False)",
            "The microseconds after midnight that the clock of each time shows, whatever the offset is.\n\n"
            "The arguments mean what they do in `datetime_column`, and each text is parsed as by `time`.\n\n"
            ">>> time_column([\"12:13:14.5\", None, \"12:13:14.5+01:00\"])\n"
            "Column('time', [43994500000, -9223372036854775808, 43994500000])\n\n"
            NUMPY("timedelta64[us]")),
-    METHOD(duration_column, "(texts, *, config=None, refused='stop', empty='error', lines=False)",
+    METHOD(duration_column, "(value, *, config=None, refused='stop', empty='error', lines=False)",
            "The microseconds of each duration, with its sign.\n\n"
            "The arguments mean what they do in `datetime_column`, and each text is parsed as by `duration`. One of 2**63\n"
            "microseconds or more, over 106,751,991 days, is refused with `number_too_large`.\n\n"
@@ -342,13 +342,13 @@ static PyMethodDef methods[] = {
            "('2020-02-29T12:13:00Z', '2020-02-29', '12:13:14.500')\n"
            ">>> text(duration(\"-1 day, 10:20\"))\n"
            "'-P1DT10H20M'\n"),
-    METHOD(text_column, "(numbers, *, kind=None)",
+    METHOD(text_column, "(value, *, kind=None)",
            "The lines of a column, as `bytes`: the inverse of the call that reads such lines.\n\n"
-           "`numbers` is a `Column`; or, if `kind` says what they count, an iterable of integers, or an array of NumPy or a column\n"
+           "`value` is a `Column`; or, if `kind` says what they count, an iterable of integers, or an array of NumPy or a column\n"
            "of pandas with integers or with times in the unit of that kind. It is `date`, `time`, `datetime`, `datetime_clock` or\n"
-           "`duration`; one that a `Column` is not of is a `ValueError`. What `pandas.isna` calls missing, and -2**63, is an empty\n"
-           "line, which the other call reads with `empty=\"nat\"`. A number that has no text raises a `ParseError` with its\n"
-           "`index`: `number_too_large` if it does not fit 64 bits, or 32 for days.\n\n"
+           "`duration`; one that a `Column` is not of is a `ValueError`, and so are offsets. What `pandas.isna` calls missing, and\n"
+           "-2**63, is an empty line, which the other call reads with `empty=\"nat\"`. A number that has no text raises a\n"
+           "`ParseError` with its `index`: `number_too_large` if it does not fit 64 bits, or 32 for days.\n\n"
            ">>> text_column(date_column([\"1970-01-02\", None]))\n"
            "b'1970-01-02\\n\\n'\n"
            ">>> text_column([1_500_000, -1], kind=\"datetime\")\n"

@@ -44,7 +44,7 @@ static int give_made(PyObject *made, Text *text) {
 /* What is wrong with a memoryview: of a text with its index in a column, or without one, if that is negative. */
 static int wrong_format(Py_ssize_t index, PyObject *view) {
     const char *format = PyMemoryView_GET_BUFFER(view)->format;
-    return index < 0 ? type_error("text has to be a memoryview of bytes, not of format %s", format)
+    return index < 0 ? type_error("value has to be a memoryview of bytes, not of format %s", format)
                      : type_error("text %zd has to be a memoryview of bytes, not of format %s", index, format);
 }
 
@@ -87,7 +87,7 @@ int take_other_text(PyObject *object, Py_ssize_t index, Text *text) {
         return give_made(PyBytes_FromStringAndSize(PyByteArray_AS_STRING(object), PyByteArray_GET_SIZE(object)), text);
     if (PyMemoryView_Check(object))
         return take_memoryview(object, index, text);
-    return wrong_type("text", "str or bytes or bytearray or memoryview", object);
+    return wrong_type("value", "str or bytes or bytearray or memoryview", object);
 }
 
 /* The functions below leave *out as it is where there is no argument. */
@@ -474,9 +474,9 @@ CALL(time, read_text, Reader, {"time", {"value", "config", "strict"}, 1}, make_t
 CALL(datetime, read_text, Reader, {"datetime", {"value", "config", "timestamps", "strict"}, 1}, make_datetime,
      {DATETIME_TEXT, DATETIME_OR_TIMESTAMP, DATETIME_STRICT}, 2, 3, datetime_of_timestamp)
 CALL(duration, read_text, Reader, {"duration", {"value", "config"}, 1}, make_duration, {DURATION}, 0, 0, NULL)
-CALL(date_front, read_front, Reader, {"date_front", {"text"}, 1}, make_date, {DATE_FRONT}, 0, 0, NULL)
-CALL(time_front, read_front, Reader, {"time_front", {"text", "config"}, 1}, make_time, {TIME_FRONT}, 0, 0, NULL)
-CALL(datetime_front, read_front, Reader, {"datetime_front", {"text", "config"}, 1}, make_datetime, {DATETIME_FRONT}, 0, 0, NULL)
+CALL(date_front, read_front, Reader, {"date_front", {"value"}, 1}, make_date, {DATE_FRONT}, 0, 0, NULL)
+CALL(time_front, read_front, Reader, {"time_front", {"value", "config"}, 1}, make_time, {TIME_FRONT}, 0, 0, NULL)
+CALL(datetime_front, read_front, Reader, {"datetime_front", {"value", "config"}, 1}, make_datetime, {DATETIME_FRONT}, 0, 0, NULL)
 
 /* ---- Parts ---- */
 

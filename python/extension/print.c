@@ -332,7 +332,7 @@ static PyObject *lines_of(PrintedColumn *column, PyObject *numbers) {
 }
 
 PyObject *call_text_column(GIVEN) {
-    static const Signature signature = {"text_column", {"numbers", "kind"}, 1};
+    static const Signature signature = {"text_column", {"value", "kind"}, 1};
     PrintedColumn column = {.state = PyModule_GetState(module)};
     PyObject *bound[2] = {NULL}, *lines = NULL, *numbers;
     int kind;

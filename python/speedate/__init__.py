@@ -18,7 +18,7 @@
 
 A text is a `str`, or UTF-8 in `bytes`, a `bytearray` or a `memoryview`. GRAMMAR.md, in the folder of this
 module, says which are accepted, and why any other is refused. A value with an offset is aware, one without is naive,
-and Python refuses to compare the two. Arguments after the text are keywords.
+and Python refuses to compare the two. The first parameter of each call is `value`; the others are keywords.
 
 What is refused raises a `ParseError`, which is a `ValueError`. An argument that is out of range is a plain `ValueError`, one
 of a wrong type a `TypeError`. So is a `Config` with a unit or an offset of timestamps in a call that parses none: `date`,

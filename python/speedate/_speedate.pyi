@@ -10,7 +10,8 @@ __version__: str
 
 _Text = Union[str, bytes, bytearray, memoryview]
 _Bytes = Union[bytes, bytearray, memoryview, mmap.mmap, array.array[int], ctypes.Array[Any]]
-_Texts = Union[Iterable[Union[_Text, SupportsIndex, None]], _Bytes]
+# A float may be NaN, which is missing.
+_Texts = Union[Iterable[Union[_Text, SupportsIndex, float, None]], _Bytes]
 # What iterates over texts and is no column: the overload for it has no result, so that its use is an error.
 _NoColumn = Union[str, Mapping[Any, Any], Set[Any], FrozenSet[Any]]
 _MissingOffset = Literal["error", "utc"]
@@ -32,73 +33,73 @@ def datetime(
     value: _Text, *, config: Optional[Config] = None, timestamps: bool = False, strict: bool = False
 ) -> _datetime.datetime: ...
 def duration(value: _Text, *, config: Optional[Config] = None) -> _datetime.timedelta: ...
-def date_front(text: _Text) -> Tuple[_datetime.date, int]: ...
-def time_front(text: _Text, *, config: Optional[Config] = None) -> Tuple[_datetime.time, int]: ...
-def datetime_front(text: _Text, *, config: Optional[Config] = None) -> Tuple[_datetime.datetime, int]: ...
+def date_front(value: _Text) -> Tuple[_datetime.date, int]: ...
+def time_front(value: _Text, *, config: Optional[Config] = None) -> Tuple[_datetime.time, int]: ...
+def datetime_front(value: _Text, *, config: Optional[Config] = None) -> Tuple[_datetime.datetime, int]: ...
 @overload
 def datetime_column(  # type: ignore
-    texts: _NoColumn, *, config: Optional[Config] = None, timestamps: bool = False, strict: bool = False,
+    value: _NoColumn, *, config: Optional[Config] = None, timestamps: bool = False, strict: bool = False,
     missing_offset: _MissingOffset = "error", refused: _Refused = "stop", empty: _Empty = "error", lines: bool = False
 ) -> None: ...
 @overload
 def datetime_column(
-    texts: _Texts, *, config: Optional[Config] = None, timestamps: bool = False, strict: bool = False,
+    value: _Texts, *, config: Optional[Config] = None, timestamps: bool = False, strict: bool = False,
     missing_offset: _MissingOffset = "error", refused: _Refused = "stop", empty: _Empty = "error", lines: bool = False
 ) -> Column: ...
 @overload
 def datetime_clock_column(  # type: ignore
-    texts: _NoColumn, *, config: Optional[Config] = None, timestamps: bool = False, strict: bool = False,
+    value: _NoColumn, *, config: Optional[Config] = None, timestamps: bool = False, strict: bool = False,
     refused: _Refused = "stop", empty: _Empty = "error", lines: bool = False
 ) -> None: ...
 @overload
 def datetime_clock_column(
-    texts: _Texts, *, config: Optional[Config] = None, timestamps: bool = False, strict: bool = False,
+    value: _Texts, *, config: Optional[Config] = None, timestamps: bool = False, strict: bool = False,
     refused: _Refused = "stop", empty: _Empty = "error", lines: bool = False
 ) -> Column: ...
 @overload
 def datetime_offset_column(  # type: ignore
-    texts: _NoColumn, *, config: Optional[Config] = None, timestamps: bool = False, strict: bool = False,
+    value: _NoColumn, *, config: Optional[Config] = None, timestamps: bool = False, strict: bool = False,
     refused: _Refused = "stop", empty: _Empty = "error", lines: bool = False
 ) -> None: ...
 @overload
 def datetime_offset_column(
-    texts: _Texts, *, config: Optional[Config] = None, timestamps: bool = False, strict: bool = False,
+    value: _Texts, *, config: Optional[Config] = None, timestamps: bool = False, strict: bool = False,
     refused: _Refused = "stop", empty: _Empty = "error", lines: bool = False
 ) -> Column: ...
 @overload
 def date_column(  # type: ignore
-    texts: _NoColumn, *, config: Optional[Config] = None, timestamps: bool = False,
+    value: _NoColumn, *, config: Optional[Config] = None, timestamps: bool = False, strict: bool = False,
     refused: _Refused = "stop", empty: _Empty = "error", lines: bool = False
 ) -> None: ...
 @overload
 def date_column(
-    texts: _Texts, *, config: Optional[Config] = None, timestamps: bool = False,
+    value: _Texts, *, config: Optional[Config] = None, timestamps: bool = False, strict: bool = False,
     refused: _Refused = "stop", empty: _Empty = "error", lines: bool = False
 ) -> Column: ...
 @overload
 def time_column(  # type: ignore
-    texts: _NoColumn, *, config: Optional[Config] = None, strict: bool = False,
+    value: _NoColumn, *, config: Optional[Config] = None, strict: bool = False,
     refused: _Refused = "stop", empty: _Empty = "error", lines: bool = False
 ) -> None: ...
 @overload
 def time_column(
-    texts: _Texts, *, config: Optional[Config] = None, strict: bool = False,
+    value: _Texts, *, config: Optional[Config] = None, strict: bool = False,
     refused: _Refused = "stop", empty: _Empty = "error", lines: bool = False
 ) -> Column: ...
 @overload
 def duration_column(  # type: ignore
-    texts: _NoColumn, *, config: Optional[Config] = None, refused: _Refused = "stop", empty: _Empty = "error", lines: bool = False
+    value: _NoColumn, *, config: Optional[Config] = None, refused: _Refused = "stop", empty: _Empty = "error", lines: bool = False
 ) -> None: ...
 @overload
 def duration_column(
-    texts: _Texts, *, config: Optional[Config] = None, refused: _Refused = "stop", empty: _Empty = "error", lines: bool = False
+    value: _Texts, *, config: Optional[Config] = None, refused: _Refused = "stop", empty: _Empty = "error", lines: bool = False
 ) -> Column: ...
 @overload
-def text_column(numbers: Union[_NoColumn, bytes, bytearray], *, kind: _Kind) -> None: ...  # type: ignore
+def text_column(value: Union[_NoColumn, bytes, bytearray], *, kind: _Kind) -> None: ...  # type: ignore
 @overload
-def text_column(numbers: Iterable[Optional[SupportsIndex]], *, kind: _Kind) -> bytes: ...
+def text_column(value: Iterable[Union[SupportsIndex, float, None]], *, kind: _Kind) -> bytes: ...
 @overload
-def text_column(numbers: Column, *, kind: Optional[_Kind] = None) -> bytes: ...
+def text_column(value: Column, *, kind: Optional[_Kind] = None) -> bytes: ...
 @overload
 def text(value: Union[_datetime.date, _datetime.time, _datetime.timedelta], *, digits: None = None) -> str: ...
 @overload

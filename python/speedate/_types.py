@@ -8,6 +8,7 @@ import math
 import operator
 import struct
 import sys
+from collections.abc import Mapping, Sequence
 from itertools import chain, repeat
 
 
@@ -130,7 +131,7 @@ def _marked(text, place, end):
     return [f"    {before}{_escaped(piece)}{after}", " " * (4 + len(before) + len(left)) + "^" * max(1, len(part))]
 
 
-class Refused:
+class Refused(Sequence):
     """The errors of a column, in order: a sequence of `ParseError`. Each is made when it is read.
 
     - `indices`: the positions of the texts in the column, an `array.array("q")`
@@ -182,7 +183,7 @@ class Refused:
 _NONE_REFUSED = Refused(array.array("q"), array.array("B"), [], 0)
 
 
-class Column:
+class Column(Sequence):
     """The numbers of the texts of a column, in the unit of its `kind`. -2**63 stands for a text that is missing or refused.
 
     - `kind`: `date` (days from 1970-01-01), `datetime` and `datetime_clock` (microseconds from 1970-01-01T00:00), `time`
@@ -190,7 +191,8 @@ class Column:
     - `numbers`: the numbers, an `array.array("q")`, whose memory other programs can read
     - `refused`: the errors of the texts that were refused, if the call was asked to collect them
 
-    `numpy.asarray(column)` has the numbers as `datetime64` or `timedelta64`, with NaT, without a copy. So has a column of pandas.
+    `numpy.asarray(column)` has the numbers as `datetime64` or `timedelta64`, with NaT, without a copy. `series()` is a Series of
+    pandas, whose rows are those of the Series that was read.
     A slice is a `Column` too. It has a copy of its numbers, and the errors of its texts, which count from its first text.
 
     >>> column = date_column(["1970-01-02", "never"], refused="collect")
@@ -201,7 +203,8 @@ class Column:
     """
 
     __module__ = "speedate"
-    __slots__ = "kind", "numbers", "refused"
+    # The last is the index and the name of a Series that had the texts.
+    __slots__ = "kind", "numbers", "refused", "_labels"
 
     def __init__(self, kind, numbers, refused=None):
         self.kind, self.numbers, self.refused = kind, numbers, refused or _NONE_REFUSED
@@ -210,9 +213,13 @@ class Column:
         return len(self.numbers)
 
     def __getitem__(self, place):
-        if not isinstance(place, slice):
+        if type(place) is not slice:
             return self.numbers[place]
-        return type(self)(self.kind, self.numbers[place], self.refused._among(range(len(self))[place]))
+        part = type(self)(self.kind, self.numbers[place], self.refused._among(range(len(self))[place]))
+        if hasattr(self, "_labels"):
+            index, name = self._labels
+            part._labels = index[place], name
+        return part
 
     def __iter__(self):
         return iter(self.numbers)
@@ -231,9 +238,24 @@ class Column:
             raise AttributeError("there is no NumPy") from None
         return numpy.dtype(_UNITS[self.kind])
 
+    # pandas.DataFrame treats a Sequence that has a dtype as an array.
+    ndim = property(lambda self: 1)
+    shape = property(lambda self: (len(self),))
+
+    def reshape(self, shape):
+        """What `numpy.reshape` makes of the numbers."""
+        return self.__array__().reshape(shape)
+
     def tolist(self):
         """The numbers, as a list."""
         return self.numbers.tolist()
+
+    def series(self):
+        """A Series of pandas that can be changed. It has the index and the name of the Series that the texts were read from."""
+        import pandas
+
+        index, name = getattr(self, "_labels", (None, None))
+        return pandas.Series(self, index, name=name, copy=True)
 
     def __array__(self, dtype=None, copy=None):
         import numpy
@@ -296,12 +318,20 @@ def _digits(index, item, can_read_timestamps):
         return hex(number)
 
 
+# The choices that pandas has other words for.
+_WORDS_OF_PANDAS = {"raise": ("stop", "error"), "coerce": ("number", "nat")}
+
+
 def _choice(name, value, *choices):
     """The number of a choice."""
     if not isinstance(value, str):
         raise _wrong(name, value, str)
     if value not in choices:
-        raise ValueError(f"{name} has to be {' or '.join(choices)}")
+        from difflib import get_close_matches
+
+        word = _plain_text(value)[:_SHOWN].lower()
+        near = [it for it in choices if it in _WORDS_OF_PANDAS.get(word, ())] or get_close_matches(word, choices, 1)
+        raise ValueError(f"{name} has to be {' or '.join(choices)}{f': did you mean {near[0]}?' if near else ''}")
     return choices.index(value)
 
 
@@ -386,41 +416,42 @@ def _missing():
     return getattr(pandas, "NA", None), getattr(pandas, "NaT", None)
 
 
-def _is_of_pandas(values):
+def _is_of_pandas(values, *kinds):
     pandas = sys.modules.get("pandas")
-    return isinstance(values, (getattr(pandas, "Series", ()), getattr(pandas, "Index", ())))
+    return isinstance(values, tuple(getattr(pandas, it, ()) for it in kinds or ("Series", "Index")))
 
 
 def _turn():
     """CPython lets another thread run when a function begins, if that has waited long enough."""
 
 
-def _checked(name, values):
+def _checked(values):
     """What iterates over the items of one column. What is masked is missing."""
-    from collections.abc import Mapping
-
     if isinstance(values, Mapping) or hasattr(values, "columns"):
-        raise TypeError(f"{name} has to be one column, not {type(values).__name__}: pass its values, or one of its columns")
+        raise TypeError(f"value has to be one column, not {type(values).__name__}: pass its values, or one of its columns")
     if isinstance(values, (set, frozenset)):
-        raise TypeError(f"{name} has to be one column, not {type(values).__name__}: its items have no order")
+        raise TypeError(f"value has to be one column, not {type(values).__name__}: its items have no order")
     values = values.to_numpy() if _is_of_pandas(values) and values.dtype.kind in "Oiu" else values
     of_numpy = getattr(values, "dtype", None)
     if getattr(of_numpy, "itemsize", 0) > 1 and getattr(values, "ndim", 1) != 1:
-        raise TypeError(f"{name} has to be one column, not an array of {values.ndim} dimensions: pass values[:, 0], or values.ravel()")
+        cure = "values[:, 0], or " * (values.ndim == 2)
+        raise TypeError(f"value has to be one column, not an array of {values.ndim} dimensions: pass {cure}values.ravel()")
     return values.tolist() if hasattr(values, "filled") else values
 
 
 def _items(texts):
-    """What iterates over texts, or has bytes or integers in memory, and whether the items are lines of a file."""
+    """What iterates over texts, or has bytes or integers in memory, whether the items are lines of a file, and the index and the
+    name of a Series."""
     if isinstance(texts, str):
-        raise TypeError(f"texts has to be an iterable of texts, a file, or bytes, not {type(texts).__name__}")
-    values = _checked("texts", texts)
+        raise TypeError(f"value has to be an iterable of texts, a file, or bytes, not {type(texts).__name__}")
+    values = _checked(texts)
     kind = getattr(getattr(values, "dtype", None), "kind", "")
     if values is not texts and kind in ("i", "u") and values.dtype.itemsize == 1:
-        raise TypeError(f'texts has integers of one byte, which are texts in memory: astype("int64") makes integers of a {type(texts).__name__} of {values.dtype}')
+        raise TypeError(f'value has integers of one byte, which are texts in memory: astype("int64") makes integers of a {type(texts).__name__} of {values.dtype}')
     if kind in ("S", "U"):
-        return chain.from_iterable(_lists(values)), False
-    return values, hasattr(texts, "readline")
+        return chain.from_iterable(_lists(values)), False, None
+    labels = (texts.index, texts.name) if _is_of_pandas(texts, "Series") else None
+    return values, hasattr(texts, "readline"), labels
 
 
 def _lists(values):
@@ -438,16 +469,18 @@ def _numbers_of(numbers, kind):
 
     if kind is None:
         if not isinstance(numbers, Column):
-            raise TypeError(f"numbers has to be a Column, not {type(numbers).__name__}, unless there is a kind")
+            raise TypeError(f"value has to be a Column, not {type(numbers).__name__}, unless there is a kind")
         kind = numbers.kind
+    if isinstance(kind, str) and kind == "datetime_offset":
+        raise ValueError(f"text_column cannot print offsets, only {' or '.join(_PRINTED)}")
     place = _choice("kind", kind, *_PRINTED)
     if isinstance(numbers, Column):
         if kind != numbers.kind:
             raise ValueError(f"the column is of kind {numbers.kind}, not {kind}")
         return numbers.numbers, place
     if isinstance(numbers, (str, bytes, bytearray)):
-        raise TypeError(f"numbers has to be an iterable of integers, not {type(numbers).__name__}")
-    values = _checked("numbers", numbers)
+        raise TypeError(f"value has to be an iterable of integers, not {type(numbers).__name__}")
+    values = _checked(numbers)
     of_numpy, unit = getattr(values, "dtype", None), _UNITS[kind]
     if getattr(of_numpy, "kind", "") not in ("m", "M"):
         return values, place
@@ -455,4 +488,4 @@ def _numbers_of(numbers, kind):
         return values.to_numpy().view("int64") if _is_of_pandas(values) else values.view("int64"), place
     zone = f"{'.dt' * hasattr(values, 'dt')}.tz_convert(None)" if hasattr(of_numpy, "tz") else ""
     cure = f'{zone}.to_numpy("{unit}")' if _is_of_pandas(values) else f'astype("{unit}")'
-    raise TypeError(f"numbers has to be of {unit}, not {of_numpy}: {cure} makes it so")
+    raise TypeError(f"value has to be of {unit}, not {of_numpy}: {cure} makes it so")

@@ -1,5 +1,5 @@
 import array
-from typing import Any, Iterator, List, Literal, Optional, Union, final, overload
+from typing import Any, Iterator, List, Literal, Optional, Sequence, Tuple, Union, final, overload
 
 class ParseError(ValueError):
     code: str
@@ -20,7 +20,7 @@ class ParseError(ValueError):
     def hint(self) -> Optional[str]: ...
     def message(self) -> str: ...
 
-class Refused:
+class Refused(Sequence[ParseError]):
     indices: array.array[int]
     def __init__(
         self, indices: array.array[int], codes: array.array[int], texts: List[Union[str, bytes]], call: int
@@ -34,7 +34,7 @@ class Refused:
     @property
     def codes(self) -> List[str]: ...
 
-class Column:
+class Column(Sequence[int]):
     kind: Literal["date", "time", "datetime", "datetime_clock", "datetime_offset", "duration"]
     numbers: array.array[int]
     refused: Refused
@@ -47,7 +47,13 @@ class Column:
     def __iter__(self) -> Iterator[int]: ...
     @property
     def dtype(self) -> Any: ...
+    @property
+    def ndim(self) -> int: ...
+    @property
+    def shape(self) -> Tuple[int]: ...
+    def reshape(self, shape: Any) -> Any: ...
     def tolist(self) -> List[int]: ...
+    def series(self) -> Any: ...
     def __array__(self, dtype: Any = None, copy: Optional[bool] = None) -> Any: ...
 
 @final

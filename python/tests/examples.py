@@ -21,9 +21,19 @@ import speedate
 CASES = {
     "frame": ("import pandas", "True", "True"),
     "pandas": ("import pandas", "True", "True"),
-    "only for pandas before 2": (
-        "import numpy, pandas", "frame['moment'].tolist()",
+    "column.series()": (
+        "import pandas", "frame['moment'].tolist()",
         "[pandas.Timestamp('2026-11-01T08:00Z'), pandas.NaT, pandas.Timestamp('2026-11-02T08:30Z')]"),
+    "moments = numpy.array(column)": (
+        "import numpy; frame = pandas.DataFrame({'moment': ['1677-09-21T00:12:43Z', '2026-11-01T08:00Z', '9999-12-31T00:00Z']}, [5, 3, 1]); column = speedate.datetime_column(frame['moment'])",
+        "frame['moment'].tolist()", "[pandas.NaT, pandas.Timestamp('2026-11-01T08:00Z'), pandas.NaT]"),
+    "ArgumentTypeError": (
+        "import argparse, sys; from __main__ import why; parser = argparse.ArgumentParser(); parser.error = sys.exit",
+        "parser.parse_args(['--day', '2020-02-29']).day, why(parser.parse_args, ['--day', '2021-02-29'])",
+        "datetime.date(2020, 2, 29), \"argument --day: out_of_range_day at 8: expected a day that the month has: '2021-02-29'\""),
+    "create_function": (
+        "import sqlite3; connection = sqlite3.connect(':memory:'); connection.execute(\"CREATE TABLE payments AS SELECT '2020-02-29T12:13Z' AS moment UNION ALL SELECT NULL UNION ALL SELECT 'never'\")",
+        "rows", "[(1, None), (3, \"too_short at 5: expected a date-time: YYYY-MM-DDTHH:MM or YYYY-MM-DDTHH:MM:SS: 'never'\")]"),
     "lines = speedate.text_column": (
         "frame = pandas.DataFrame({'moment': pandas.to_datetime(['2020-02-29T12:13:14.5Z', None])})", "lines", "b'2020-02-29T12:13:14.500000Z\\n\\n'"),
     "rows = []": (
@@ -65,12 +75,12 @@ def check_refused(frame, refused, accepted):
     assert all(part == "30" for text, part in parts if text.startswith("2021-02-30")), parts
 
 
-def frames():
-    """The frames that a block runs on, each with a function that gives what it is after that."""
+def frames(wide):
+    """The frames that a block runs on, each with a function that gives what it is after that. Some have a wide range of years."""
     import pandas
 
     texts = [f"{1700 + it * 7 % 500}-0{it % 9 + 1}-1{it % 10}T{it % 24:02}:00{('Z', '+01:00', '-05:30')[it % 3]}" for it in range(500)]
-    cells = {7: None, 8: "2021-02-30T00:00Z", 9: "", 10: WIDE[0], 11: WIDE[1]}
+    cells = {7: None, 8: "2021-02-30T00:00Z", 9: "", **(dict(zip((10, 11), WIDE)) if wide else {})}
     frame = pandas.DataFrame({"number": range(500), "moment": [cells.get(it % 50, text) for it, text in enumerate(texts)]})
     yield "sorted", frame.sort_values("moment"), moved
     yield "filtered", frame[frame["number"] % 3 == 1], moved
@@ -94,10 +104,10 @@ def partly(frame, block):
         return dask.dataframe.from_pandas(frame, npartitions=4).map_partitions(functools.partial(moved, block=block), meta=wanted.head(0)).compute()
 
 
-def check_frames(block):
+def check_frames(block, wide=False):
     import pandas
 
-    for name, frame, run in frames():
+    for name, frame, run in frames(wide):
         told, wanted = run(frame, block)["moment"], pandas.to_datetime(frame["moment"], utc=True, errors="coerce")
         assert told.index.tolist() == wanted.index.tolist(), f"a frame that is {name} has other rows after\n{block}"
         wrong = sum(here is not there and here != there for here, there in zip(told, wanted))
@@ -198,6 +208,14 @@ def check_mended(document):
         assert what_becomes(text).startswith("`") and speedate.datetime(eval(line.strip("`"), {"text": text, "re": re})) == wanted, printer
 
 
+def why(call, *given):
+    """What a program says as it ends."""
+    try:
+        call(*given)
+    except SystemExit as error:
+        return str(error)
+
+
 def read_by(call, given):
     told = eval(call, given)
     return told["moment"] if hasattr(told, "columns") else told
@@ -220,8 +238,11 @@ for block in re.findall(r"^```python\n((?!>>>).*?)^```$", text, re.M | re.S):
     for _, value, wanted in cases:
         assert eval(value, names) == eval(wanted, names), f"{value} is {eval(value, names)} after\n{block}"
     if "refused = " in block:
+        csv = block
         check_frames(block)
         check_missing_words(block)
+    if "moments = numpy.array(column)" in block:
+        check_frames(csv.rpartition("frame[")[0] + block, wide=True)
 check_ways(text)
 check_items(text)
 check_mended(text)

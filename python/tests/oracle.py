@@ -203,7 +203,7 @@ def _expected(code, kind):
 # ---- Arguments ----
 
 
-def _bytes(text, name="text"):
+def _bytes(text, name="value"):
     """The bytes of a text. No method is called that a subclass may have."""
     if isinstance(text, str):
         return str.encode(text, "utf-8", "surrogatepass")
@@ -366,16 +366,16 @@ def duration(value, *, config=None):
     return _read("duration", "", value, config)
 
 
-def date_front(text):
-    return _read_front(_PARSERS["date_front"], text)
+def date_front(value):
+    return _read_front(_PARSERS["date_front"], value)
 
 
-def time_front(text, *, config=None):
-    return _read_front(_PARSERS["time_front"], text, _configured(config))
+def time_front(value, *, config=None):
+    return _read_front(_PARSERS["time_front"], value, _configured(config))
 
 
-def datetime_front(text, *, config=None):
-    return _read_front(_PARSERS["datetime_front"], text, _configured(config))
+def datetime_front(value, *, config=None):
+    return _read_front(_PARSERS["datetime_front"], value, _configured(config))
 
 
 def _view(texts):
@@ -402,7 +402,7 @@ def _lines(texts, lines):
     if isinstance(texts, (bytes, bytearray)):
         texts = io.BytesIO(_bytes(texts))
     elif not isinstance(texts, (list, tuple)):
-        items, is_file = _items(texts)
+        items, is_file, _ = _items(texts)
         view = _view(items)
         texts, lines = (items, lines or is_file) if view is None else (io.BytesIO(view.tobytes()), True)
     are_lines = lines or isinstance(texts, io.BytesIO)
@@ -510,7 +510,7 @@ def _check(code):
         raise ParseError(code)
 
 
-def datetime_column(texts, *, config=None, timestamps=False, strict=False, missing_offset="error", refused="stop", empty="error", lines=False):
+def datetime_column(value, *, config=None, timestamps=False, strict=False, missing_offset="error", refused="stop", empty="error", lines=False):
     def number_of(out):
         if not out.has_offset and missing_offset == "error":
             raise ParseError(TZ_REQUIRED)
@@ -518,23 +518,23 @@ def datetime_column(texts, *, config=None, timestamps=False, strict=False, missi
 
     ending = _form(timestamps, strict)
     _choice("missing_offset", missing_offset, "error", "utc")
-    return _column("datetime", ending, number_of, config, texts, refused, empty, lines, timestamps, _datetime_of_timestamp)
+    return _column("datetime", ending, number_of, config, value, refused, empty, lines, timestamps, _datetime_of_timestamp)
 
 
-def datetime_clock_column(texts, *, config=None, timestamps=False, strict=False, refused="stop", empty="error", lines=False):
+def datetime_clock_column(value, *, config=None, timestamps=False, strict=False, refused="stop", empty="error", lines=False):
     def number_of(out):
         return (_second_in_utc(out) + out.has_offset * out.offset) * 1_000_000 + out.microsecond
 
-    return _column("datetime_clock", _form(timestamps, strict), number_of, config, texts, refused, empty, lines, timestamps, _datetime_of_timestamp)
+    return _column("datetime_clock", _form(timestamps, strict), number_of, config, value, refused, empty, lines, timestamps, _datetime_of_timestamp)
 
 
-def datetime_offset_column(texts, *, config=None, timestamps=False, strict=False, refused="stop", empty="error", lines=False):
+def datetime_offset_column(value, *, config=None, timestamps=False, strict=False, refused="stop", empty="error", lines=False):
     def number_of(out):
         if not out.has_offset:
             raise ParseError(TZ_REQUIRED)
         return out.offset
 
-    return _column("datetime_offset", _form(timestamps, strict), number_of, config, texts, refused, empty, lines, timestamps, _datetime_of_timestamp)
+    return _column("datetime_offset", _form(timestamps, strict), number_of, config, value, refused, empty, lines, timestamps, _datetime_of_timestamp)
 
 
 def _second_in_utc(out):
@@ -543,28 +543,28 @@ def _second_in_utc(out):
     return micros.value // 1_000_000
 
 
-def date_column(texts, *, config=None, timestamps=False, refused="stop", empty="error", lines=False):
+def date_column(value, *, config=None, timestamps=False, strict=False, refused="stop", empty="error", lines=False):
     def number_of(out):
         days = ctypes.c_int32()
         _check(_library.speedate_date_days(out, days))
         return days.value
 
-    return _column("date", _form(timestamps, False), number_of, config, texts, refused, empty, lines, timestamps, _date_of_timestamp)
+    return _column("date", _form(timestamps, strict).replace("_strict", "_text"), number_of, config, value, refused, empty, lines, timestamps, _date_of_timestamp)
 
 
-def time_column(texts, *, config=None, strict=False, refused="stop", empty="error", lines=False):
+def time_column(value, *, config=None, strict=False, refused="stop", empty="error", lines=False):
     def number_of(out):
         return ((out.hour * 60 + out.minute) * 60 + out.second) * 1_000_000 + out.microsecond
 
-    return _column("time", _form(False, strict).replace("_text", ""), number_of, config, texts, refused, empty, lines)
+    return _column("time", _form(False, strict).replace("_text", ""), number_of, config, value, refused, empty, lines)
 
 
-def duration_column(texts, *, config=None, refused="stop", empty="error", lines=False):
+def duration_column(value, *, config=None, refused="stop", empty="error", lines=False):
     def number_of(out):
         size = _fitting((out.day * 86_400 + out.second) * 1_000_000 + out.microsecond, 0, 2**63 - 1)
         return -size if out.negative else size
 
-    return _column("duration", "", number_of, config, texts, refused, empty, lines)
+    return _column("duration", "", number_of, config, value, refused, empty, lines)
 
 
 def _line(number, kind):
@@ -592,23 +592,25 @@ def _numbers_of(numbers, kind):
     """The integers of a column, and its kind, if it has no times of NumPy."""
     is_column = type(numbers).__name__ == "Column"
     if kind is None and not is_column:
-        raise TypeError(f"numbers has to be a Column, not {type(numbers).__name__}, unless there is a kind")
+        raise TypeError(f"value has to be a Column, not {type(numbers).__name__}, unless there is a kind")
     kind = numbers.kind if kind is None else kind
+    if kind == "datetime_offset":
+        raise ValueError(f"text_column cannot print offsets, only {' or '.join(PRINTED)}")
     _choice("kind", kind, *PRINTED)
     if is_column:
         if kind != numbers.kind:
             raise ValueError(f"the column is of kind {numbers.kind}, not {kind}")
         return numbers.numbers, kind
     if isinstance(numbers, (str, bytes, bytearray)):
-        raise TypeError(f"numbers has to be an iterable of integers, not {type(numbers).__name__}")
+        raise TypeError(f"value has to be an iterable of integers, not {type(numbers).__name__}")
     if isinstance(numbers, (dict, set)):
         why = "its items have no order" if isinstance(numbers, set) else "pass its values, or one of its columns"
-        raise TypeError(f"numbers has to be one column, not {type(numbers).__name__}: {why}")
+        raise TypeError(f"value has to be one column, not {type(numbers).__name__}: {why}")
     return numbers, kind
 
 
-def text_column(numbers, *, kind=None):
-    numbers, kind = _numbers_of(numbers, kind)
+def text_column(value, *, kind=None):
+    numbers, kind = _numbers_of(value, kind)
     lines, most = [], 2**31 - 1 if kind == "date" else 2**63 - 1
     for index, it in enumerate(numbers):
         number = -(2**63) if _is_missing(it) else _whole("number", index, it)

@@ -229,7 +229,7 @@ class Sources(unittest.TestCase):
                 self.assertEqual(column(it, config=unix, timestamps=True), [5_000_000, 20_000_000_000])
         for kind in ("int8", "uint8"):
             for it in (pandas.Series([1, 2], dtype=kind), *([pandas.Index([1, 2], dtype=kind)] if pandas.Index([1], dtype=kind).dtype == kind else [])):
-                with self.assertRaisesRegex(TypeError, r"^texts has integers of one byte, which are texts in memory: astype\(\"int64\"\) makes "):
+                with self.assertRaisesRegex(TypeError, r"^value has integers of one byte, which are texts in memory: astype\(\"int64\"\) makes "):
                     column(it, config=unix, timestamps=True)
         # A file with an empty cell has floats, of which Int64 makes integers.
         frame = pandas.read_csv(io.StringIO("a,b\n1,5\n,6\n"))
@@ -265,7 +265,7 @@ class Sources(unittest.TestCase):
         frame = pandas.read_csv(io.StringIO(f"name,moment\na,{SECOND}\nb,\n"))
         self.assertEqual(column(frame["moment"]), [1_000_000, NAT])
         self.assertEqual(column(frame["moment"].astype("category")), [1_000_000, NAT])
-        with self.assertRaisesRegex(TypeError, "^texts has to be one column, not DataFrame: pass its values, or one of its columns$"):
+        with self.assertRaisesRegex(TypeError, "^value has to be one column, not DataFrame: pass its values, or one of its columns$"):
             column(frame)
         with self.assertRaisesRegex(TypeError, "^NaT has no text$"):
             speedate.text(pandas.NaT)
@@ -378,7 +378,7 @@ class Units(unittest.TestCase):
             wanted = [pandas.Timestamp(number, unit=unit[3:-1]) if unit[0] == "M" else pandas.Timedelta(number, unit=unit[3:-1]), pandas.NaT]
             frame = pandas.DataFrame({"a": [1, 2]})
             frame["b"] = column
-            made = [pandas.Series(column), pandas.Series(column[:]), pandas.Series(column[::-1])[::-1], frame.assign(m=column)["m"], frame["b"], pandas.DataFrame({"m": column})["m"], pandas.Series(column, index=[5, 3])]
+            made = [pandas.Series(column), column.series(), column[:].series(), pandas.Series(column[::-1])[::-1], pandas.DataFrame(column)[0], frame.assign(m=column)["m"], frame["b"], pandas.DataFrame({"m": column})["m"], pandas.Series(column, index=[5, 3])]
             if unit[0] == "M":
                 made += [pandas.Series(pandas.to_datetime(column)), pandas.Series(pandas.to_datetime(column, utc=True)).dt.tz_convert(None)]
             else:
@@ -394,6 +394,42 @@ class Units(unittest.TestCase):
             self.assertIs(told[1], pandas.NaT)
         self.assertEqual(column.tolist(), [960, NAT])
 
+    @unittest.skipUnless(pandas and not hasattr(sys, "gettotalrefcount"), "there is no pandas, or a debug Python, which its objects stop")
+    def test_series(self):
+        """The rows of a column are those of the Series that it was read from."""
+        texts, second = [SECOND, "x", None, SECOND], pandas.Timestamp(SECOND).tz_convert(None)
+        levels = pandas.MultiIndex.from_product([["a", "b"], [1, 2]])
+        for index in ([5, 3, 5, 1], list("dcba"), levels, pandas.date_range("2026-11-01", periods=4), pandas.RangeIndex(8, 0, -2)):
+            for name in ("moment", None, ("a", 1)):
+                for kind in ("object", "string", "category"):
+                    read = pandas.Series(texts, index, name=name, dtype=kind)
+                    column = speedate.datetime_column(read, refused="collect")
+                    wanted = pandas.Series([second, pandas.NaT, pandas.NaT, second], index, name=name, dtype=numpy.asarray(pandas.Series(column)).dtype)
+                    for told in (column, pickle.loads(pickle.dumps(column)), column[:], speedate.datetime_column(read, refused="number")):
+                        pandas.testing.assert_series_equal(told.series(), wanted)
+                    for place in (slice(1, None), slice(None, None, -2), slice(9, None)):
+                        pandas.testing.assert_series_equal(column[place].series(), wanted.iloc[place])
+        frame = pandas.DataFrame({"moment": texts})[1:][::-1]
+        frame["told"] = speedate.datetime_column(frame["moment"], refused="number").series()
+        self.assertEqual(frame["told"].tolist(), [second, pandas.NaT, pandas.NaT])
+        unix = {"timestamps": True, "config": speedate.Config("s", 0)}
+        for it in (pandas.Series([1, 2], [4, 3], name="n"), pandas.Series([1, 2], [4, 3], name="n", dtype="Int64")):
+            told = speedate.datetime_column(it, **unix).series()
+            self.assertEqual((told.index.tolist(), told.name, told.dt.second.tolist()), ([4, 3], "n", [1, 2]))
+        # What has no labels gives none.
+        for it in (texts, tuple(texts), iter(texts), numpy.array([*map(str, texts)]), pandas.Index(texts, name="moment"), frame["moment"].tolist(), LINES):
+            told = speedate.datetime_column(it, refused="number").series()
+            self.assertEqual((told.index.tolist(), told.name), ([*range(len(told))], None))
+        kept = sys.getrefcount(read.index)
+        for _ in range(100):
+            speedate.datetime_column(read, refused="number")
+        self.assertLess(sys.getrefcount(read.index) - kept, 50)
+        # It has its own memory.
+        column = speedate.duration_column(pandas.Series(["PT1S"]))
+        told = column.series()
+        told[0] = pandas.NaT
+        self.assertEqual((column.tolist(), told.tolist()), ([1_000_000], [pandas.NaT]))
+
     @unittest.skipUnless(numpy, "NumPy is not installed")
     def test_masked(self):
         mask = [False, True, False]
@@ -405,16 +441,19 @@ class Units(unittest.TestCase):
     @unittest.skipUnless(pandas and not hasattr(sys, "gettotalrefcount"), "there is no pandas, or a debug Python, which its objects stop")
     def test_errors_with_cures(self):
         texts = numpy.array([[SECOND, SECOND], [SECOND, SECOND]])
-        for wrong in (texts, texts.astype("O"), numpy.ma.array(texts), numpy.zeros((1, 2), "i8"), texts[:1], numpy.array(SECOND)):
-            with self.assertRaisesRegex(TypeError, r"^texts has to be one column, not an array of [02] dimensions: pass values\[:, 0\], or values.ravel\(\)$"):
+        for wrong in (texts, texts.astype("O"), numpy.ma.array(texts), numpy.zeros((1, 2), "i8"), texts[:1]):
+            with self.assertRaisesRegex(TypeError, r"^value has to be one column, not an array of 2 dimensions: pass values\[:, 0\], or values.ravel\(\)$"):
                 column(wrong)
-        self.assertEqual(column(texts[:, 0]) + column(texts.ravel()), [1_000_000] * 6)
+        for wrong in (numpy.array(SECOND), numpy.array(5), texts.reshape(1, 2, 2)):
+            with self.assertRaisesRegex(TypeError, r"^value has to be one column, not an array of [03] dimensions: pass values.ravel\(\)$"):
+                column(wrong)
+        self.assertEqual(column(texts[:, 0]) + column(texts.ravel()) + column(numpy.array(SECOND).ravel()), [1_000_000] * 7)
         moments = pandas.Series(pandas.to_datetime([SECOND]))
         for wrong in (moments, moments.dt.tz_convert(None), pandas.Index(moments), moments.dt.tz_convert(None).to_numpy()):
             with self.assertRaisesRegex(TypeError, "^text 0 has to be .*, not (Timestamp|datetime64): it is parsed already$"):
                 column(wrong)
         for wrong in (moments, pandas.Index(moments), moments.dt.tz_convert(None)):
-            with self.assertRaisesRegex(TypeError, r"^numbers has to be of datetime64\[us\], not datetime64\[ns(, UTC)?\]: (.*) makes it so$") as caught:
+            with self.assertRaisesRegex(TypeError, r"^value has to be of datetime64\[us\], not datetime64\[ns(, UTC)?\]: (.*) makes it so$") as caught:
                 speedate.text_column(wrong, kind="datetime")
             cured = eval(f"wrong{str(caught.exception).split(': ')[1].replace(' makes it so', '')}")
             self.assertEqual(speedate.text_column(cured, kind="datetime"), b"1970-01-01T00:00:01Z\n")
@@ -693,7 +732,7 @@ class Printed(unittest.TestCase):
                 sources += [whole, whole.astype(">i8"), numpy.repeat(whole, 2)[::2], whole.view(unit), numpy.repeat(whole.view(unit), 2)[::2], whole.astype(object)]
                 self.assertEqual(speedate.text_column(numpy.array([5, 100], "i1"), kind=kind), speedate.text_column([5, 100], kind=kind))
                 for wrong in ("M8[ns]", "m8[s]", "M8[D]" if unit != "M8[D]" else "M8[us]"):
-                    with self.assertRaisesRegex(TypeError, r"^numbers has to be of \w+64\[\w+\], not \w+64\[\w+\]: astype\(.* makes it so$"):
+                    with self.assertRaisesRegex(TypeError, r"^value has to be of \w+64\[\w+\], not \w+64\[\w+\]: astype\(.* makes it so$"):
                         speedate.text_column(whole.view(wrong), kind=kind)
             if pandas:
                 sources += [pandas.Series(numbers, index=[3, 2, 1]), pandas.Index(numbers), pandas.Series([5, None, 1_000], dtype="Int64")]
@@ -721,6 +760,7 @@ class Interpreter(unittest.TestCase):
         def interrupt(*_):
             raise Interrupt
 
+        gc.collect()  # what other tests left behind could hear the signal
         before = signal.signal(signal.SIGALRM, interrupt)
         try:
             moments = [(speedate.datetime_column, it) for it in self.sources(2_000_000)]

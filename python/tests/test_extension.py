@@ -200,15 +200,20 @@ def mapped(lines):
     return made
 
 
-# The drawn values of a parameter, and what makes those that a call uses up. The first parameter of `text` has its own.
+# The drawn values of a parameter.
 DRAWN = {
-    "text": drawn_text, "value": drawn_input,
     **dict.fromkeys(["timestamps", "strict", "lines"], lambda draw, name: draw.random() < 0.5),
     "missing_offset": lambda draw, name: draw.choice(["error", "utc"]), "refused": lambda draw, name: draw.choice(["stop", "number", "collect"]),
     "empty": lambda draw, name: draw.choice(["error", "nat"]), "kind": lambda draw, name: draw.choice([*KINDS, *KINDS, None]),
     "digits": lambda draw, name: draw.choice([None, 0, 3, 6, 6, 3, 1, 9, -3, "3", True])}
-MADE = {"texts": drawn_column, "numbers": drawn_numbers}
 PARAMETERS = {name: list(inspect.signature(getattr(speedate, name)).parameters.values()) for name in CALLS}
+
+
+def drawn_first(draw, name):
+    """What a call gets first."""
+    if name.endswith("_column"):  # anew, since a side may use it up
+        return anew((drawn_numbers if name == "text_column" else drawn_column)(draw, name))
+    return same((drawn_value if name == "text" else drawn_text if name.endswith("_front") else drawn_input)(draw, name))
 
 
 def drawn_call(draw):
@@ -217,10 +222,8 @@ def drawn_call(draw):
     for place, it in enumerate(PARAMETERS[name]):
         if it.default is not it.empty and draw.random() < 0.5:
             continue
-        if it.name in MADE:
-            value = anew(MADE[it.name](draw, name))
-        elif (name, it.name) == ("text", "value"):
-            value = same(drawn_value(draw, name))
+        if it.name == "value":
+            value = drawn_first(draw, name)
         else:
             value = draw.choice(CONFIGS) if it.name == "config" else same(DRAWN[it.name](draw, name))
         if it.kind is not it.KEYWORD_ONLY and len(positional) == place and draw.random() < 0.8:
@@ -289,20 +292,23 @@ ODD = list(map(same, [
     Index(5), Index(2**70), Index(None), Iterates("2020-02-29T00:00Z"), Iterates(5), Iterates("2020-02-29T00:00Z", "2020-02-29T00:00Z"), Nameless("N", (), {})(),
     Other("2020-02-29"), type("Bytes", (bytes,), {})(b"12:13"), collections.UserString("1"), Ellipsis, NotImplemented, ValueError("x"), types,
 ])) + [lambda side: released(), lambda side: side.Config, lambda side: side.Config("ms", 0), lambda side: side, lambda side: side.ParseError, lambda side: io.BytesIO(b"\n")]
-RIGHT = {"text": "12:13", "value": "12:13", "texts": [], "numbers": []}
+
+
+def right(name):
+    """What a call may get first."""
+    return [] if name.endswith("_column") else DAY if name == "text" else "12:13"
 
 
 def wrong_calls():
     """Each of the objects for each argument of each call, the others right; and the words that no call has."""
     for name in CALLS:
-        needed = {it.name: same(DAY if name == "text" else RIGHT[it.name]) for it in PARAMETERS[name] if it.default is it.empty}
+        needed = {"value": same(right(name))}
         for it in PARAMETERS[name]:
             for wrong in ODD:
                 yield name, (), {**needed, it.name: wrong}
         yield name, (), {**needed, "other": same(1)}
-        yield name, [same("12:13")], {PARAMETERS[name][0].name: same("12:13")}
-        for it in needed:
-            yield name, (), {word: value for word, value in needed.items() if word != it}
+        yield name, [same("12:13")], {"value": same("12:13")}
+        yield name, (), {}
 
 
 # ---- References ----
@@ -445,7 +451,7 @@ class Extension(unittest.TestCase):
         configs = [("Config", (), {field: wrong}) for field in speedate.Config.__match_args__ for wrong in ODD]
         for name, positional, named in [*wrong_calls(), *configs]:
             wanted, told = (outcome(side, name, positional, named) for side in SIDES)
-            with self.subTest(name, named={word: it(speedate) for word, it in named.items() if word != "text"}):
+            with self.subTest(name, named={word: it(speedate) for word, it in named.items()}):
                 self.assertEqual(told, wanted)
 
     def test_drawn_wrong_types(self):
@@ -461,18 +467,17 @@ class Extension(unittest.TestCase):
 
     def test_tampered_config(self):
         numbers = [None, 5, "x" * 8, b"", b"x" * 7, b"x" * 9, bytearray(8), type("Bytes", (bytes,), {})(8), [1]]
-        calls = [(name, RIGHT[PARAMETERS[name][0].name]) for name in CALLS if any(it.name == "config" for it in PARAMETERS[name])]
-        for name, right in calls:
+        for name in (name for name in CALLS if any(it.name == "config" for it in PARAMETERS[name])):
             for it in numbers:
                 config = speedate.Config()
                 object.__setattr__(config, "_numbers", it)
                 with self.subTest(name, it=it), self.assertRaisesRegex(TypeError, "config is not as Config made it"):
-                    getattr(speedate, name)(right, config=config)
+                    getattr(speedate, name)(right(name), config=config)
             config = speedate.Config()
             for byte in range(8):
                 object.__setattr__(config, "_numbers", bytes(0xFF if it == byte else 0 for it in range(8)))
                 try:
-                    getattr(speedate, name)(right, config=config)
+                    getattr(speedate, name)(right(name), config=config)
                 except speedate.ParseError as error:
                     self.assertNotEqual(error.code, "ok")
                 except ValueError as error:
@@ -488,7 +493,7 @@ class Extension(unittest.TestCase):
                             getattr(speedate, name)(texts, config=config, refused=refused, **options)
             object.__delattr__(config, "_numbers")
             with self.assertRaises(AttributeError):
-                getattr(speedate, name)(right, config=config)
+                getattr(speedate, name)(right(name), config=config)
 
     def test_functions(self):
         for name in CALLS:

@@ -1,7 +1,7 @@
 """Tests of the module that is installed: its docstrings and names, the rows below and those of C, the recorded lines of diff/,
 and texts that `datetime` reads too."""
 import array
-import collections
+import collections.abc
 import copy
 import datetime
 import decimal
@@ -71,14 +71,18 @@ speedate.datetime("2020-02-29T12:13", None) -> TypeError: datetime() takes at mo
 date("2020-02-29", strict=True) -> TypeError: date() got an unexpected keyword argument 'strict'
 text_column(date_column(["2020-01-01"]), kind="datetime") -> ValueError: the column is of kind date, not datetime
 text_column(date_column(["2020-01-01", None])), text_column(date_column(["2020-01-01"]), kind="date") -> (b'2020-01-01\n\n', b'2020-01-01\n')
-text_column([18262]) -> TypeError: numbers has to be a Column, not list, unless there is a kind
-text_column(datetime_offset_column(["1970-01-01T00:00Z"])) -> ValueError: kind has to be date or time or datetime or datetime_clock or duration
+text_column([18262]) -> TypeError: value has to be a Column, not list, unless there is a kind
+text_column(datetime_offset_column(["1970-01-01T00:00Z"])) -> ValueError: text_column cannot print offsets, only date or time or datetime or datetime_clock or duration
+text_column([0], kind="datetime_offset") -> ValueError: text_column cannot print offsets, only date or time or datetime or datetime_clock or duration
+text_column([0], kind="dates") -> ValueError: kind has to be date or time or datetime or datetime_clock or duration: did you mean date?
 whole(text_column, [0, 10**30], kind="duration"), whole(text_column, [86400000000], kind="time") -> (('1000000000000000000000000000000', 'a number that fits 64 bits, or 32 if it counts days'), ('86400000000', 'a time within the day: 00:00:00 to 23:59:59.999999'))
 whole(text_column, array.array("q", [0, 0, 2932897]), kind="date"), whole(text_column, array.array("Q", [2**63]), kind="time") -> (('2932897', 'a date in the years 0000 to 9999'), ('9223372036854775808', 'a number that fits 64 bits, or 32 if it counts days'))
 date_column(["1970-01-02"] * 12) -> Column('date', [1, 1, 1, 1, 1, 1, 1, 1, 1, 1, .. 2 more])
 date_column(["1970-01-02"]) == date_column(["1970-01-02"]), date_column([]) == time_column([]), date_column(["1970-01-02"]) == [1], date_column([]) != date_column(["1970-01-02"]) -> (True, False, False, True)
 len(date_column(["1970-01-02"])), date_column(["1970-01-02"])[0], [*date_column(["1970-01-02", None])], date_column(["1970-01-02"]).numbers -> (1, 1, [1, -9223372036854775808], array('q', [1]))
 hash(date_column([])) -> TypeError: unhashable type: 'Column'
+isinstance(date_column([]), collections.abc.Sequence), isinstance(date_column([]).refused, collections.abc.Sequence) -> (True, True)
+date_column(["1970-01-02", "1970-01-03"]).index(2), date_column(["1970-01-02"] * 2).count(1), [*reversed(date_column(["1970-01-02", None]))], 5 in date_column([]) -> (1, 2, [-9223372036854775808, 1], False)
 str(checked(ParseError("too_short", b"12", 2, 2, "a time", 5, "a hint"))) -> "too_short in text 5 at 2: expected a time: b'12' (a hint)"
 date_column(date_column(["1970-01-02", None]), refused="collect").refused.codes, hasattr(date_column([]), "dtype") == (importlib.util.find_spec("numpy") is not None) -> (['too_short', 'invalid_char_year'], True)
 date_column(["x"], refused="collect").refused, len(date_column(["x"], refused="number").refused) -> (<1 refused texts>, 0)
@@ -103,17 +107,19 @@ datetime_column(["\ufeff1970-01-01"]) -> ParseError: invalid_char_year in text 0
 datetime_column(["", b"", None, "1970-01-01T00:00Z"], empty="nat") -> Column('datetime', [-9223372036854775808, -9223372036854775808, -9223372036854775808, 0])
 datetime_column(b"\n\r\n1970-01-01T00:00Z\n\n", empty="nat") -> Column('datetime', [-9223372036854775808, -9223372036854775808, 0, -9223372036854775808])
 datetime_column(b"\n \n", empty="nat") -> ParseError: too_short in text 1
-datetime_column([], empty="NaT") -> ValueError: empty has to be error or nat
+datetime_column([], empty="NaT") -> ValueError: empty has to be error or nat: did you mean nat?
+datetime_column([], empty="coerce") -> ValueError: empty has to be error or nat: did you mean nat?
+datetime_column([], empty="") -> ValueError: empty has to be error or nat
 datetime_column([], errors="coerce") -> TypeError: datetime_column() got an unexpected keyword argument 'errors': the word is refused, and refused='number' does what errors='coerce' does in pandas
 speedate.datetime("", errors="coerce") -> TypeError: datetime() got an unexpected keyword argument 'errors'
 datetime_column(bytearray(b"1970-01-01T00:00:00.000001Z\n1969-12-31T23:59:59Z")) -> Column('datetime', [1, -1000000])
 datetime_column(memoryview(b"1970-01-01T00:00Z\n\n"), refused="number") -> Column('datetime', [0, -9223372036854775808])
 datetime_column(it for it in ["0000-01-01T00:00Z", b"9999-12-31T23:59:59.999999-23:59"]) -> Column('datetime', [-62167219200000000, 253402387139999999])
-datetime_column("1970-01-01T00:00Z") -> TypeError: texts has to be an iterable of texts, a file, or bytes, not str
-datetime_column({"moment": ["1970-01-01T00:00Z"]}, refused="number") -> TypeError: texts has to be one column, not dict: pass its values, or one of its columns
-datetime_column({"1970-01-01T00:00Z"}, refused="number") -> TypeError: texts has to be one column, not set: its items have no order
-text_column(frozenset([1]), kind="date") -> TypeError: numbers has to be one column, not frozenset: its items have no order
-datetime_column(types.MappingProxyType({})) -> TypeError: texts has to be one column, not mappingproxy: pass its values, or one of its columns
+datetime_column("1970-01-01T00:00Z") -> TypeError: value has to be an iterable of texts, a file, or bytes, not str
+datetime_column({"moment": ["1970-01-01T00:00Z"]}, refused="number") -> TypeError: value has to be one column, not dict: pass its values, or one of its columns
+datetime_column({"1970-01-01T00:00Z"}, refused="number") -> TypeError: value has to be one column, not set: its items have no order
+text_column(frozenset([1]), kind="date") -> TypeError: value has to be one column, not frozenset: its items have no order
+datetime_column(types.MappingProxyType({})) -> TypeError: value has to be one column, not mappingproxy: pass its values, or one of its columns
 datetime_column({"b": "1970-01-01T00:00Z"}.values()), datetime_column({"1970-01-01T00:00Z": 1}.keys()) -> (Column('datetime', [0]), Column('datetime', [0]))
 datetime_column(memoryview(b"12345678").cast("d")) -> TypeError: text 0 has to be str or bytes or bytearray or memoryview, not float: in pandas astype("Int64") makes integers of floats, which timestamps=True reads
 datetime_column(["1970-01-01T00:00Z", 5], refused="number"), time_column([5, "00:00"], refused="number") -> (Column('datetime', [0, -9223372036854775808]), Column('time', [-9223372036854775808, 0]))
@@ -139,8 +145,11 @@ datetime_column(["1", "1.5"], config=Config(timestamp_offset=0), timestamps=True
 datetime_column(["1"], config=Config("us", 3600), timestamps=True) -> Column('datetime', [-3599999999])
 datetime_column(["1"], config=Config(timestamp_offset=0)) -> TypeError: config has a timestamp_offset, which is not read here: date and datetime do with timestamps=True
 datetime_column([], strict=True, timestamps=True) -> ValueError: strict and timestamps exclude each other
-datetime_column([], missing_offset="UTC") -> ValueError: missing_offset has to be error or utc
-datetime_column([], refused="raise") -> ValueError: refused has to be stop or number or collect
+datetime_column([], missing_offset="UTC") -> ValueError: missing_offset has to be error or utc: did you mean utc?
+datetime_column([], refused="raise") -> ValueError: refused has to be stop or number or collect: did you mean stop?
+datetime_column([], refused="coerce") -> ValueError: refused has to be stop or number or collect: did you mean number?
+datetime_column([], refused="Collected" + "x" * 10**6) -> ValueError: refused has to be stop or number or collect
+datetime_column([], refused=subclass(str, lower=None, __getitem__=None)("Collected")) -> ValueError: refused has to be stop or number or collect: did you mean collect?
 date_column([]), duration_column(b"") -> (Column('date', []), Column('duration', []))
 date_column(["1970-01-02", b"0000-01-01", None, "9999-12-31"]) -> Column('date', [1, -719528, -9223372036854775808, 2932896])
 date_column(b"1970-01-02\n1970-01-01\r") -> Column('date', [1, 0])
@@ -150,8 +159,9 @@ date_column(["86400"]) -> ParseError: too_short in text 0
 date_column(["86400", "1970-01-03"], timestamps=True), date_column(b"86400\n1970-01-03", timestamps=True) -> (Column('date', [1, 2]), Column('date', [1, 2]))
 date_column(["86400000"], config=Config("ms"), timestamps=True), date_column(b"86400000", config=Config("ms"), timestamps=True) -> (Column('date', [1]), Column('date', [1]))
 date_column([], config=Config("ms")) -> TypeError: config has a timestamp_unit, which is not read here: date and datetime do with timestamps=True
-date_column([], strict=True) -> TypeError: date_column() got an unexpected keyword argument 'strict'
-date_column("1970-01-02") -> TypeError: texts has to be an iterable of texts, a file, or bytes, not str
+date_column(["1970-01-02"], strict=True), date_column(b"1970-01-02\n86400", strict=True, refused="number"), listed(["86400"], functools.partial(date_column, strict=True)) -> (Column('date', [1]), Column('date', [1, -9223372036854775808]), ([0], ['too_short'], [5]))
+date_column([], strict=True, timestamps=True) -> ValueError: strict and timestamps exclude each other
+date_column("1970-01-02") -> TypeError: value has to be an iterable of texts, a file, or bytes, not str
 datetime_column([1654646404, "1970-01-01T00:00:01Z", None, numbers(2)], config=Config(timestamp_offset=0), timestamps=True) -> Column('datetime', [1654646404000000, 1000000, -9223372036854775808, 2000000])
 datetime_column(array.array("q", [0, -1, 1500000]), config=Config("us", 0), timestamps=True) -> Column('datetime', [0, -1, 1500000])
 datetime_column(array.array("q", [0, 3600]), config=Config("s", 3600), timestamps=True), datetime_column(range(2), timestamps=True, missing_offset="utc") -> (Column('datetime', [-3600000000, 0]), Column('datetime', [0, 1000000]))
@@ -223,7 +233,7 @@ Config("s", 0, "truncate", "strict") == copy.deepcopy(Config("s", 0, "truncate",
 len({Config(), Config(timestamp_offset=0), Config("s"), Config("infer", None)}) -> 3
 Config() == 5 -> False
 Config().__reduce__() -> (<class 'speedate.Config'>, ('infer', None, 'error', 'lax'))
-pickle.loads(pickle.dumps(Config()).replace(b"error", b"trunc")) -> ValueError: overflow_behavior has to be error or truncate
+pickle.loads(pickle.dumps(Config()).replace(b"error", b"trunc")) -> ValueError: overflow_behavior has to be error or truncate: did you mean truncate?
 setattr(Config(), "timestamp_unit", "s") -> AttributeError: timestamp_unit cannot be changed: a Config stays as it was made
 setattr(Config(), "_numbers", bytes(8)) -> AttributeError: _numbers cannot be changed: a Config stays as it was made
 setattr(Config(), "other", 1) -> AttributeError: other cannot be changed: a Config stays as it was made
@@ -586,6 +596,7 @@ class Speedate(unittest.TestCase):
     def test_names(self):
         functions = [name for name, it in vars(_speedate).items() if inspect.isbuiltin(it) and not name.startswith("_")]
         self.assertEqual((speedate.__all__, len(functions)), (sorted(functions), 15))
+        self.assertEqual({next(iter(inspect.signature(getattr(speedate, it)).parameters)) for it in functions}, {"value"})
         # No other name is public, and a module that was imported before keeps its name.
         self.assertEqual({name for name in vars(speedate) if not name.startswith("_")}, {*functions, "Column", "Config", "ParseError", "Refused"})
         page = pydoc.render_doc(speedate, renderer=pydoc.plaintext)

@@ -3,7 +3,7 @@ import array
 import datetime
 import io
 import mmap
-from typing import Dict, Iterator, List, Union
+from typing import Dict, Iterator, List, Sequence, Union
 
 import speedate
 
@@ -29,11 +29,16 @@ column = speedate.datetime_column(lacking, timestamps=True, refused="number")
 column = speedate.date_column(generated(), empty="nat")
 column = speedate.date_column(io.StringIO())
 column = speedate.duration_column(io.BytesIO(), refused="stop")
+column = speedate.date_column([float("nan"), "2020-02-29"], strict=True)
+column = speedate.time_column(mixed)
+column = speedate.time_column(value=floats)
+numbers: Sequence[int] = column
+errors: Sequence[speedate.ParseError] = column.refused
 column = speedate.time_column(row.values(), strict=True)
 column = speedate.time_column({"": 1}.keys(), lines=True)
 column = speedate.datetime_clock_column(mmap.mmap(-1, 1))
 column = speedate.datetime_offset_column(array.array("q"), timestamps=True)
-lines: bytes = speedate.text_column(column) + speedate.text_column([1, None], kind="duration")
+lines: bytes = speedate.text_column(column) + speedate.text_column([1, None, float("nan")], kind="duration")
 total: int = sum(column) + column[0] + len(column[1:].refused) + len(column.numbers)
 shown: List[str] = [f"{it.message()} {it.text[it.start:it.end]!r} {len(it.text)} {it.expected.title()}" for it in column.refused] + column.refused.codes
 error: speedate.ParseError = speedate.ParseError("too_short", b"", 0, 0, "a date: YYYY-MM-DD")
@@ -57,12 +62,10 @@ column = speedate.datetime_column("1970-01-01T00:00Z")  # assignment
 column = speedate.date_column(row)  # assignment
 column = speedate.date_column({""})  # assignment
 print(speedate.duration_column({}).tolist())  # attr-defined
-column = speedate.time_column(floats)  # arg-type
-column = speedate.datetime_column(mixed)  # arg-type
-column = speedate.datetime_column(array.array("d"), timestamps=True)  # arg-type
 column = speedate.datetime_column([day])  # list-item
 column = speedate.datetime_column(5)  # call-overload
-column = speedate.date_column(texts, strict=True)  # call-overload
+column = speedate.duration_column(texts, strict=True)  # call-overload
+column = speedate.date_column(texts=texts)  # call-overload
 column = speedate.datetime_clock_column(texts, missing_offset="utc")  # call-overload
 column = speedate.datetime_column(texts, refused="coerce")  # call-overload
 column = speedate.datetime_column(texts, errors="coerce")  # call-overload
@@ -71,7 +74,6 @@ speedate.text(datetime.date(2020, 2, 29), digits=3)  # call-overload
 speedate.text(datetime.time(12), digits=2)  # call-overload
 lines = speedate.text_column(b"1", kind="date")  # assignment
 lines = speedate.text_column("1", kind="date")  # assignment
-lines = speedate.text_column(floats, kind="date")  # call-overload
 lines = speedate.text_column(column, kind="dates")  # call-overload
 lines = speedate.text_column([1])  # call-overload
 speedate.ParseError("too_short")  # call-arg
