@@ -31,6 +31,7 @@ static SpeedateConfig chosen(const SpeedateConfig *config) {
 /* The parser of dates in texts has no configuration, which may be out of range. */
 PARSE(date, SpeedateDate,
       case SPEEDATE_TEXT:
+      case SPEEDATE_STRICT:
           if (!config)
               return speedate_date_parse_text(text, size, out);
           break;
@@ -79,6 +80,15 @@ COLUMN(date, int32_t, form, )
 COLUMN(time, int64_t, form, )
 COLUMN(datetime, int64_t, form, READ_CLOCKS)
 COLUMN(duration, int64_t, form == SPEEDATE_TEXT ? SPEEDATE_TEXT : -1, )
+
+#define OFFSET_COLUMN(NAME)                                                                                            \
+    int speedate_##NAME##_offset_column(const char *text, size_t size, int form, const SpeedateConfig *config,         \
+                                        unsigned flags, int32_t *out, uint8_t *errors, size_t room,                    \
+                                        SpeedateProgress *progress) {                                                  \
+        return speedate_##NAME##_offset_lines(text, size, chosen(config), column_of(form, flags), OUTPUTS);            \
+    }
+OFFSET_COLUMN(time)
+OFFSET_COLUMN(datetime)
 
 int speedate_datetime_front_column(const char *text, size_t size, const SpeedateConfig *config, unsigned flags,
                                    SpeedateDateTimeFront *out, uint8_t *errors, size_t room,

@@ -11,14 +11,15 @@
  * - If several things are wrong, SPEEDATE_CONFIG_OUT_OF_RANGE comes first, then SPEEDATE_VALUE_OUT_OF_RANGE. A value
  *   that is out of range fails with SPEEDATE_VALUE_OUT_OF_RANGE, unless the call says otherwise.
  * - A text is passed as an address and a size in bytes. It may hold any bytes, and needs no zero byte at its end. If
- *   the size is 0, the address may be NULL. That holds for arrays too.
+ *   the size is 0, the address may be NULL. That holds for arrays too. A size is never -1: for a string pass strlen.
  * - A text is printed into a buffer of yours, with a zero byte after it, and its length without that byte is written to
  *   *length. A buffer of the size that is named beside the type is always large enough; no call returns the size that
  *   a text needs. Bytes after the zero byte keep their values.
  * - `config`, `offsets`, `errors` and the `part` of a parser may be NULL. `out`, `length`, `progress` and the `part` of
  *   speedate_code_expected may not. What a call writes does not overlap what it reads, but values are passed by value,
  *   so `out` may point to the variable that is passed: speedate_datetime_in_timezone(value, 0, &value).
- * - No call allocates memory or keeps anything for the next one. Any thread may make any call at any time.
+ * - No call allocates memory, reads or sets errno, or keeps anything for the next one. Any thread may make any call at
+ *   any time, and so may a signal handler.
  *
  * GRAMMAR.md lists the texts and their faults, and C.md shows how to build the library and to call it. Both are
  * installed in share/doc/speedate, and are in docs/ of the repository.
@@ -322,7 +323,8 @@ typedef struct SpeedateDuration {
  * date-times "1582978394.5". Every whole number is one, "20200229" too. For dates, where it has to be a midnight, and
  * date-times, to which it gives the offset of the configuration. */
 #define SPEEDATE_OR_TIMESTAMP 1
-/* RFC 3339 and nothing else. It also refuses a second 60. For times and date-times. */
+/* RFC 3339 and nothing else. It also refuses a second 60. For dates, where it is the same as SPEEDATE_TEXT, times and
+ * date-times. */
 #define SPEEDATE_STRICT 2
 /* The text begins with a value, and part->end says where that ends. What follows is up to you: a date-time whose offset
  * comes after a space, "2026-11-01 08:00:00 -0500", is read without an offset, and ends at 19. It is never a timestamp.
@@ -410,9 +412,13 @@ SPEEDATE_NODISCARD int speedate_date_from_days(int32_t days, SpeedateDate *out);
  * offset is taken to be in UTC. */
 SPEEDATE_NODISCARD int speedate_datetime_unix_microseconds(SpeedateDateTime value, int64_t *out);
 
+/* The date-time in UTC of such a number: 1970-01-01T00:00:01.500000Z for 1500000. It fails with
+ * SPEEDATE_DATE_TOO_SMALL before the year 0000, and SPEEDATE_DATE_TOO_LARGE after the year 9999. */
+SPEEDATE_NODISCARD int speedate_datetime_from_unix_microseconds(int64_t microseconds, SpeedateDateTime *out);
+
 /* The date-time `microsecond` microseconds after a timestamp in the unit of the configuration, with the offset of
- * the configuration: 1970-01-01T00:00:01.000002 for 1 second and 2 microseconds. With SPEEDATE_UNIT_MICROSECOND and
- * an offset of 0 it inverts speedate_datetime_unix_microseconds. It fails with SPEEDATE_TIME_TOO_LARGE if
+ * the configuration: 1970-01-01T00:00:01.000002 for 1 second and 2 microseconds. With the default configuration the
+ * timestamp 1500000 is in seconds, and the date-time has no offset. It fails with SPEEDATE_TIME_TOO_LARGE if
  * `microsecond` and the microseconds of the timestamp beyond its seconds are together over 4,294,967,295, or the
  * second does not fit 64 bits, SPEEDATE_DATE_TOO_SMALL before the year 0000, and SPEEDATE_DATE_TOO_LARGE after the
  * year 9999. */
@@ -533,6 +539,17 @@ typedef struct SpeedateDateTimeFront {
 SPEEDATE_NODISCARD int speedate_datetime_front_column(const char *text, size_t size, const SpeedateConfig *config,
                                                       unsigned flags, SpeedateDateTimeFront *out, uint8_t *errors,
                                                       size_t room, SpeedateProgress *progress);
+
+/* Offsets in seconds: 0 and 3600 from "1970-01-01T00:00:01Z\n1970-01-01T01:00+01:00\n". A date-time without an offset
+ * is refused with SPEEDATE_TZ_REQUIRED, whatever the flags. A timestamp has the offset of the configuration. */
+SPEEDATE_NODISCARD int speedate_datetime_offset_column(const char *text, size_t size, int form,
+                                                       const SpeedateConfig *config, unsigned flags, int32_t *out,
+                                                       uint8_t *errors, size_t room, SpeedateProgress *progress);
+
+/* The same of times: 0 and 3600 from "12:13Z\n12:13+01:00\n". */
+SPEEDATE_NODISCARD int speedate_time_offset_column(const char *text, size_t size, int form,
+                                                   const SpeedateConfig *config, unsigned flags, int32_t *out,
+                                                   uint8_t *errors, size_t room, SpeedateProgress *progress);
 
 /* ---- Columns in print ---- */
 

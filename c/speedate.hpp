@@ -10,7 +10,7 @@
  * - A call that can refuse returns a Result, which has a value or an Error. A call that cannot returns its value.
  * - A text is a std::string_view, and what is printed a std::string. Nothing else allocates memory.
  * - No call throws but Result::value, where there are exceptions, and what std::string throws.
- * - Values have std::hash, and std::formatter where the library of C++ has it: std::format("{:>12}", date).
+ * - Values have std::hash, and std::formatter where the library of C++ has it: std::format("{:>12} {:.3}", date, time).
  *
  * It translates, and computes nothing of dates: link libspeedate as a program in C does.
  */
@@ -490,6 +490,8 @@ class Duration : public detail::Ordered<Duration> {
             return speedate_duration_sum(reinterpret_cast<const SpeedateDuration *>(first), std::size(durations), out);
         });
     }
+    friend Result<Duration> operator+(const Duration &first, const Duration &second) { return sum({first, second}); }
+    friend Result<Duration> operator-(const Duration &first, const Duration &second) { return first + -second; }
     Duration operator-() const noexcept {
         return Duration(SpeedateDuration{!c_.negative, c_.day, c_.second, c_.microsecond});
     }
@@ -544,6 +546,10 @@ class DateTime : public detail::Equal<DateTime> {
         return detail::text<SPEEDATE_DATETIME_TEXT_SIZE>(speedate_datetime_to_text, c_, static_cast<int>(digits));
     }
 
+    /* The date-time of a number of microseconds of Unix time, in UTC. */
+    static Result<DateTime> from_unix_microseconds(std::int64_t microseconds) {
+        return from_c([&](auto *out) { return speedate_datetime_from_unix_microseconds(microseconds, out); });
+    }
     static Result<DateTime> from_timestamp(std::int64_t timestamp, std::uint32_t microsecond = 0,
                                            const Config &config = {}) {
         const SpeedateConfig of = config.c();
@@ -555,11 +561,21 @@ class DateTime : public detail::Equal<DateTime> {
         return from_c([&](auto *out) { return speedate_datetime_in_timezone(c_, offset, out); });
     }
 
-    /* The date-time a duration later, and earlier. */
+    /* The date-time a duration later, and earlier. A duration of chrono is one that converts to microseconds. */
     friend Result<DateTime> operator+(const DateTime &value, const Duration &duration) {
         return from_c([&](auto *out) { return speedate_datetime_add(value.c_, duration.c(), out); });
     }
     friend Result<DateTime> operator-(const DateTime &value, const Duration &duration) { return value + -duration; }
+    friend Result<DateTime> operator+(const DateTime &value, std::chrono::microseconds length) {
+        return value + Duration::of(length);
+    }
+    friend Result<DateTime> operator-(const DateTime &value, std::chrono::microseconds length) {
+        return value - Duration::of(length);
+    }
+    /* The duration from `start` to `end`, as Duration::between(start, end). */
+    friend Duration operator-(const DateTime &end, const DateTime &start) noexcept {
+        return Duration::between(start, end);
+    }
 
     /* The moment of a date-time. One without an offset is taken to be in UTC. */
     SysTime sys_time() const noexcept { return SysTime(std::chrono::microseconds(unix_microseconds())); }
@@ -573,14 +589,15 @@ class DateTime : public detail::Equal<DateTime> {
         static_assert(std::is_integral_v<Number> && std::is_signed_v<Number>, "a moment has a whole number with a sign");
         static_assert(in_seconds || in_milliseconds || std::ratio_less_equal_v<Period, std::micro>,
                       "a moment in any other unit has to be cast to seconds first");
-        Config config;
-        config.timestamp_offset = 0;
-        config.timestamp_unit = in_seconds ? Unit::Second : in_milliseconds ? Unit::Millisecond : Unit::Microsecond;
-        if constexpr (in_seconds || in_milliseconds)
+        if constexpr (in_seconds || in_milliseconds) {
+            Config config;
+            config.timestamp_offset = 0;
+            config.timestamp_unit = in_seconds ? Unit::Second : Unit::Millisecond;
             return from_timestamp(moment.time_since_epoch().count(), 0, config);
-        else
-            return from_timestamp(std::chrono::floor<std::chrono::microseconds>(moment).time_since_epoch().count(), 0,
-                                  config);
+        } else {
+            return from_unix_microseconds(
+                std::chrono::floor<std::chrono::microseconds>(moment).time_since_epoch().count());
+        }
     }
 
     friend std::ostream &operator<<(std::ostream &to, const DateTime &value) { return to << value.to_text(); }
@@ -671,13 +688,22 @@ template <class Number> class Column {
     Call call_;
 };
 
-/* The column of fronts has no other texts and no other form. */
+/* Columns of lines have no other texts, and that of fronts has no other form. */
 inline int front_column(const char *text, std::size_t size, const std::int32_t *offsets, int form,
                         const SpeedateConfig *config, unsigned flags, SpeedateDateTimeFront *out, std::uint8_t *errors,
                         std::size_t room, SpeedateProgress *progress) {
     if (offsets || form != SPEEDATE_TEXT)
         return SPEEDATE_CONFIG_OUT_OF_RANGE;
     return speedate_datetime_front_column(text, size, config, flags, out, errors, room, progress);
+}
+
+template <auto Call>
+int offset_column(const char *text, std::size_t size, const std::int32_t *offsets, int form,
+                  const SpeedateConfig *config, unsigned flags, std::int32_t *out, std::uint8_t *errors,
+                  std::size_t room, SpeedateProgress *progress) {
+    if (offsets)
+        return SPEEDATE_CONFIG_OUT_OF_RANGE;
+    return Call(text, size, form, config, flags, out, errors, room, progress);
 }
 
 /* A call that prints a column, of which each below is one: date_print_column(days, buffer). */
@@ -701,14 +727,17 @@ template <class Number> class PrintColumn {
 } // namespace detail
 
 /* Read texts as numbers, as many as there is room for in `out`, an array, a std::vector, a std::span or another
- * container with contiguous numbers: std::int32_t for dates, SpeedateDateTimeFront at the front of lines, otherwise
- * std::int64_t. With errors, a container of std::uint8_t after `out`, the code of each text is written there. A
- * ColumnConfig may come last. */
+ * container with contiguous numbers: std::int32_t for dates and offsets, SpeedateDateTimeFront at the front of lines,
+ * otherwise std::int64_t. With errors, a container of std::uint8_t after `out`, the code of each text is written there.
+ * A ColumnConfig may come last. */
 inline constexpr detail::Column<std::int32_t> date_column(speedate_date_column);
 inline constexpr detail::Column<std::int64_t> time_column(speedate_time_column);
 inline constexpr detail::Column<std::int64_t> datetime_column(speedate_datetime_column);
 inline constexpr detail::Column<std::int64_t> duration_column(speedate_duration_column);
 inline constexpr detail::Column<SpeedateDateTimeFront> datetime_front_column(detail::front_column);
+inline constexpr detail::Column<std::int32_t>
+    datetime_offset_column(detail::offset_column<speedate_datetime_offset_column>);
+inline constexpr detail::Column<std::int32_t> time_offset_column(detail::offset_column<speedate_time_offset_column>);
 
 /* Print the numbers of a container as lines, as many as there is room for in a container of char, as a std::string is.
  * If there is no error, and a number without a line, empty it, and go on with that number. The column of clocks prints
@@ -737,11 +766,50 @@ template <class T> struct Hash {
 };
 
 #ifdef __cpp_lib_format
-/* The text of a value, with the width, the fill and the alignment of a string. */
+/* Is called where a format is refused, so that it does not compile: a constant cannot call it. */
+[[noreturn]] inline void precision_is_not_0_or_3_or_6_digits_of_a_second() {
+#ifdef __cpp_exceptions
+    throw std::format_error("the precision is not 0, 3 or 6 digits of a second");
+#else
+    std::abort();
+#endif
+}
+
+/* The text of a value, with the width, the fill and the alignment of a string. The precision is how many digits of a
+ * second are printed, 0, 3 or 6, where to_text has them, written beside a width that is written too. */
 template <class T> struct Formatter : std::formatter<std::string_view> {
-    template <class Context> auto format(const T &value, Context &context) const {
-        return std::formatter<std::string_view>::format(value.to_text(), context);
+    using Padded = std::formatter<std::string_view>;
+    static constexpr bool has_digits = std::is_invocable_v<decltype(&T::to_text), const T &, FractionDigits>;
+
+    constexpr auto parse(std::format_parse_context &context) {
+        const std::string_view all(context.begin(), context.end());
+        std::size_t size = 0;
+        for (int inside = 0; size < all.size() && (inside > 0 || all[size] != '}'); size++)
+            inside += all[size] == '{' ? 1 : all[size] == '}' ? -1 : 0;
+        const std::string_view spec = all.substr(0, size);
+        /* A point before an alignment is a fill. */
+        const bool is_filled = spec.size() > 1 && std::string_view("<>^").find(spec[1]) != spec.npos;
+        const std::size_t point = spec.find('.', is_filled);
+        if (point == spec.npos)
+            return Padded::parse(context);
+        const std::string_view padding = spec.substr(0, point), digits = spec.substr(point + 1);
+        if (!has_digits || padding.find('{') != spec.npos || (digits != "0" && digits != "3" && digits != "6"))
+            precision_is_not_0_or_3_or_6_digits_of_a_second();
+        std::format_parse_context rest(padding);
+        Padded::parse(rest);
+        digits_ = static_cast<FractionDigits>(digits[0] - '0');
+        return context.begin() + static_cast<std::ptrdiff_t>(size);
     }
+
+    template <class Context> auto format(const T &value, Context &context) const {
+        if constexpr (has_digits)
+            return Padded::format(value.to_text(digits_), context);
+        else
+            return Padded::format(value.to_text(), context);
+    }
+
+  private:
+    FractionDigits digits_ = FractionDigits::Auto;
 };
 #endif
 

@@ -124,12 +124,12 @@ SPEEDATE_NODISCARD int speedate_datetime_front_lines(const char *text, size_t si
 SPEEDATE_NODISCARD int speedate_datetime_clock_column(const char *text, size_t size, SpeedateConfig config,
                                                       SpeedateColumnConfig column, int64_t *out, size_t room,
                                                       uint8_t *errors, size_t error_room, SpeedateProgress *progress);
-SPEEDATE_NODISCARD int speedate_datetime_offset_column(const char *text, size_t size, SpeedateConfig config,
-                                                       SpeedateColumnConfig column, int32_t *out, size_t room,
-                                                       uint8_t *errors, size_t error_room, SpeedateProgress *progress);
-SPEEDATE_NODISCARD int speedate_time_offset_column(const char *text, size_t size, SpeedateConfig config,
-                                                   SpeedateColumnConfig column, int32_t *out, size_t room,
-                                                   uint8_t *errors, size_t error_room, SpeedateProgress *progress);
+SPEEDATE_NODISCARD int speedate_datetime_offset_lines(const char *text, size_t size, SpeedateConfig config,
+                                                      SpeedateColumnConfig column, int32_t *out, size_t room,
+                                                      uint8_t *errors, size_t error_room, SpeedateProgress *progress);
+SPEEDATE_NODISCARD int speedate_time_offset_lines(const char *text, size_t size, SpeedateConfig config,
+                                                  SpeedateColumnConfig column, int32_t *out, size_t room,
+                                                  uint8_t *errors, size_t error_room, SpeedateProgress *progress);
 
 #ifdef __cplusplus
 }

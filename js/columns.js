@@ -73,9 +73,9 @@ const COLUMNS = {
   date: { call: "date_lines", options: optionsOf(OPTIONS_OF.date), kinds: KINDS.date },
   dateTime: { call: "datetime_lines", options: optionsOf({ ...OPTIONS_OF.dateTime, forms: Object.keys(FORM) }, "unit"), kinds: KINDS.instant },
   dateTimeClock: { call: "datetime_clock_column", options: optionsOf(PARTS, "unit"), kinds: KINDS.dateTime },
-  dateTimeOffset: { call: "datetime_offset_column", options: optionsOf(PARTS), kinds: KINDS.instant },
+  dateTimeOffset: { call: "datetime_offset_lines", options: optionsOf(PARTS), kinds: KINDS.instant },
   time: { call: "time_lines", options: optionsOf(OPTIONS_OF.time, "unit"), kinds: KINDS.time },
-  timeOffset: { call: "time_offset_column", options: optionsOf(OPTIONS_OF.time), kinds: KINDS.offset },
+  timeOffset: { call: "time_offset_lines", options: optionsOf(OPTIONS_OF.time), kinds: KINDS.offset },
   duration: { call: "duration_lines", options: optionsOf(OPTIONS_OF.duration, "unit"), kinds: KINDS.duration },
 };
 

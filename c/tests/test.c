@@ -320,6 +320,9 @@ static void say_progress(SpeedateProgress it) {
 #define COLUMN(TYPE, NAME)                                                                                             \
     LINES(TYPE, say_number, NAME##_column, NAME##_lines,                                                               \
           speedate_##NAME##_column(text, size, NULL, by.parser, &it, flags, again, places, room, &far))
+#define OFFSETS_OF(NAME)                                                                                               \
+    LINES(int32_t, say_number, NAME##_offset_column, NAME##_offset_lines,                                              \
+          speedate_##NAME##_offset_column(text, size, by.parser, &it, flags, again, places, room, &far))
 #define OFFSETS offset_count ? offsets : NULL, offset_count,
 #define COLUMN_OF(TYPE, SAY, NAME, CALL, BETWEEN, PUBLIC)                                                              \
     if (is_call(#NAME)) {                                                                                              \
@@ -499,7 +502,8 @@ static int run_text(const char *text, size_t size) {
     if (is_call("int_parse"))
         WRITES(int64_t, say_number, speedate_int_parse(text, size, out))
     PARSE(SpeedateDate, say_date, date, , SPEEDATE_OR_TIMESTAMP, config_or_null())
-    PARSE(SpeedateDate, say_date, date, _text, SPEEDATE_TEXT, NULL)
+    /* Both forms of dates do the same: each reads the text from another place. */
+    PARSE(SpeedateDate, say_date, date, _text, (text == first_page ? SPEEDATE_STRICT : SPEEDATE_TEXT), NULL)
     PARSE(SpeedateDate, say_date, date, _front, SPEEDATE_FRONT, NULL)
     PARSE(SpeedateTime, say_time, time, , SPEEDATE_TEXT, config_or_null())
     PARSE(SpeedateTime, say_time, time, _strict, SPEEDATE_STRICT, config_or_null())
@@ -517,8 +521,8 @@ static int run_text(const char *text, size_t size) {
           speedate_datetime_column(text, size, NULL, by.parser, &it, flags | SPEEDATE_CLOCK, again, places, room, &far))
     LINES(SpeedateDateTimeFront, say_datetime_front, datetime_front_column, datetime_front_lines,
           by.parser ? -1 : speedate_datetime_front_column(text, size, &it, flags, again, places, room, &far))
-    LINES(int32_t, say_number, datetime_offset_column, datetime_offset_column, -1)
-    LINES(int32_t, say_number, time_offset_column, time_offset_column, -1)
+    OFFSETS_OF(datetime)
+    OFFSETS_OF(time)
     REPRINT(SpeedateDate, date, SPEEDATE_OR_TIMESTAMP, value)
     REPRINT(SpeedateTime, time, SPEEDATE_TEXT, WITH_DIGITS)
     REPRINT(SpeedateDateTime, datetime, SPEEDATE_OR_TIMESTAMP, WITH_DIGITS)
@@ -577,6 +581,7 @@ static int run_value(void) {
     VALUE(int64_t, say_number, datetime_unix_seconds, SpeedateDateTime, datetime)
     VALUE(int64_t, say_number, datetime_unix_milliseconds, SpeedateDateTime, datetime)
     VALUE(int64_t, say_number, datetime_unix_microseconds, SpeedateDateTime, datetime)
+    VALUE(SpeedateDateTime, say_datetime, datetime_from_unix_microseconds, int64_t, number)
     TWO_VALUES(SpeedateDateTime, say_datetime, datetime_in_timezone, SpeedateDateTime, datetime, int32_t, (int32_t)number)
     VALUE(SpeedateDuration, say_duration, duration_normalize, SpeedateDuration, duration)
     CHECK(duration_check, SpeedateDuration, duration)
@@ -696,11 +701,11 @@ static void try_code(int code) {
         }
 
 static void try_forms(void) {
-    TRY_FORMS(SpeedateDate, date, "to f")
+    TRY_FORMS(SpeedateDate, date, "tosf")
     TRY_FORMS(SpeedateTime, time, "t sf")
     TRY_FORMS(SpeedateDateTime, datetime, "tosf")
     TRY_FORMS(SpeedateDuration, duration, "t   ")
-    TRY_FLAGS(int32_t, date, "to ", 15u)
+    TRY_FLAGS(int32_t, date, "tos", 15u)
     TRY_FLAGS(int64_t, time, "t s", 15u)
     TRY_FLAGS(int64_t, datetime, "tos", 31u)
     TRY_FLAGS(int64_t, duration, "t  ", 15u)

@@ -114,7 +114,7 @@ static void dates() {
     CHECK(said(Date::parse("2020-02-29")) == "2020-02-29" && !Date::parse("1582934400") && !Date::parse("20200229"));
     CHECK(front(Date::parse("2020-02-29 opening balance", Form::Front)) == "2020-02-29 10");
     CHECK(front(Date::parse("86400", Form::OrTimestamp)) == "1970-01-02 5");
-    CHECK(said(Date::parse("2020-02-29", Form::Strict)) == "config_out_of_range");
+    CHECK(said(Date::parse("2020-02-29", Form::Strict)) == "2020-02-29" && !Date::parse("86400", Form::Strict));
     CHECK(part_of(Date::parse("2020-13-01", Form::OrTimestamp)) == "5 7 2" && part_of(Date::parse("86400", Form::OrTimestamp)) == "none");
     CHECK(part_of(Date::parse("x", Form::Text, with(Unit::Infer, Overflow::Error, Order::Lax, 86400))) == "none");
     CHECK(said(Date::of(2020, -1, 1)) == "out_of_range_month" && said(Date::of(2020, 1, -1)) == "out_of_range_day");
@@ -172,6 +172,8 @@ static void date_times() {
     CHECK(said(DateTime::from_timestamp(1, 2)) == "1970-01-01T00:00:01.000002");
     CHECK(said(DateTime::from_timestamp(20000000001, 0, unix_time)) == "2603-10-11T11:33:21Z");
     const DateTime zoned = moment("1970-01-01T01:00:01.5+01:00");
+    CHECK(said(DateTime::from_unix_microseconds(1500000)) == "1970-01-01T00:00:01.500000Z" &&
+          said(DateTime::from_unix_microseconds(INT64_MIN)) == "date_too_small");
     CHECK(zoned.unix_microseconds() == 1500000 && moment("1970-01-01T00:00:01.5").unix_microseconds() == 1500000);
     CHECK(said(zoned.in_timezone(0)) == "1970-01-01T00:00:01.500000Z" &&
           said(zoned.in_timezone(86400)) == "out_of_range_tz");
@@ -206,6 +208,12 @@ static void durations() {
           Duration::between(end, start).to_text() == "-PT1H30M");
     CHECK((start + length("PT90M")).value() == end && (end - length("PT90M")).value() == start);
     CHECK(said(end - length("P9999Y")) == "date_too_small");
+    CHECK((end - start).to_text() == "PT1H30M" && (start - end).to_text() == "-PT1H30M");
+    CHECK((start + std::chrono::minutes(90)).value() == end && (end - std::chrono::minutes(90)).value() == start);
+    CHECK(said(start + std::chrono::microseconds(-1)) == "2020-02-29T22:59:59.999999Z" &&
+          said(start + std::chrono::microseconds(INT64_MAX)) == "date_too_large");
+    CHECK(said(length("PT2H") + length("-PT30M")) == "PT1H30M" && said(length("PT2H") - length("PT30M")) == "PT1H30M" &&
+          said(length("P999999999D") + length("P1D")) == "duration_days_too_large");
     const Duration less = length("-PT0S"), more = length("PT0S");
     CHECK(less < more && more > less && less <= more && more >= less && less != more && compare(less, more) < 0);
     const char *const rising[] = {"-P1DT1S", "-P1D", "-PT2S", "-PT1.5S", "-PT1S", "-PT0S", "PT0S", "PT1S", "PT1.5S", "PT2S", "P1D", "P1DT1S"};
@@ -257,7 +265,12 @@ static void columns() {
     column.assume_utc = true;
     CHECK(listed(datetime_column("1970-01-01T00:00:02", numbers, column), numbers) == "2000000 at 19");
     column.form = Form::Strict;
-    CHECK(listed(date_column("", days, column), days) == "config_out_of_range");
+    CHECK(listed(date_column("1970-01-02\n86400", days, column), days) == "1 at 11 too_short");
+    CHECK(listed(datetime_offset_column("1970-01-01T01:00+01:00\n", days), days) == "3600 at 23");
+    CHECK(listed(datetime_offset_column("1970-01-01T00:00:00Z\n1970-01-01T01:00+01:00\n", days, column), days) == "0 at 21 invalid_char_time_sep");
+    CHECK(listed(time_offset_column("12:13-01:00\n12:13", days, column), days) == "at 0 invalid_char_time_sep");
+    CHECK(listed(time_offset_column("12:13-01:00\n12:13", days), days) == "-3600 at 12 tz_required");
+    CHECK(listed(time_offset_column(Texts("12:13Z", {0, 6}), days), days) == "config_out_of_range");
     const auto with_errors = [&](auto call, const char *text, auto &out, const ColumnConfig &config = {}) {
         errors = {7, 7};
         return listed(call(text, out, errors, config), out, errors.data());
@@ -266,6 +279,7 @@ static void columns() {
     CHECK(datetime_column("x", numbers, std::array<std::uint8_t, 0>()).value().lines == 0);
     CHECK(with_errors(date_column, "1970-01-03\nx", days) == "2 -:too_short at 12");
     CHECK(with_errors(datetime_column, "1970-01-01T00:00:03-01:00\nx", numbers, clocks) == "3000000 -:too_short at 27");
+    CHECK(with_errors(datetime_offset_column, "1970-01-01T00:00:03-01:00\n1970-01-01T00:00", days) == "-3600 -:tz_required at 42");
     CHECK(with_errors(time_column, "00:00:04+01:00\n24:00", numbers) == "4000000 -:out_of_range_hour at 20");
     CHECK(with_errors(duration_column, "PT2S\nP999999999D", numbers) == "2000000 -:number_too_large at 16");
 
@@ -390,7 +404,28 @@ static void keys() {
 #ifdef __cpp_lib_format
     CHECK(std::format("{} {:>6} {:*<11}", date("2020-02-29"), time_of("12:13:14"), length("PT1H")) ==
           "2020-02-29 12:13:14 PT1H*******");
-    CHECK(std::format("{:.10}", moment("2020-02-29T12:13:14.5+01:30")) == "2020-02-29");
+    const DateTime value = moment("2020-02-29T12:13:14.567891+01:30");
+    const Time clock = value.time();
+    const Date day = value.date();
+    const Duration second = length("PT1.5S");
+    CHECK(std::format("{:.3} {:.0} {:.6}", value, value, clock) ==
+          "2020-02-29T12:13:14.567+01:30 2020-02-29T12:13:14+01:30 12:13:14.567891+01:30");
+    CHECK(std::format("{:.3}|{:.>20.3}|{:>19.3}|{:.^16.0}|{:20.3}|{:.<25}", clock, clock, clock, clock, clock, clock) ==
+          "12:13:14.567+01:30|..12:13:14.567+01:30| 12:13:14.567+01:30|.12:13:14+01:30.|12:13:14.567+01:30  |12:13:14.567891+01:30....");
+    CHECK(std::format("{:{}}|{:.>{}}|{:.<12}", day, 11, second, 8, day) == "2020-02-29 |..PT1.5S|2020-02-29..");
+    // What std::vformat refuses, std::format does not compile.
+    const auto is_refused = [](std::string_view format, const auto &it) {
+        const int digits = 3;
+        try {
+            return std::vformat(format, std::make_format_args(it, digits)).empty();
+        } catch (const std::format_error &) {
+            return true;
+        }
+    };
+    for (const char *format : {"{:.1}", "{:.2}", "{:.4}", "{:.7}", "{:.10}", "{:.03}", "{:.}", "{:.3s}", "{:.{}}", "{:{}.3}", "{:x.3}", "{:.3.3}", "{:.<.1}"})
+        CHECK(is_refused(format, clock) && is_refused(format, value));
+    for (const char *format : {"{:.0}", "{:.3}", "{:.6}", "{:12.3}", "{:.{}}", "{:.>.3}"})
+        CHECK(is_refused(format, day) && is_refused(format, second));
 #endif
 }
 

@@ -45,7 +45,7 @@ static void move_forward(int64_t *numbers, const int32_t *short_numbers, size_t 
     }
 }
 READ_SHORT_LINES(read_dates, speedate_date_lines)
-READ_SHORT_LINES(read_offsets, speedate_datetime_offset_column)
+READ_SHORT_LINES(read_offsets, speedate_datetime_offset_lines)
 
 /* How the texts of a column become numbers: lines at once, and a text of a list by its value. */
 typedef struct ColumnReader ColumnReader;

@@ -353,7 +353,7 @@ pub struct DateTimeOffsetReader {
     pub parser: DateTimeParser,
 }
 
-reader!(DateTimeOffsetReader by speedate_datetime_offset_column -> i32);
+reader!(DateTimeOffsetReader by speedate_datetime_offset_lines -> i32);
 
 /// How a column parses its times. [`TimeReader`] has an example.
 #[derive(Debug, Clone, PartialEq)]
@@ -415,7 +415,7 @@ pub struct TimeOffsetReader {
     pub parser: TimeParser,
 }
 
-reader!(TimeOffsetReader by speedate_time_offset_column -> i32);
+reader!(TimeOffsetReader by speedate_time_offset_lines -> i32);
 
 configured!(DateTimeClockReader, DateTimeOffsetReader, TimeReader, TimeOffsetReader);
 

@@ -21,7 +21,8 @@ pub enum Form {
     Text,
     /// The same, or a timestamp. Every whole number is one, `20200229` too. For dates and date-times.
     OrTimestamp,
-    /// A text of RFC 3339 and nothing else, without a second 60. For times and date-times.
+    /// A text of RFC 3339 and nothing else, without a second 60. For dates, where it is [`Text`](Self::Text), times and
+    /// date-times.
     Strict,
     /// The input begins with the text of a value. What follows is up to you: a date-time whose offset comes after a space,
     /// `2026-11-01 08:00:00 -0500`, is read without the offset, and ends at byte 19. For dates, times and date-times.

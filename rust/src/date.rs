@@ -91,8 +91,7 @@ impl Date {
     ///
     /// # Errors
     ///
-    /// Why and where the input is refused; [`ConfigOutOfRange`](crate::Fault::ConfigOutOfRange) if the form is
-    /// [`Form::Strict`], which dates do not have.
+    /// Why and where the input is refused. Dates have all forms.
     pub fn parse_or_place(bytes: &[u8], form: Form, config: &DateConfig) -> Result<(Self, usize), Refused> {
         ffi::speedate_date_parse_or_part(bytes, form, config)
     }

@@ -475,9 +475,9 @@ columns! {
     fn speedate_date_lines([text] config: Config, column: ColumnConfig, [out: i32], [errors: u8]);
     fn speedate_datetime_lines([text] config: Config, column: ColumnConfig, [out: i64], [errors: u8]);
     fn speedate_datetime_clock_column([text] config: Config, column: ColumnConfig, [out: i64], [errors: u8]);
-    fn speedate_datetime_offset_column([text] config: Config, column: ColumnConfig, [out: i32], [errors: u8]);
+    fn speedate_datetime_offset_lines([text] config: Config, column: ColumnConfig, [out: i32], [errors: u8]);
     fn speedate_time_lines([text] config: Config, column: ColumnConfig, [out: i64], [errors: u8]);
-    fn speedate_time_offset_column([text] config: Config, column: ColumnConfig, [out: i32], [errors: u8]);
+    fn speedate_time_offset_lines([text] config: Config, column: ColumnConfig, [out: i32], [errors: u8]);
     fn speedate_duration_lines([text] config: Config, column: ColumnConfig, [out: i64], [errors: u8]);
     fn speedate_date_texts([bytes] [offsets] config: Config, column: ColumnConfig, [out: i32], [errors: u8]);
     fn speedate_datetime_texts([bytes] [offsets] config: Config, column: ColumnConfig, [out: i64], [errors: u8]);

@@ -139,7 +139,7 @@ refusal_expected code =
     else (if int_eq code value_out_of_range
     then Some (codes "values within their ranges, and flags of 0 or 1")
     else (if int_eq code config_out_of_range
-    then Some (codes "a configuration within its ranges")
+    then Some (codes "a form, flags and a configuration that the call has")
     else (if int_eq code buffer_too_small
     then Some (codes "a buffer with room for the text and a zero byte")
     else None)))))

@@ -170,12 +170,12 @@ number_of_time time = as_number (λ time. pos (microsecond_of_day time)) time
 abbrev pub number_of_offset : Result TimeOfDay ParseError → Result ℤ LineError
 number_of_offset time = offset_as_number (λ time. time.offset) time
 
--- the reader of a column of dates, where the parser is one of dates
-abbrev pub date_reader : TimestampUnit → LineParser → Option DateReader
-date_reader unit LineParser.Text = Some DateReader.Text
+-- the reader of a column of dates: each text of a date is one of RFC 3339
+abbrev pub date_reader : TimestampUnit → LineParser → DateReader
+date_reader unit LineParser.Text = DateReader.Text
 date_reader unit LineParser.OrTimestamp =
-    Some (DateReader.OrTimestamp (record { timestamp_unit = unit }))
-date_reader unit LineParser.Strict = None
+    DateReader.OrTimestamp (record { timestamp_unit = unit })
+date_reader unit LineParser.Strict = DateReader.Text
 
 -- the kind of calls that parse dates as a parser does
 abbrev pub date_kind : LineParser → CallKind
@@ -252,7 +252,7 @@ abbrev pub chosen_for_dates : SpeedateConfig → SpeedateColumnConfig
     → Option (ColumnChoices × LineCall ℤ)
 chosen_for_dates =
     chosen_by (λ chosen column.
-    option_map (date_call column.parser) (date_reader chosen.unit column.parser))
+    Some (date_call column.parser (date_reader chosen.unit column.parser)))
 
 -- for a column of times
 abbrev pub chosen_for_times : SpeedateConfig → SpeedateColumnConfig

@@ -7,7 +7,7 @@ use Rattle.speedate.specs.Config.{Choices}
 use Rattle.speedate.specs.Date.{new_date_answer}
 use Rattle.speedate.specs.Form.{date_by_form}
 use Rattle.speedate.specs.declared.DateForm.{DateForm}
-use Rattle.speedate_c.specs.Code.{front_form, or_timestamp_form, text_form}
+use Rattle.speedate_c.specs.Code.{front_form, or_timestamp_form, strict_form, text_form}
 use Rattle.speedate_c.specs.Written.{Reading, reading}
 use Rattle.speedate_c.specs.declared.date.SpeedateDate.{SpeedateDate}
 
@@ -23,14 +23,16 @@ shown_date date = record { year = date.year; month = date.month; day = date.day 
 abbrev pub first_day : Ymd
 first_day = record { year = 1970; month = 1; day = 1 }
 
--- the form that a number asks for, where dates have it, and the kind of calls that read so
+-- the form that a number asks for, where dates have it, and the kind of calls that read so: a date
+-- in a text is a date of RFC 3339, so the strict form is the same
 abbrev pub date_form : ℤ → Option (DateForm × CallKind)
 date_form form =
     if int_eq form text_form then Some (DateForm.Text, CallKind.Date)
     else (if int_eq form or_timestamp_form
     then Some (DateForm.OrTimestamp, CallKind.DateOrTimestamp)
+    else (if int_eq form strict_form then Some (DateForm.Text, CallKind.Date)
     else (if int_eq form front_form then Some (DateForm.Front, CallKind.Date)
-    else None))
+    else None)))
 
 -- how it reads a text
 abbrev pub date_reading : ℤ → Choices → List ℕ → Option (Reading Ymd)

@@ -202,7 +202,7 @@ fn refusal_expected(code: i32) -> Option<&'static str>
         INVALID_INTEGER => "a whole number that fits 64 bits",
         NO_SUCH_DATE => "a date in the years 0000 to 9999",
         VALUE_OUT_OF_RANGE => "values within their ranges, and flags of 0 or 1",
-        CONFIG_OUT_OF_RANGE => "a configuration within its ranges",
+        CONFIG_OUT_OF_RANGE => "a form, flags and a configuration that the call has",
         BUFFER_TOO_SMALL => "a buffer with room for the text and a zero byte",
         _ => return None,
     })

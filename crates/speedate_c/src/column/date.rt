@@ -14,15 +14,14 @@ use crate::config::SpeedateConfig;
 use speedate::{CallKind, DateConfig, DatePrinter, DateReader};
 
 impl ColumnChoices {
-    /// The reader of dates, if the parser is one of dates.
+    /// The reader of dates. Each text of a date is one of RFC 3339.
     #[inline(always)]
-    pub(super) fn date_reader(&self, config: DateConfig) -> Option<DateReader>
+    pub(super) fn date_reader(&self, config: DateConfig) -> DateReader
         ensures reader { result ≡ date_reader config.timestamp_unit self.now.parser }
     {
         match self.parser {
-            LineParser::Text => Some(DateReader::Text),
-            LineParser::OrTimestamp => Some(DateReader::OrTimestamp(config)),
-            LineParser::Strict => None,
+            LineParser::Text | LineParser::Strict => DateReader::Text,
+            LineParser::OrTimestamp => DateReader::OrTimestamp(config),
         }
     }
 }
@@ -42,8 +41,7 @@ impl LineParser {
 /// Reads the lines of a text as dates, and writes their days since 1970-01-01, as [`read_column`] does by
 /// a [`DateReader`]: 1 for `1970-01-02`.
 ///
-/// `CONFIG_OUT_OF_RANGE` and refused lines are as in [`speedate_datetime_lines`]; the parser 2 is
-/// out of range.
+/// `CONFIG_OUT_OF_RANGE` and refused lines are as in [`speedate_datetime_lines`].
 #[unsafe(no_mangle)]
 pub extern "C" fn speedate_date_lines(
     text: &[u8],
@@ -61,7 +59,7 @@ pub extern "C" fn speedate_date_lines(
 {
     let config = config_or_return!(config.to_date_config());
     let choices = config_or_return!(column.to_choices());
-    let reader = config_or_return!(choices.date_reader(config));
+    let reader = choices.date_reader(config);
     let kind = choices.parser.date_kind();
     write_column(
         text,

@@ -201,7 +201,7 @@ pub extern "C" fn speedate_datetime_clock_column(
 ///
 /// `CONFIG_OUT_OF_RANGE` and refused lines are as in [`speedate_datetime_lines`].
 #[unsafe(no_mangle)]
-pub extern "C" fn speedate_datetime_offset_column(
+pub extern "C" fn speedate_datetime_offset_lines(
     text: &[u8],
     config: SpeedateConfig,
     column: SpeedateColumnConfig,

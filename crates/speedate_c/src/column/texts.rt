@@ -81,7 +81,7 @@ fn write_instants(
 /// Reads texts as dates, and writes their days since 1970-01-01, as [`read_texts`] does by a
 /// [`DateReader`](speedate::DateReader): 1 for `1970-01-02`.
 ///
-/// Errors are as in [`speedate_datetime_texts`]; the parser 2 is out of range.
+/// Errors are as in [`speedate_datetime_texts`].
 #[unsafe(no_mangle)]
 pub extern "C" fn speedate_date_texts(
     bytes: &[u8],
@@ -100,7 +100,7 @@ pub extern "C" fn speedate_date_texts(
 {
     let config = config_or_return!(config.to_date_config());
     let choices = config_or_return!(column.to_choices());
-    let reader = config_or_return!(choices.date_reader(config));
+    let reader = choices.date_reader(config);
     let kind = choices.parser.date_kind();
     write_texts(
         bytes,

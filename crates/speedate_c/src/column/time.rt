@@ -92,7 +92,7 @@ pub extern "C" fn speedate_time_lines(
 /// `CONFIG_OUT_OF_RANGE` and refused lines are as in [`speedate_datetime_lines`]; the parser 1 is
 /// out of range.
 #[unsafe(no_mangle)]
-pub extern "C" fn speedate_time_offset_column(
+pub extern "C" fn speedate_time_offset_lines(
     text: &[u8],
     config: SpeedateConfig,
     column: SpeedateColumnConfig,

@@ -11,7 +11,7 @@ ghost use Rattle.speedate_c.specs.Written.{no_part, part_beside, with_option};
 ghost use Rattle.speedate_c.specs.Written.{written_front, written_part};
 
 use super::SpeedateDate;
-use crate::code::{CONFIG_OUT_OF_RANGE, FRONT, OR_TIMESTAMP, SUCCESS, TEXT};
+use crate::code::{CONFIG_OUT_OF_RANGE, FRONT, OR_TIMESTAMP, STRICT, SUCCESS, TEXT};
 use crate::config::SpeedateConfig;
 use crate::part::{NO_PART, SpeedatePart, write_part};
 use speedate::{CallKind, Date, DateConfig, DateForm, DateTimeConfig, Refused};
@@ -77,13 +77,14 @@ fn parse_form(
     )
 }
 
-/// The form that a number asks for, if dates have it, and the kind of calls that read so.
+/// The form that a number asks for, if dates have it, and the kind of calls that read so. A date in a text is a
+/// date of RFC 3339, so the strict form is the same.
 #[inline(always)]
 fn form_of(form: i32) -> Option<(DateForm, CallKind)>
     ensures form { result ≡ date_form form }
 {
     match form {
-        TEXT => Some((DateForm::Text, CallKind::Date)),
+        TEXT | STRICT => Some((DateForm::Text, CallKind::Date)),
         OR_TIMESTAMP => Some((DateForm::OrTimestamp, CallKind::DateOrTimestamp)),
         FRONT => Some((DateForm::Front, CallKind::Date)),
         _ => None,

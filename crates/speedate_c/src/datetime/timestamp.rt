@@ -1,17 +1,19 @@
 //! Date-times from timestamps, and back, as C sees them.
 
-ghost use Rattle.std.specs.Prelude.{◌≡◌};
+ghost use Rattle.std.specs.Prelude.{◌≡◌, Ok, Some, pos};
+ghost use Rattle.speedate.specs.Base.{TimestampUnit};
 ghost use Rattle.speedate.specs.DateTime.{local_millisecond, local_second, utc_microsecond};
 ghost use Rattle.speedate.specs.DateTime.{utc_millisecond, utc_second, date_time_timestamp_answer};
+ghost use Rattle.speedate.specs.Requirement.{result_map};
 ghost use Rattle.speedate_c.specs.Written.{written_answer, written_value, with_option, with_value};
-ghost use Rattle.speedate_c.specs.Code.{config_out_of_range, value_out_of_range};
+ghost use Rattle.speedate_c.specs.Code.{config_out_of_range, success, value_out_of_range};
 ghost use Rattle.speedate_c.specs.Config.{choices_of};
 ghost use Rattle.speedate_c.specs.DateTime.{date_time_of, shown_date_time};
 
 use super::{SpeedateDateTime, write_date_time};
 use crate::code::{SUCCESS, fault_code};
 use crate::config::SpeedateConfig;
-use speedate::{DateTime, timestamp_microseconds};
+use speedate::{DateTime, DateTimeConfig, TimeConfig, TimestampUnit, timestamp_microseconds};
 
 /// The date-time of a timestamp, in the unit of the configuration, and further microseconds later,
 /// with the offset of the configuration, as [`DateTime::from_timestamp_with_config`] gives it:
@@ -34,6 +36,33 @@ pub extern "C" fn speedate_datetime_of_timestamp(
     let config = config_or_return!(config.to_config());
     let answer = DateTime::from_timestamp_with_config(timestamp, microsecond, &config);
     write_date_time(answer, out)
+}
+
+/// The date-time in UTC so many microseconds after 1970-01-01T00:00:00Z, as
+/// [`DateTime::from_timestamp_with_config`] gives it: 1970-01-01T00:00:01.500000Z for 1,500,000. It inverts
+/// [`speedate_datetime_unix_microseconds`].
+///
+/// `DateTooSmall` before the year 0000, `DateTooLarge` after the year 9999.
+#[unsafe(no_mangle)]
+pub extern "C" fn speedate_datetime_from_unix_microseconds(
+    microseconds: i64,
+    out: &mut SpeedateDateTime,
+) -> i32
+    ensures answer { (result, out.new) ≡ written_answer shown_date_time out.old
+        (date_time_timestamp_answer TimestampUnit.Microsecond (Some (pos 0)) 0 microseconds) }
+    ensures leads_back { result ≡ success
+        → result_map utc_microsecond (date_time_of out.new) ≡ Ok microseconds }
+{
+    let mut config = DateTimeConfig::default();
+    config.timestamp_unit = TimestampUnit::Microsecond;
+    config.time_config.unix_timestamp_offset = Some(0);
+    match DateTime::from_timestamp_with_config(microseconds, 0, &config) {
+        Ok(value) => {
+            *out = SpeedateDateTime::from_value(&value);
+            SUCCESS
+        }
+        Err(fault) => fault_code(fault),
+    }
 }
 
 /// The microseconds since 1970-01-01T00:00:00 in UTC of the date-time of a timestamp, as
