@@ -34,6 +34,7 @@ int main(void) {
      * they are refused. */
     config.overflow_behavior = SPEEDATE_OVERFLOW_TRUNCATE;
     for (int number = 1; (size = getline(&line, &room, stdin)) > 0; number++) {
+        size -= line[size - 1] == '\n'; /* so that a line that ends too early is too short */
         int code = speedate_datetime_parse(line, (size_t)size, SPEEDATE_FRONT, &config, &moment, &part);
         if (code == SPEEDATE_OK)
             code = speedate_datetime_in_timezone(moment, 0, &moment);
@@ -45,8 +46,7 @@ int main(void) {
         }
         fputs(text, stdout);
         fwrite(line + part.end, 1, (size_t)size - part.end, stdout);
-        if (line[size - 1] != '\n')
-            putchar('\n');
+        putchar('\n');
         if (seen++ == 0)
             first = moment;
         last = moment;

@@ -29,12 +29,16 @@ static void refuse(sqlite3_context *context, int code, SpeedatePart part) {
 
 /* Whether the argument is a date-time. If it is not, the result says why. */
 static int parse(sqlite3_context *context, sqlite3_value *argument, SpeedateDateTime *value) {
+    int is_null = sqlite3_value_type(argument) == SQLITE_NULL;
     const char *text = (const char *)sqlite3_value_text(argument);
     size_t size = (size_t)sqlite3_value_bytes(argument);
     SpeedatePart part;
     int code;
-    if (!text) /* NULL, which is also the result if there is no other */
+    if (!text) {
+        if (!is_null) /* NULL is the result if there is no other */
+            sqlite3_result_error_nomem(context);
         return 0;
+    }
     code = speedate_datetime_parse(text, size, SPEEDATE_TEXT, NULL, value, &part);
     if (code != SPEEDATE_OK)
         refuse(context, code, part);
