@@ -74,8 +74,8 @@ impl DateTime {
     ///
     /// # Errors
     ///
-    /// Why the text is refused; for a timestamp also [`OutOfRangeTz`](ParseError::OutOfRangeTz) if the configured
-    /// offset is a day or more.
+    /// Why the text is refused; [`OutOfRangeTz`](ParseError::OutOfRangeTz), whatever the text, if the configured offset
+    /// is a day or more.
     pub fn parse_str_with_config(str: &str, config: &DateTimeConfig) -> Result<Self, ParseError> {
         Self::parse_bytes_with_config(str.as_bytes(), config)
     }

@@ -113,7 +113,8 @@ macro_rules! value {
             ///
             /// # Errors
             ///
-            /// Why the text, or a configured offset that it needs, is refused.
+            /// Why the text is refused; of a date-time also [`OutOfRangeTz`](ParseError::OutOfRangeTz), whatever the text, if the
+            /// configured offset is a day or more.
             #[inline]
             pub fn parse_bytes_with_config(bytes: &[u8], config: &$config) -> Result<Self, ParseError> {
                 Ok(ffi::$parse(bytes, config)?)

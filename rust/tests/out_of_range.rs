@@ -156,7 +156,9 @@ fn configured_offsets() {
         assert_eq!(Time::from_timestamp_with_config(1, 0, &time_config), Err(ParseError::OutOfRangeTz));
         assert_eq!(DateTime::from_timestamp_with_config(1, 0, &config), Err(ParseError::OutOfRangeTz));
         assert_eq!(DateTime::from_float_with_config(1.5, &config), Err(ParseError::OutOfRangeTz));
-        assert_eq!(DateTime::parse_str_with_config("1", &config), Err(ParseError::OutOfRangeTz));
+        for text in ["1", "2020-02-29T12:13", "x"] {
+            assert_eq!(DateTime::parse_str_with_config(text, &config), Err(ParseError::OutOfRangeTz));
+        }
         for (text, form) in ["x", "2020-02-29T12:13"].into_iter().zip([Form::Text, Form::OrTimestamp]) {
             let refused = DateTime::parse_or_place(text.as_bytes(), form, &config).unwrap_err();
             assert_eq!((refused.fault, refused.start, refused.end), (Fault::ConfigOutOfRange, 0, 0));
