@@ -23,8 +23,8 @@ export type ColumnOptions = {
   refused?: "stop" | "number" | "collect";
   /** How many refusals are listed at most; any number, if this is left out. Further lines have their number, and are counted. */
   maxRefusals?: number;
-  /** How many bytes of a line are kept until its end comes; any number, if this is left out. With one more the call throws a
-   * RangeError, whose `name` is `LineTooLong`, with the `index` of the line. */
+  /** How many bytes a line may have without its end; any number, if this is left out. For one more the call throws a RangeError,
+   * whose `name` is `LineTooLong`, with the `index` of the line, before the line ends. */
   maxLineBytes?: number;
 };
 /** In which unit numbers are returned: milliseconds, in a Float64Array, with a fraction for microseconds (`ms`, the default), or

@@ -209,19 +209,35 @@ function readPiece(column, text, isEnd) {
   for (let from = 0; from < bytes.length; from += BLOCK_SIZE) {
     const before = column.size;
     addUnfinished(column, bytes.subarray(from, from + BLOCK_SIZE));
+    checkLines(column, false, parts, refusals);
     // Without a line feed no line ends, and what came before is not read once more.
     if (column.unfinished.subarray(before, column.size).includes(LINE_FEED)) readLines(column, false, parts, refusals);
-    checkUnfinished(column);
   }
-  if (isEnd) readLines(column, true, parts, refusals);
+  if (isEnd) {
+    checkLines(column, true, parts, refusals);
+    readLines(column, true, parts, refusals);
+  }
   column.hasEnded = isEnd;
   return { ...column.join(parts), refusedCount: column.refusedCount - refusedBefore, refusals };
 }
 
-/** Throws if the unfinished line is longer than `maxLineBytes`. */
-function checkUnfinished({ size, lines, numbers: { maxLineBytes = Infinity } }) {
-  if (size <= maxLineBytes) return;
-  throw Object.assign(new RangeError(`line ${lines} has more than ${maxLineBytes} bytes`), { name: "LineTooLong", index: lines });
+/** Throws if a line is longer than `maxLineBytes`, wherever its pieces were cut. The lines before it are read first. */
+function checkLines(column, isEnd, parts, refusals) {
+  const { unfinished, size, numbers: { maxLineBytes } } = column;
+  if (maxLineBytes === undefined) return;
+  for (let at = 0; at < size; ) {
+    const feed = unfinished.indexOf(LINE_FEED, at);
+    const hasEnded = feed >= 0 && feed < size;
+    const end = hasEnded ? feed : size;
+    // A return is not counted where it is dropped, or may be yet.
+    const bytes = end - at - (unfinished[end - 1] === RETURN ? 1 : 0);
+    if (bytes > maxLineBytes) {
+      column.size = at;
+      if (at > 0) readLines(column, false, parts, refusals);
+      throw Object.assign(new RangeError(`line ${column.lines} has more than ${maxLineBytes} bytes`), { name: "LineTooLong", index: column.lines });
+    }
+    at = end + 1;
+  }
 }
 
 function concatenated(parts, Numbers) {

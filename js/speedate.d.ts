@@ -37,7 +37,8 @@ type Reason = { readonly code: ErrorCode; readonly expected: string };
 /** The wrong part of a text, in units of a string, as `slice` counts, otherwise in bytes: 5 to 7 of `2020-13-01`. If the part is
  * missing, both are where it should begin: the length of a text that is too short. */
 type Part = { readonly start: number; readonly end: number };
-/** A refused text or value. The message is `expected`, after that word. */
+/** A refused text or value. The message is `expected`, after that word. The error of any entry, in CommonJS too, is an instance of the
+ * class of each. */
 export class SpeedateError extends RangeError {
   private constructor();
   readonly code: ErrorCode;

@@ -34,7 +34,18 @@ const KINDS = {
 };
 const WITH_OFFSET = { 9: KINDS.time, 10: KINDS.dateTime };
 
+/** Marks the errors of every entry, in CommonJS and as an ES module, so that each of their classes knows them all. */
+const IS_ERROR = Symbol.for("speedate.SpeedateError");
 export class SpeedateError extends RangeError {
+  static [Symbol.hasInstance](it) {
+    // A class that someone derives from this one has its own instances.
+    return this === SpeedateError ? it?.[IS_ERROR] === true : super[Symbol.hasInstance](it);
+  }
+
+  get [IS_ERROR]() {
+    return true;
+  }
+
   name = "SpeedateError";
   code;
   expected;

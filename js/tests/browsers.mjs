@@ -1,5 +1,6 @@
 // In an engine the page from disk, narrow and wide, the rows of C, the examples of a document with Temporal, and drawn texts,
-// whose answers are those of Node: node browsers.mjs ENGINE ROOT. engine.mjs says what ENGINE is, and ROOT is the clone.
+// whose answers are those of Node: node browsers.mjs ENGINE ROOT LIBRARY PACKAGE. engine.mjs says what ENGINE is, and
+// ROOT is the clone. LIBRARY is the one of C, and PACKAGE a folder that has the package for Python, or they are empty.
 import assert from "node:assert/strict";
 import { spawnSync } from "node:child_process";
 import { readdirSync, readFileSync, writeFileSync } from "node:fs";
@@ -9,7 +10,7 @@ import { readDrawn } from "./drawn.mjs";
 import { open, serve } from "./engine.mjs";
 import { scriptOf } from "./examples.mjs";
 
-const [engine, root] = process.argv.slice(2);
+const [engine, root, library, folder] = process.argv.slice(2);
 const source = (name) => readFileSync(`${root}/${name}`, "utf8");
 
 // ---- What runs in a page, which posts what it finds to a server on the loopback ----
@@ -17,7 +18,7 @@ const source = (name) => readFileSync(`${root}/${name}`, "utf8");
 /** What the page to try shows by its address and after each step of a visitor; what is wrong with how it looks and is reached,
  * which should be nothing; the calls that it shows; and the least milliseconds in which it shows what a typed text is: the
  * machine may be busy. */
-async function visit({ SAID, MARKED, OFFERED, GUESSED, TABLES }) {
+async function visit({ SAID, MARKED, OFFERED, GUESSED, TABLES, CALLED }) {
   const form = document.forms[0];
   const [nav, options, main, status] = ["nav", "details", "main", "[role=status]"].map((it) => document.querySelector(it));
   const sleep = (milliseconds) => new Promise((resolve) => setTimeout(resolve, milliseconds));
@@ -32,6 +33,8 @@ async function visit({ SAID, MARKED, OFFERED, GUESSED, TABLES }) {
     form.text.dispatchEvent(new Event("input", { bubbles: true }));
     return document.documentElement.scrollWidth <= innerWidth ? performance.now() - start : Infinity;
   };
+  const wrong = [];
+  const has = (holds, what) => holds || wrong.push(what);
   let changes = 0;
   const { replaceState } = history;
   history.replaceState = (...its) => (changes++, replaceState.apply(history, its));
@@ -116,9 +119,21 @@ async function visit({ SAID, MARKED, OFFERED, GUESSED, TABLES }) {
   const least = Math.min(...Array.from(typed, (_, i) => type(typed.slice(0, i + 1))));
   changes = 0;
   steps.push(main.querySelector(".said").textContent, all(".said span, dd span", (it) => `${it.className} ${it.textContent}`).join("|"));
-  // What is typed is in the address only once its button is pressed, and until something else is typed.
+  // What is typed is in the address only once its button is pressed, and until something else is typed. No browser opens a very long one.
   const link = document.querySelector(".link");
   const hashes = [location.hash];
+  const room = 600000 - location.href.replace(/#.*/, "").length - "#text=".length;
+  const line = "1".repeat(996);
+  for (const more of [1, 0]) {
+    copied = undefined;
+    // The address has three characters for a line feed.
+    type(`${line}\n`.repeat(room / 999) + "1".repeat((room % 999) + more));
+    link.click();
+    await sleep(0);
+    hashes.push(copied?.length ?? 0, location.hash.length > 1, link.textContent);
+    has(document.documentElement.scrollWidth <= innerWidth, `${link.textContent} is as wide as its frame`);
+  }
+  type(typed);
   changes = 0;
   type(typed);
   await sleep(900);
@@ -147,8 +162,6 @@ async function visit({ SAID, MARKED, OFFERED, GUESSED, TABLES }) {
     steps.push(enter.defaultPrevented);
   }
 
-  const wrong = [];
-  const has = (holds, what) => holds || wrong.push(what);
   has(document.querySelectorAll("[aria-live], [role=status], [role=alert]").length === 1, "one live line");
   has(document.getElementById(form.text.getAttribute("aria-describedby")).textContent, "a description");
   const follows = (one, other) => one.compareDocumentPosition(other) & Node.DOCUMENT_POSITION_FOLLOWING;
@@ -195,6 +208,18 @@ async function visit({ SAID, MARKED, OFFERED, GUESSED, TABLES }) {
   }
   const colorOf = (it) => getComputedStyle(it).color;
   const calls = [];
+  for (const [text, fields, other] of CALLED) {
+    form.reset();
+    for (const [name, value] of Object.entries(fields)) form[name].value = value;
+    type(text);
+    for (const section of all("section", (it) => it)) {
+      for (const button of section.querySelectorAll("[role=group] button")) {
+        button.click();
+        calls.push([button.textContent, section.querySelector("dd:last-child").textContent, section.querySelector("pre").textContent, text, other]);
+      }
+    }
+  }
+  form.reset();
   for (const link of nav.querySelectorAll("a")) {
     link.click();
     const name = link.textContent;
@@ -245,8 +270,14 @@ async function visit({ SAID, MARKED, OFFERED, GUESSED, TABLES }) {
   steps.push(row.cells[0].textContent, top >= 0 && end <= innerHeight, document.documentElement.scrollWidth > innerWidth, form.text.value);
   report({ width: innerWidth, steps, marks, offers, guesses, tables, ofMany, wrong, calls, least, leastOfMany });
 }
+const MONTHS = ["January", "February", "March", "April", "May", "June", "July", "August", "September", "October", "November", "December"];
+const WEEKDAYS = ["Monday", "Tuesday", "Wednesday", "Thursday", "Friday", "Saturday", "Sunday"];
+const two = (number) => String(number).padStart(2, "0");
 /** Texts, and what the page says of each. */
 const SAID = {
+  // 2026-11-16 was a Monday, and the seventh of each month of 1996 a day that the engine names.
+  ...Object.fromEntries(WEEKDAYS.map((name, i) => [`2026-11-${16 + i}`, `${name}, ${16 + i} November 2026`])),
+  ...Object.fromEntries(MONTHS.map((name, i) => [`1996-${two(i + 1)}-07`, `${WEEKDAYS[(new Date(Date.UTC(1996, i, 7)).getUTCDay() + 6) % 7]}, 7 ${name} 1996`])),
   "0000-01-01": "Saturday, 1 January 0000", "1969-12-31": "Wednesday, 31 December 1969",
   "12:13:14Z": "12:13:14 UTC", "12:13:14.000001": "12:13:14.000001, no offset or 12 hours 13 minutes 14.000001 seconds",
   "23:30-01:00": "23:30, 1:00 west of UTC: 00:30 UTC on the day after",
@@ -315,8 +346,11 @@ const OFFERED = [
   ["2021-02-29 ", {}, [], "Options", "Not a date: out_of_range_day"],
   ["2020-02-29T12:13", { missingOffset: "error" }, ["Not a date-time: an offset is required: allow none"], "Options", "Date-time: 2020-02-29T12:13:00"],
 ];
+const guessed = (text, date) => [text, {}, "Not one of the four kinds", date, "", `Date: ${date}`];
 /** Texts in other forms: the titles, what may be meant, what else is said, and what is shown first after a click. */
 const GUESSED = [
+  ...MONTHS.flatMap((name, i) => [guessed(`7 ${name.slice(0, 3)} 2026`, `2026-${two(i + 1)}-07`), guessed(`${name.toUpperCase()} 7th, 2026`, `2026-${two(i + 1)}-07`)]),
+  ...WEEKDAYS.flatMap((name) => [guessed(`${name.slice(0, 3)}, 29.02.2020`, "2020-02-29"), guessed(`${name} 29 Feb 2020`, "2020-02-29")]),
   ["29.02.2020", {}, "Not one of the four kinds", "2020-02-29", "", "Date: 2020-02-29"],
   ["22 Nov 2026", {}, "Not one of the four kinds", "2026-11-22", "", "Date: 2026-11-22"],
   ["11/22/2026 10:00", {}, "Not one of the four kinds", "2026-11-22T10:00", "", "Date-time: 2026-11-22T10:00:00"],
@@ -340,6 +374,17 @@ const GUESSED = [
   ["2020-02-29T12:13+01:00[Europe/Berlin]", {}, "Not one of the four kinds", "2020-02-29T12:13+01:00", "", "Date-time: 2020-02-29T12:13:00+01:00"],
   ["never", {}, "Not a date", "", "", "Not a date: too_short"],
 ];
+/** Texts with options, and texts of the same length that the calls which the page shows for them have to refuse, but only with these options. */
+const CALLED = [
+  ["2020-02-29", {}, "1582934400"], ["12:13:14.123456", {}, "12:13:14.12345x"], ["2020-02-29T12:13Z", {}, "2020-02-29T12:60Z"], ["PT90M", {}, "PT90x"], ["1 day, 12:13", {}, "1 day, 12:60"],
+  ...[["infer", "86400"], ["s", "86400"], ["ms", "86400000"], ["us", "86400000000"]].map(([timestampUnit, text]) => [text, { form: "orTimestamp", timestampUnit }, text.replace(/0$/, "x")]),
+  ["1.5", { form: "orTimestamp", timestampUnit: "s" }, "1.x"], ["1.1234567", { form: "orTimestamp", timestampUnit: "ms", overflow: "truncate" }, "1.123456x"],
+  ["12:13:14.1234567", { overflow: "truncate" }, "12:13:14.123456x"], ["2020-02-29T12:13:14.1234567Z", { overflow: "truncate" }, "2020-02-29T12:13:60.1234567Z"],
+  ["1 day, 12:13:14.1234567", { overflow: "truncate" }, "1 day, 12:13:60.1234567"],
+  ["12:13:14+01:00", { form: "strict" }, "12:13:14.00000"], ["2020-02-29T12:13:14Z", { form: "strict" }, "2020-02-29 12:13:14Z"],
+  ["12:13:14.1234567Z", { form: "strict", overflow: "truncate" }, "12:13:14.12345678"],
+  ["P1Y1D", { isoOrder: "strict" }, "P1D1Y"], ["2020-02-29T12:13Z", { missingOffset: "utc" }, "2020-02-29T12:60Z"],
+];
 /** Texts of several lines with options, what is clicked, the table, what is offered, and what is copied. */
 const TABLES = [
   ["2020-02-29\n2021-02-29\r\n12:13\n", {}, [], [
@@ -348,7 +393,7 @@ const TABLES = [
   ], "", "line,text,value,code,start,end,expected\r\n1,2020-02-29,2020-02-29,,,,\r\n2,2021-02-29,,out_of_range_day,8,10,a day that the month has\r\n3,12:13,,too_short,5,5,a date: YYYY-MM-DD\r\n"],
   ["12:13\n2021-02-29", {}, ["Durations", "Only refused"], [
     "1 of 2 lines is a duration", "partly", "Dates: 0,Times: 1,Date-times: 0,[Durations: 1]", "2 | 2021-02-29 | expected digits of the hours, then a colon, at character 5",
-  ], "", "line,text,value,code,start,end,expected\r\n1,12:13,PT12H13M,,,,\r\n2,2021-02-29,,invalid_char_hour,4,5,\"digits of the hours, then a colon\"\r\n"],
+  ], "", "line,text,value,code,start,end,expected\r\n2,2021-02-29,,invalid_char_hour,4,5,\"digits of the hours, then a colon\"\r\n"],
   ["29.02.2020\n\n2 days, \"x\"", {}, [], [
     "0 of 3 lines are dates", "closest", "[Dates: 0],Times: 0,Date-times: 0,Durations: 0",
     "1 | 29.02.2020 | expected four digits of the year, at characters 1 to 4. A guess of this page: 2020-02-29", "2 |  | expected a date: YYYY-MM-DD, at the end",
@@ -387,7 +432,7 @@ const STEPS = [
   "A year counts as 365 days, a month as 30.", "", "", "",
   "Saturday, 29 February 2020, 12:13:14.5, 1:30 east of UTC: 10:43:14.5 UTC",
   "date Saturday, 29 February 2020|time 12:13:14.5|offset 1:30 east of UTC|date 2020-02-29|time 12:13:14.5|offset +01:30|date 2020-02-29|time 12:13:14.500000|offset +01:30",
-  ["", 0, "", "#text=2020-02-29T12%3A13%3A14.5%2B01%3A30", true, "Link copied"],
+  ["", 0, false, "No link: browsers open none over 0.6 MB", 600000, true, "Link copied", 0, "", "#text=2020-02-29T12%3A13%3A14.5%2B01%3A30", true, "Link copied"],
   "Date-time: Saturday, 29 February 2020, 12:13:14.5, 1:30 east of UTC: 10:43:14.5 UTC.",
   2, "", "Copy link",
   "Not a date: expected a day that the month has, from character 9 on.",
@@ -473,7 +518,7 @@ files["served.html"] = `${source("out/try.html")}${reporting}<script type="modul
 files["all.html"] = `<!DOCTYPE html>${reporting}
   <script type="importmap">{ "imports": { "speedate": "./speedate.js", "speedate/columns": "./columns.js", "node:assert/strict": "./shim.mjs", "node:fs": "./shim.mjs" } }</script>
   <script type="module">(${readAll})()</script>`;
-writeFileSync("try.html", `${source("out/try.html")}${reporting}<script type="module">(${visit})(${JSON.stringify({ SAID: Object.keys(SAID), MARKED: Object.keys(MARKED), OFFERED, GUESSED, TABLES })})</script>`);
+writeFileSync("try.html", `${source("out/try.html")}${reporting}<script type="module">(${visit})(${JSON.stringify({ SAID: Object.keys(SAID), MARKED: Object.keys(MARKED), OFFERED, GUESSED, TABLES, CALLED })})</script>`);
 writeFileSync("frames.html", `<!DOCTYPE html><body><script>
   const frames = [[320, "try.html#text=2021-02-29"], [360, "try.html#text=2021-02-29"], [1280, "try.html#text=2021-02-29"], [100, "http://127.0.0.1:${port}/all.html"], [100, "http://127.0.0.1:${port}/served.html#text=secret"]];
   const add = ([width, src]) => document.body.append(Object.assign(document.createElement("iframe"), { width, src, height: 800 }));
@@ -515,24 +560,45 @@ assert.ok(!/[`*]|\]\(|^<p>([-|>]| {4}|\d+\.)/m.test(shown), "the grammar has all
 for (const [, to, place] of page.replace(/<script[^]*?<\/script>/g, "").matchAll(/href="(?!https:|data:)([^"#]*)#?([^"]*)"/g))
   assert.ok(to === "" && (place.includes("=") || page.includes(`id="${place}"`)), `${to}#${place}`);
 
-// ---- The calls that the page shows: those of JavaScript give the value, those of C are compiled, the others have names that are there ----
+// ---- The calls that the page shows: those of JavaScript, Python and C are made, the others have names that are there ----
 
 const { calls } = visits[0];
 for (const it of visits) assert.deepEqual(calls, it.calls);
-const of = (language) => calls.filter(([it]) => it === language).map(([, value, code]) => [code, value]);
-assert.ok(["Rust", "Python", "C", "JavaScript"].every((it) => of(it).length > 3));
-for (const [code, value] of of("JavaScript"))
-  assert.equal(speedate.format(new Function(...Object.keys(speedate), `return ${code}`)(...Object.values(speedate))), value);
-if (!spawnSync("cc", ["--version"]).error) {
-  const functions = of("C").map(([code], i) => `int call${i}(void) {\n${code}\nreturn code;\n}\n`);
-  writeFileSync("calls.c", `#include "${root}/c/speedate.h"\n${functions.join("")}`);
-  const { status, stderr } = spawnSync("cc", ["-Wall", "-Wextra", "-Werror", "-fsyntax-only", "calls.c"], { encoding: "utf8" });
-  assert.equal(status, 0, stderr);
+/** The calls in a language, each with what it has to give: the text of the value, or nothing for another text in the place of its own. */
+const of = (language) =>
+  calls.filter(([it]) => it === language).flatMap(([, value, code, text, other]) => (other === undefined ? [[code, value]] : [[code, value], [code.replace(text, other), ""]]));
+assert.ok(["Rust", "Python", "C", "JavaScript"].every((it) => of(it).length > 2 * CALLED.length));
+const answersOf = (language, answers) => assert.deepEqual(of(language).map(([code], i) => [code, answers[i]]), of(language), language);
+const inJavaScript = (code) => {
+  try {
+    return speedate.format(new Function(...Object.keys(speedate), `return ${code}`)(...Object.values(speedate)));
+  } catch (error) {
+    assert.ok(error instanceof speedate.SpeedateError, code);
+    return "";
+  }
+};
+answersOf("JavaScript", of("JavaScript").map(([code]) => inJavaScript(code)));
+const run = (command, args, input) => {
+  const { status, signal, stdout, stderr } = spawnSync(command, args, { encoding: "utf8", input });
+  assert.equal(signal ?? status, 0, stderr);
+  return stdout.split("\n");
+};
+if (library) {
+  const print = { Date: "date", Time: "time", DateTime: "datetime", Duration: "duration" };
+  const functions = of("C").map(([code], i) => {
+    const [, kind] = /^Speedate(\w+) value;$/m.exec(code);
+    const digits = kind.endsWith("Time") ? "-1, " : "";
+    return `static void call${i}(void) {\n${code}\nchar text[64] = "";\nsize_t length;\nif (code == 0 && speedate_${print[kind]}_to_text(value, ${digits}text, sizeof text, &length) != 0) exit(1);\nputs(text);\n}\n`;
+  });
+  const main = `int main(void) {\n${functions.map((_, i) => `call${i}();`).join("\n")}\nreturn 0;\n}\n`;
+  writeFileSync("calls.c", `#include <stdio.h>\n#include <stdlib.h>\n#include "${root}/c/speedate.h"\n${functions.join("")}${main}`);
+  run("cc", ["-Wall", "-Wextra", "-Werror", "calls.c", library, "-o", "calls"]);
+  answersOf("C", run("./calls", []));
 }
-const inPython = source("python/speedate/_speedate.pyi") + source("python/speedate/_types.pyi");
-for (const [code] of of("Python"))
-  for (const [, called, named] of code.matchAll(/speedate\.(\w+)\(|(\w+)=/g))
-    assert.match(inPython, new RegExp(called ? `\\b(def|class) ${called}\\b` : `\\b${named}: `), code);
+if (folder) {
+  const script = "import json, sys\nsys.path.insert(0, sys.argv[1])\nimport speedate\nfor code in json.load(sys.stdin):\n    try:\n        print(speedate.text(eval(code)))\n    except ValueError:\n        print()\n";
+  answersOf("Python", run("python3", ["-c", script, folder], JSON.stringify(of("Python").map(([code]) => code))));
+}
 const inRust = readdirSync(`${root}/rust/src`).map((it) => source(`rust/src/${it}`)).join("");
 for (const [code] of of("Rust").filter(([it]) => !it.startsWith("//")))
   for (const [word] of code.replace(/"[^"]*"|\/\/.*|^let \w+|&?\bconfig\b/gm, "").matchAll(/[A-Za-z]\w+/g)) assert.match(inRust, new RegExp(`\\b${word}\\b`), code);

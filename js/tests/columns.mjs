@@ -416,6 +416,29 @@ for (const [maxLineBytes, size, index] of [[20, 20], [20, 21, 0], [0, 0], [0, 1,
     if (index !== undefined) assert.throws(() => reader.read(""), TypeError);
   }
 }
+for (const [text, limits] of [
+  // Lines, which of them is too long for each limit, and none for the others. Their ends are not counted.
+  ["1970-01-02\r\n1970-01-03 x\n1970-01-04\n", { 10: 1, 11: 1, 12: undefined }], ["1970-01-02\r", { 9: 0, 10: undefined }], ["\r\r\n\n", { 0: 0, 1: undefined }],
+  ["x\n\u2212\u2212", { 0: 0, 5: 1, 6: undefined }], ["xx\nx\n\ud83d\ude00\ud83d", { 1: 0, 2: 2, 6: 2, 7: undefined }],
+]) {
+  for (const [limit, wanted] of Object.entries(limits)) {
+    const options = { maxLineBytes: Number(limit), refused: "number" };
+    const whole = thrown(() => readColumn(text, "date", options));
+    assert.deepEqual([whole?.name, whole?.index], wanted === undefined ? [undefined, undefined] : ["LineTooLong", wanted], `${JSON.stringify(text)}, ${limit}`);
+    for (const it of [text, Buffer.from(text)])
+      for (let i = 0; i <= it.length; i++)
+        for (let j = i; j <= it.length; j++) {
+          const reader = columnReader("date", options);
+          const raised = thrown(() => [it.slice(0, i), it.slice(i, j), it.slice(j)].map((piece) => reader.read(piece)) && reader.end());
+          assert.deepEqual([raised?.message, raised?.index], [whole?.message, whole?.index], `${JSON.stringify(text)}, ${limit}, cut at ${i} and ${j}`);
+        }
+  }
+}
+// A line that is refused before the one that is too long comes first.
+for (const pieces of [["1970-01-02\nx\n1970-01-03 x\n"], ["1970-01-02\nx", "\n1970-01-03 x"]]) {
+  const reader = columnReader("date", { maxLineBytes: 11 });
+  assert.deepEqual(((it) => [it.code, it.index])(thrown(() => pieces.map((it) => reader.read(it)))), ["too_short", 1]);
+}
 {
   const reader = columnReader("date", { maxLineBytes: 10 });
   for (let i = 0; i < 10; i++) assert.equal(reader.read("1970-01-02\n1970-01").numbers.length + reader.read("-02\n").numbers.length, 2);

@@ -497,6 +497,20 @@ assert.deepEqual(namesOf(core), namesOf(speedate).filter((it) => !ONLY_OF_COLUMN
 assert.deepEqual([core.parseDate("2020-02-29"), core.format(core.parseDuration("PT90M"))], [date, "PT1H30M"]);
 for (const [name, it] of Object.entries(core)) assert.equal(it.name, name);
 assert.equal(require("speedate/package.json").name, "speedate");
+// An error is one of each entry's class, and of none that is made from it.
+{
+  const modules = [core, speedate, require("speedate"), require("speedate/columns"), await import("speedate/bare")];
+  for (const { SpeedateError: Thrown } of modules) {
+    const made = Object.create(Thrown.prototype);
+    for (const { SpeedateError: Class } of modules) assert.ok(made instanceof Class && !(made instanceof class extends Class {}));
+  }
+  for (const { parseDate, SpeedateError: Class } of modules.slice(0, 4)) {
+    for (const it of modules) assert.ok(thrown(() => parseDate("x")) instanceof it.SpeedateError);
+    for (const it of [undefined, null, 5, "x", {}, new RangeError(), Class]) assert.ok(!(it instanceof Class));
+    class Own extends Class {}
+    assert.ok(new Own({ code: "too_short", expected: "a date" }) instanceof Own && thrown(() => parseDate("x")) instanceof RangeError);
+  }
+}
 const copy = (name, file = "speedate.js") => import(`./node_modules/speedate/${file}?${name}`);
 const { Module } = WebAssembly;
 for (const [path, entry, all] of [["speedate", "speedate", core], ["speedate/columns", "columns", speedate]]) {
