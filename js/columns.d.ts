@@ -42,7 +42,7 @@ export type DurationColumnOptions = DurationOptions & ColumnOptions;
 export type FrontColumnOptions = { form: "front" } & OverflowOptions & MissingOffsetOptions & ColumnOptions;
 
 /** Reads a column: a text with one value on each line. A line is ended by a line feed, with a carriage return before it or without, or by
- * the end of the text. `readColumn("1970-01-02\n", "date").numbers` is `Int32Array.of(1)`. The number of a line, by kind:
+ * the end of the text. A byte order mark at the beginning is dropped. `readColumn("1970-01-02\n", "date").numbers` is `Int32Array.of(1)`. The number of a line, by kind:
  *
  * - `date`: the days from 1970-01-01.
  * - `dateTime`: Unix time. A date-time without an offset is refused, unless `missingOffset` is `utc`. The Date of a line, as `toDate` gives

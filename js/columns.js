@@ -93,8 +93,21 @@ function newColumn(name, options) {
   const returned = its.names.includes("unit") ? UNITS_OF_COLUMNS[unit] : INTEGERS;
   return {
     call: isFront ? "datetime_front_lines" : call, kind: kinds[isFront ? FORM.text : form], ...(isFront ? asFronts : asNumbers)(returned),
-    numbers, refused, parser: isFront ? FORM.text : form, lines: 0, refusedCount: 0, unfinished: new Uint8Array(0), size: 0, half: "", hasEnded: false,
+    numbers, refused, parser: isFront ? FORM.text : form, lines: 0, refusedCount: 0, unfinished: new Uint8Array(0), size: 0, half: "", hasBegun: false, hasEnded: false,
   };
+}
+
+const BYTE_ORDER_MARK = [0xef, 0xbb, 0xbf];
+/** Drops a byte order mark at the beginning of a column, once it is whole. */
+function dropMark(column) {
+  const { unfinished, size } = column;
+  for (let i = 0; i < 3; i++) {
+    if (i === size) return;
+    if (unfinished[i] !== BYTE_ORDER_MARK[i]) return void (column.hasBegun = true);
+  }
+  unfinished.copyWithin(0, 3, size);
+  column.size -= 3;
+  column.hasBegun = true;
 }
 
 /** Adds bytes to the unfinished line. The array doubles, so that many small pieces need no more room than a large one. */
@@ -207,8 +220,9 @@ function readPiece(column, text, isEnd) {
   const bytes = bytesOfPiece(column, text, isEnd);
   const [parts, refusals] = [[], []];
   for (let from = 0; from < bytes.length; from += BLOCK_SIZE) {
-    const before = column.size;
+    const before = column.hasBegun ? column.size : 0;
     addUnfinished(column, bytes.subarray(from, from + BLOCK_SIZE));
+    if (!column.hasBegun) dropMark(column);
     checkLines(column, false, parts, refusals);
     // Without a line feed no line ends, and what came before is not read once more.
     if (column.unfinished.subarray(before, column.size).includes(LINE_FEED)) readLines(column, false, parts, refusals);
@@ -312,7 +326,7 @@ export function printColumn(numbers, kind) {
   choiceOf(kind, Object.keys(PRINTERS), "kind");
   const type = typeName.call(numbers);
   const types = kind === "date" ? ["Int32Array"] : ["Float64Array", "BigInt64Array"];
-  if (!types.includes(type)) throw new TypeError(`numbers has to be a ${types.join(" or a ")}`);
+  if (!types.includes(type)) throw new TypeError(`numbers has to be ${types.map((it) => `${it.startsWith("I") ? "an" : "a"} ${it}`).join(" or ")}`);
   start();
   kept.reserve(COLUMN.text - PLACE.text + LINES_AT_ONCE * LINE_SIZE);
   const printer = { put: PUT[type], call: calls[`speedate_${PRINTERS[kind]}`], flags: kind === "dateTimeClock" ? CLOCK : 0, inC: kind === "date" ? Int32Array : BigInt64Array };

@@ -24,6 +24,11 @@ export type SpeedateDateTime = {
 export type SpeedateDuration = {
   readonly sign: 1 | -1; readonly days: number; readonly seconds: number; readonly milliseconds: number; readonly microseconds: number;
 };
+/** A duration as an argument. A field that is missing is 0, and the sign is then the sign of the amounts: `{ days: 1 }`, `{ seconds: -90 }`.
+ * There are no other fields: hours are seconds. */
+export type DurationInput = {
+  readonly sign?: 1 | -1; readonly days?: number; readonly seconds?: number; readonly milliseconds?: number; readonly microseconds?: number;
+};
 /** A value of each kind. */
 export type SpeedateValue = SpeedateDate | SpeedateTime | SpeedateDateTime | SpeedateDuration;
 
@@ -55,7 +60,7 @@ export class SpeedateError extends RangeError {
   toJSON(): Reason & Partial<Part> & { readonly name: string; readonly message: string; readonly index?: number };
 }
 /** The result of a `safe` call: the value, or why there is none. It never throws for data: what is neither a string nor a
- * Uint8Array is refused as `invalid_type`, "a string". */
+ * Uint8Array is refused as `invalid_type`, "a string", and so is a text for which there is no memory, "a shorter text". */
 export type Answer<Value> = { readonly ok: true; readonly value: Value } | Refusal;
 /** A refused text. */
 export type Refusal = { readonly ok: false } & Reason & Part;
@@ -137,49 +142,54 @@ export function schema(kind: "duration", options?: DurationOptions): Schema<Spee
 /** The date-time of a timestamp, in UTC: 1970-01-01T00:00:01.5Z of `dateTimeFromTimestamp(1500, "ms")`. `date_too_small` or `date_too_large`
  * outside the years 0 to 9999. For another offset, see `withOffset`. */
 export function dateTimeFromTimestamp(timestamp: number | bigint, unit: TimestampUnit): SpeedateDateTime;
+/** The microseconds of Unix time, exactly: `dateTimeFromTimestamp(it, "us")` is the date-time again, in UTC. `tz_required` without an offset. */
+export function toUnixMicroseconds(value: SpeedateDateTime): bigint;
 /** The Date of a date-time, rounded down to the millisecond: `toDate(parseDateTime("1970-01-01T00:00Z")).getTime()` is 0. `tz_required` without an
  * offset. */
 export function toDate(value: SpeedateDateTime): Date;
 /** The date-time of a Date, in UTC: `fromDate(new Date(0))`. `date_too_small` or `date_too_large` outside the years 0 to 9999. */
 export function fromDate(date: Date): SpeedateDateTime;
 
+/** The date of a date-time, and its time of day with the offset, as its clock shows them. */
+export function dateOf(value: SpeedateDateTime): SpeedateDate;
+export function timeOf(value: SpeedateDateTime): SpeedateTime;
+
 /** The one text of a value: `PT1H30M` of 90 minutes. With `digits` a time or a date-time has just as many digits after the second,
  * rounded down: `12:13:14.500Z` with 3, as `Date` prints it. A RangeError where an offset is not whole minutes, since it would be
  * parsed as another. */
-export function format(value: SpeedateValue, options?: NoOptions): string;
+export function format(value: SpeedateValue | DurationInput, options?: NoOptions): string;
 export function format(value: SpeedateTime | SpeedateDateTime, options: { digits?: 0 | 3 | 6 }): string;
 /** The order of two values, for `dates.sort(compare)`: -1 if the first is the smaller one, 0 if they are equal, otherwise 1. Times and
  * date-times compare by instant if both have an offset, otherwise as clocks show them, unlike in `until`: sort values that
  * all have one, or that all have none. */
-export function compare(first: SpeedateDate, second: SpeedateDate): -1 | 0 | 1;
-export function compare(first: SpeedateTime, second: SpeedateTime): -1 | 0 | 1;
-export function compare(first: SpeedateDateTime, second: SpeedateDateTime): -1 | 0 | 1;
-export function compare(first: SpeedateDuration, second: SpeedateDuration): -1 | 0 | 1;
+export function compare<Value extends SpeedateValue>(first: Value, second: Value): -1 | 0 | 1;
 /** The days from one date to the other, negative if `earlier` is the later one: 366 from 2020-01-01 to 2021-01-01. */
 export function daysBetween(earlier: SpeedateDate, later: SpeedateDate): number;
 /** The value moved by a duration, at the same offset: 2020-03-01 of 2020-02-29 and `P1D`. `date_not_exact` if a date would move by a
  * part of a day; `date_too_small` or `date_too_large` outside the years 0 to 9999. */
-export function add(start: SpeedateDate, duration: SpeedateDuration): SpeedateDate;
-export function add(start: SpeedateDateTime, duration: SpeedateDuration): SpeedateDateTime;
+export function add(start: SpeedateDate, duration: DurationInput): SpeedateDate;
+export function add(start: SpeedateDateTime, duration: DurationInput): SpeedateDateTime;
+export function add(start: SpeedateDate | SpeedateDateTime, duration: DurationInput): SpeedateDate | SpeedateDateTime;
 /** The value moved back by a duration, with the errors of `add`: 2020-02-28 of 2020-02-29 and `P1D`. */
-export function subtract(start: SpeedateDate, duration: SpeedateDuration): SpeedateDate;
-export function subtract(start: SpeedateDateTime, duration: SpeedateDuration): SpeedateDateTime;
+export function subtract(start: SpeedateDate, duration: DurationInput): SpeedateDate;
+export function subtract(start: SpeedateDateTime, duration: DurationInput): SpeedateDateTime;
+export function subtract(start: SpeedateDate | SpeedateDateTime, duration: DurationInput): SpeedateDate | SpeedateDateTime;
 /** The duration from one value to the other: `P1D` from 2020-02-29 until 2020-03-01. A date-time without offset is taken to be in UTC, unlike in
  * `compare`: 12:00 without one comes before 12:30+01:00 of the same day, and the duration until that is minus 30 minutes. */
-export function until(start: SpeedateDate, end: SpeedateDate): SpeedateDuration;
-export function until(start: SpeedateDateTime, end: SpeedateDateTime): SpeedateDuration;
+export function until<Value extends SpeedateDate | SpeedateDateTime>(start: Value, end: Value): SpeedateDuration;
 /** The duration of a number of microseconds, with its sign: `-PT1.5S` of -1500000. The number has to fit 64 bits. */
 export function durationFromMicroseconds(microseconds: number | bigint): SpeedateDuration;
 /** The sum of durations, each with its sign: `PT1H30M` of `PT2H` and `-PT30M`, and `PT0S` of none. `duration_days_too_large` if it has
  * over 999999999 days. */
-export function sum(durations: readonly SpeedateDuration[]): SpeedateDuration;
+export function sum(durations: readonly DurationInput[]): SpeedateDuration;
 /** All microseconds of a duration, with its sign: `-1500000n` of `-PT1.5S`. `number_too_large` from 2 ** 63 on. */
-export function totalMicroseconds(duration: SpeedateDuration): bigint;
+export function totalMicroseconds(duration: DurationInput): bigint;
 /** The value at the same instant, as a clock at another offset shows it: 13:00+01:00 of 12:00Z and 3600. It knows no zones. `out_of_range_tz`
  * from 24 hours on; `tz_required` without an offset; `time_too_large` if a time would fall on another day; `date_too_small` or
  * `date_too_large` if a date-time would fall outside the years 0 to 9999. */
 export function withOffset(value: SpeedateTime, offsetSeconds: number): SpeedateTime;
 export function withOffset(value: SpeedateDateTime, offsetSeconds: number): SpeedateDateTime;
+export function withOffset(value: SpeedateTime | SpeedateDateTime, offsetSeconds: number): SpeedateTime | SpeedateDateTime;
 
 /** Hands over the entry's module, `speedate/speedate.wasm` or `speedate/columns.wasm`, as a compiled `WebAssembly.Module`, in an
  * engine that compiles no bytes at run time, and to an entry `bare`: `init(await WebAssembly.compileStreaming(fetch(address)))`. It has to come

@@ -19,9 +19,15 @@ const SHORT_SIZES = Array.from({ length: 65 }, (_, size) => BigInt(size));
 const SECONDS_IN_DAY = 86400;
 /** The bytes of a duration in C. */
 const DURATION_SIZE = 16;
-const CODE = { tooShort: 1, invalidCharTzSign: 14, tzRequired: 19, dateTooSmall: 38 };
-/** The code of what is not a text. C has no such code. */
+const CODE = { tooShort: 1, invalidCharTzSign: 14, tzRequired: 19, durationValueTooLarge: 35, dateTooSmall: 38, timeTooLarge: 40 };
+/** What is expected of fields that C has in another form: there a time has microseconds up to 999999. */
+const FIELDS_EXPECTED = {
+  [CODE.timeTooLarge]: "millisecond and microsecond, 0 to 999 each",
+  [CODE.durationValueTooLarge]: "sign 1 or -1, seconds up to 86399, milliseconds and microseconds up to 999 each",
+};
+/** The codes of what is not a text, and of a text for which there is no memory. C has no such codes. */
 const INVALID_TYPE = -1;
+const NO_ROOM = -2;
 /** The forms of texts, with their numbers in C, which has its own calls for fronts. */
 const FORM = { text: 0, orTimestamp: 1, strict: 2, front: 3 };
 const MISSING = { error: 0, utc: 1 };
@@ -60,9 +66,8 @@ export class SpeedateError extends RangeError {
   }
 
   toJSON() {
-    const { name, message, code, expected, start, end, index } = this;
-    const all = Object.entries({ name, message, code, expected, start, end, index });
-    return Object.fromEntries(all.filter(([, it]) => it !== undefined));
+    const { text, ...others } = this;
+    return { message: this.message, ...others };
   }
 }
 
@@ -219,21 +224,32 @@ const stringUnit = (text, at) => text.charCodeAt(at);
 const byteAt = (text, at) => text[at];
 const frontOf = (text) => (typeof text === "string" && text.length > 32 ? text.slice(0, frontSize(text, text.length, stringUnit)) : text);
 
-/** Puts a text into the memory, calls C, and returns its code, or INVALID_TYPE. The results are in the shared memory. */
+/** A library for a large text, if there is memory for one. */
+function largeLibrary(size) {
+  try {
+    return new Library(size);
+  } catch (error) {
+    if (!(error instanceof RangeError)) throw error;
+  }
+}
+
+/** Puts a text into the memory, calls C, and returns its code, INVALID_TYPE or NO_ROOM. The results are in the shared memory. */
 function read(text, isFront, numbers, call) {
   start();
   const short = putShort(text);
-  if (short !== undefined) return call(kept, short, numbers);
+  const form = isFront ? FORM.front : numbers.form;
+  if (short !== undefined) return call(kept, short, numbers, form);
   const bytes = typeof text === "string" ? encoded(text) : text;
   if (!isBytes(bytes)) return INVALID_TYPE;
   const whole = byteCount.call(bytes);
   const size = isFront ? frontSize(bytes, whole, byteAt) : whole;
-  const library = size > MOST_KEPT ? new Library(size) : kept;
+  const library = size > MOST_KEPT ? largeLibrary(size) : kept;
+  if (library === undefined) return NO_ROOM;
   library.reserve(size);
   if (size < whole) for (let i = 0; i < size; i++) library.bytes[PLACE.text + i] = bytes[i];
   else if (size > 0) library.bytes.set(bytes, PLACE.text);
   lastSize = whole;
-  const code = call(library, size < SHORT_SIZES.length ? SHORT_SIZES[size] : BigInt(size), numbers);
+  const code = call(library, size < SHORT_SIZES.length ? SHORT_SIZES[size] : BigInt(size), numbers, form);
   if (library !== kept) kept.bytes.set(library.bytes.subarray(0, PLACE.text));
   return code;
 }
@@ -276,30 +292,43 @@ function digitsOption(value) {
   throw new TypeError("digits has to be one of 0, 3, 6");
 }
 /** What checks the value of an option that is not one of CHOICES. */
-const CHECKED = { __proto__: null, digits: digitsOption };
+const CHECKED = { __proto__: null };
 
 function isPlain(it) {
-  const parent = Object(it) === it && Object.getPrototypeOf(it);
-  return parent === null || (parent !== false && Object.getPrototypeOf(parent) === null);
+  const parent = typeof it === "object" && it !== null && Object.getPrototypeOf(it);
+  return parent === Object.prototype || parent === null || (parent !== false && Object.getPrototypeOf(parent) === null);
 }
 
-/** Checks the options of a call that has these forms and names, and returns each as a number of C. */
+/** Checks the options of a call that has these forms and names, and returns each as a number of C. This has to be quick, so that an
+ * option costs little beside its call. */
 function numbersOf(options, { forms, names }) {
   if (options === undefined) return NO_OPTIONS;
   if (!isPlain(options)) throw new TypeError("options has to be a plain object");
   const numbers = noNumbers();
-  for (const name of Object.getOwnPropertyNames(options)) {
+  let isEmpty = true;
+  for (const name in options) {
+    if (!Object.hasOwn(options, name)) continue;
+    isEmpty = false;
     const value = options[name];
     if (value === undefined) continue;
-    if (name === "form" && forms !== undefined) numbers.form = FORM[forms[choiceOf(value, forms, name)]];
-    else if (!names.includes(name)) throw new TypeError(`${name} is no option of this call`);
+    if (name === "form" ? forms === undefined : !names.includes(name)) throw new TypeError(`${name} is no option of this call`);
+    if (name === "form") numbers.form = formNumber(value, forms);
+    else if (name === "overflow") numbers.overflow = choiceOf(value, CHOICES.overflow, name);
+    else if (name === "timestampUnit") numbers.timestampUnit = choiceOf(value, UNITS, name);
+    else if (name === "isoOrder") numbers.isoOrder = choiceOf(value, CHOICES.isoOrder, name);
+    else if (name === "digits") numbers.digits = digitsOption(value);
     else numbers[name] = CHECKED[name] === undefined ? choiceOf(value, CHOICES[name], name) : CHECKED[name](value, name);
   }
-  if (Object.getOwnPropertySymbols(options).length > 0) throw new TypeError("a symbol is no option");
+  if (isEmpty && Reflect.ownKeys(options).length > 0) throw new TypeError("a symbol or a hidden property is no option");
   if ((numbers.form === FORM.orTimestamp) !== (numbers.timestampUnit !== undefined)) {
     throw new TypeError("timestampUnit has to be given with the form orTimestamp, and with no other");
   }
   return numbers;
+}
+
+function formNumber(value, forms) {
+  choiceOf(value, forms, "form");
+  return FORM[value];
 }
 
 /** Writes a configuration into the memory of a library, and returns its address. */
@@ -456,7 +485,7 @@ function given(value, name, kinds) {
   start();
   const names = Object(value) === value ? Object.keys(value) : [];
   for (const kind of kinds) if (areFields(names, kind.fields)) return kind.look(value);
-  for (const kind of kinds) if (wrongFields(names, kind).length === 0) return kind.look(value);
+  for (const kind of kinds) if (wrongFields(names, kind).length === 0) return kind.look(kind === DURATION ? wholeDuration(value, names) : value);
   throw new TypeError(`${name} has to be a ${kinds.map((it) => it.name).join(" or ")}${nearestKind(names, kinds)}`);
 }
 
@@ -466,17 +495,28 @@ function areFields(names, fields) {
   return true;
 }
 
-/** What is wrong with the names for a kind: the fields that are missing, and one of another kind. */
+/** What is wrong with the names for a kind: the fields that are missing, and one of another kind. A duration may lack fields if it has
+ * an amount, and no other names, such as hours. */
 function wrongFields(names, { fields, other }) {
-  const missing = fields.filter((it) => !names.includes(it)).map((it) => `without ${it}`);
-  return names.includes(other) ? [...missing, `with ${other}`] : missing;
+  const missing = fields.filter((it) => !names.includes(it));
+  const isPart = fields === DURATION.fields && missing.length > 0 && names.some((it) => it !== "sign" && fields.includes(it));
+  if (isPart) return names.filter((it) => !fields.includes(it)).map((it) => `with ${it}`);
+  const wrong = missing.map((it) => `without ${it}`);
+  return names.includes(other) ? [...wrong, `with ${other}`] : wrong;
+}
+
+/** A duration with all fields. Without a sign it is negative if an amount is. */
+function wholeDuration(value, names) {
+  if (names.length >= DURATION.fields.length) return value;
+  const all = { sign: 1, days: 0, seconds: 0, milliseconds: 0, microseconds: 0, ...value };
+  return names.includes("sign") || !DURATION.fields.some((it) => it !== "sign" && all[it] < 0) ? all : { ...all, sign: -1 };
 }
 
 /** Says what is wrong for the kind that fits best. */
 function nearestKind(names, kinds) {
   const wrongIn = (kind) => wrongFields(names, kind).length + names.filter((it) => !kind.fields.includes(it)).length;
   const nearest = kinds.reduce((best, it) => (wrongIn(it) < wrongIn(best) ? it : best));
-  if (nearest.fields.every((it) => !names.includes(it))) return "";
+  if (nearest.fields.every((it) => !names.includes(it))) return kinds.length > 1 ? "" : `: its fields are ${nearest.fields.join(", ")}`;
   return `: it is a ${nearest.name} ${wrongFields(names, nearest).join(", ")}`;
 }
 
@@ -499,13 +539,16 @@ function acceptOf(number, first, second) {
 }
 function check(it, place) {
   if (WITH_DATE.includes(it.kind) && it.year < 0) accept(CODE.dateTooSmall);
-  accept(it.kind.calls.check(place));
+  const number = it.kind.calls.check(place);
+  const expected = FIELDS_EXPECTED[number];
+  if (expected !== undefined) throw new SpeedateError({ code: reasonOf(number, NONE).code, expected });
+  accept(number);
 }
 
 // ---- Reading ----
 
-// Each reader has its own function, with a short way for a short string without options. An engine compiles a function for the
-// calls that it has seen there, and here it sees only one.
+// Each reader has its own function, with a short way for a short string. An engine compiles a function for the calls that it has
+// seen there, and here it sees only one.
 
 const OPTIONS_OF = {
   date: { forms: ["text", "orTimestamp"], names: ["timestampUnit"] }, time: { forms: ["text", "strict"], names: ["overflow"] },
@@ -515,16 +558,16 @@ const OPTIONS_OF = {
 };
 
 // Each writes the value, or the part for which the text is refused.
-function callDate(library, size, it) {
-  return library.calls.speedate_date_parse_or_part(address.text, size, it.form, putConfig(library, it), address.out, address.part);
+function callDate(library, size, it, form = it.form) {
+  return library.calls.speedate_date_parse_or_part(address.text, size, form, putConfig(library, it), address.out, address.part);
 }
-function callTime(library, size, it) {
-  return library.calls.speedate_time_parse_or_part(address.text, size, it.form, putConfig(library, it), address.out, address.part);
+function callTime(library, size, it, form = it.form) {
+  return library.calls.speedate_time_parse_or_part(address.text, size, form, putConfig(library, it), address.out, address.part);
 }
-function callDateTime(library, size, it) {
-  const code = library.calls.speedate_datetime_parse_or_part(address.text, size, it.form, putConfig(library, it), address.out, address.part);
+function callDateTime(library, size, it, form = it.form) {
+  const code = library.calls.speedate_datetime_parse_or_part(address.text, size, form, putConfig(library, it), address.out, address.part);
   if (it.missingOffset === undefined) return code;
-  if (it.missingOffset === MISSING.error) library.view.setInt32(PART.kind, KINDS.instant[it.form], true);
+  if (it.missingOffset === MISSING.error) library.view.setInt32(PART.kind, KINDS.instant[form], true);
   return code === 0 ? offsetOrUtc(library, size, it) : code;
 }
 /** The code of an accepted date-time. If it lacks an offset, it gets the offset of UTC, or is refused at its end. */
@@ -542,37 +585,31 @@ function offsetOrUtc({ view }, size, { missingOffset }) {
 }
 const callDuration = (library, size, it) =>
   library.calls.speedate_duration_parse_or_part(address.text, size, FORM.text, putConfig(library, it), address.out, address.part);
-const callDateFront = ({ calls }, size) =>
-  calls.speedate_date_parse_or_part(address.text, size, FORM.front, address.defaultConfig, address.out, address.part);
-const callTimeFront = (library, size, it) =>
-  library.calls.speedate_time_parse_or_part(address.text, size, FORM.front, putConfig(library, it), address.out, address.part);
-const callDateTimeFront = (library, size, it) =>
-  library.calls.speedate_datetime_parse_or_part(address.text, size, FORM.front, putConfig(library, it), address.out, address.part);
 
 // Options come first, since a getter among them may call this too.
 function codeOfDate(text, options) {
-  const size = options === undefined ? putShort(text) : undefined;
-  if (size !== undefined) return calls.speedate_date_parse_or_part(address.text, size, FORM.text, address.defaultConfig, address.out, address.part);
-  return read(text, false, numbersOf(options, OPTIONS_OF.date), callDate);
+  const numbers = numbersOf(options, OPTIONS_OF.date);
+  const size = putShort(text);
+  return size === undefined ? read(text, false, numbers, callDate) : callDate(kept, size, numbers);
 }
 function codeOfTime(text, options) {
-  const size = options === undefined ? putShort(text) : undefined;
-  if (size !== undefined) return calls.speedate_time_parse_or_part(address.text, size, FORM.text, address.defaultConfig, address.out, address.part);
-  return read(text, false, numbersOf(options, OPTIONS_OF.time), callTime);
+  const numbers = numbersOf(options, OPTIONS_OF.time);
+  const size = putShort(text);
+  return size === undefined ? read(text, false, numbers, callTime) : callTime(kept, size, numbers);
 }
 function codeOfDateTime(text, options) {
-  const size = options === undefined ? putShort(text) : undefined;
-  if (size !== undefined) return calls.speedate_datetime_parse_or_part(address.text, size, FORM.text, address.defaultConfig, address.out, address.part);
-  return read(text, false, numbersOf(options, OPTIONS_OF.dateTime), callDateTime);
+  const numbers = numbersOf(options, OPTIONS_OF.dateTime);
+  const size = putShort(text);
+  return size === undefined ? read(text, false, numbers, callDateTime) : callDateTime(kept, size, numbers);
 }
 function codeOfDuration(text, options) {
-  const size = options === undefined ? putShort(text) : undefined;
-  if (size !== undefined) return calls.speedate_duration_parse_or_part(address.text, size, FORM.text, address.defaultConfig, address.out, address.part);
-  return read(text, false, numbersOf(options, OPTIONS_OF.duration), callDuration);
+  const numbers = numbersOf(options, OPTIONS_OF.duration);
+  const size = putShort(text);
+  return size === undefined ? read(text, false, numbers, callDuration) : callDuration(kept, size, numbers);
 }
-const codeOfDateFront = (text, options) => read(frontOf(text), true, numbersOf(options, OPTIONS_OF.dateFront), callDateFront);
-const codeOfTimeFront = (text, options) => read(frontOf(text), true, numbersOf(options, OPTIONS_OF.front), callTimeFront);
-const codeOfDateTimeFront = (text, options) => read(frontOf(text), true, numbersOf(options, OPTIONS_OF.front), callDateTimeFront);
+const codeOfDateFront = (text, options) => read(frontOf(text), true, numbersOf(options, OPTIONS_OF.dateFront), callDate);
+const codeOfTimeFront = (text, options) => read(frontOf(text), true, numbersOf(options, OPTIONS_OF.front), callTime);
+const codeOfDateTimeFront = (text, options) => read(frontOf(text), true, numbersOf(options, OPTIONS_OF.front), callDateTime);
 
 /** The bytes that a reader of fronts looks at. */
 const seenOf = (text) => (isBytes(text) ? new Uint8Array(bufferOf.call(text), byteOffset.call(text), frontSize(text, byteCount.call(text), byteAt)) : text);
@@ -583,13 +620,14 @@ const lastReason = (number) => reasonOf(number, kept.view.getInt32(PART.kind, tr
 
 /** The answer for a refused text, of which the call has seen this much. */
 function refusal(number, seen) {
-  if (number === INVALID_TYPE) return { ok: false, code: "invalid_type", expected: "a string", start: 0, end: 0 };
+  if (number < 0) return { ok: false, code: "invalid_type", expected: number === NO_ROOM ? "a shorter text" : "a string", start: 0, end: 0 };
   const { code, expected } = lastReason(number);
   const { start, end } = partOf(seen);
   return { ok: false, code, expected, start, end };
 }
 function errorOf(number, text, seen = text) {
   if (number === INVALID_TYPE) return noText();
+  if (number === NO_ROOM) return new RangeError("text has to be shorter");
   return new SpeedateError(lastReason(number), keptText(text), partOf(seen));
 }
 
@@ -720,11 +758,18 @@ export function dateTimeFromTimestamp(timestamp, unit) {
   return DATE_TIME.read(kept);
 }
 
-export function toDate(value) {
-  const it = given(value, "value", JUST.dateTime);
+/** The milliseconds of Unix time, rounded down. */
+function unixMilliseconds(it) {
   acceptOf(calls.speedate_datetime_unix_milliseconds(putFirst(it), address.out), it);
   if (it.offsetSeconds === null) accept(CODE.tzRequired);
-  return new Date(Number(kept.view.getBigInt64(PLACE.out, true)));
+  return kept.view.getBigInt64(PLACE.out, true);
+}
+export function toUnixMicroseconds(value) {
+  const it = given(value, "value", JUST.dateTime);
+  return unixMilliseconds(it) * 1000n + BigInt(it.microsecond);
+}
+export function toDate(value) {
+  return new Date(Number(unixMilliseconds(given(value, "value", JUST.dateTime))));
 }
 
 export function fromDate(date) {
@@ -734,14 +779,30 @@ export function fromDate(date) {
   return dateTimeFromTimestamp(time, "ms");
 }
 
+// ---- Parts of a date-time ----
+
+function partAs(kind, value) {
+  const it = given(value, "value", JUST.dateTime);
+  check(it, putFirst(it));
+  kind.put(kept.view, PLACE.out, it);
+  return kind.read(kept);
+}
+export function dateOf(value) {
+  return partAs(DATE, value);
+}
+export function timeOf(value) {
+  return partAs(TIME, value);
+}
+
 // ---- Printing and arithmetic ----
 
 export function format(value, options) {
   const { digits } = numbersOf(options, OPTIONS_OF.format);
   const it = given(value, "value", digits === undefined ? ALL_KINDS : HAS_OFFSET);
+  const { print } = it.kind.calls;
   // C counts -1 as no choice of digits.
-  const chosen = HAS_OFFSET.includes(it.kind) ? [digits ?? -1] : [];
-  acceptOf(it.kind.calls.print(putFirst(it), ...chosen, address.buffer, BUFFER_SIZE, address.taken), it);
+  if (HAS_OFFSET.includes(it.kind)) acceptOf(print(putFirst(it), digits ?? -1, address.buffer, BUFFER_SIZE, address.taken), it);
+  else acceptOf(print(putFirst(it), address.buffer, BUFFER_SIZE, address.taken), it);
   if (it.offsetSeconds % 60) throw new RangeError("offsetSeconds has to be whole minutes in print");
   return printed();
 }

@@ -554,7 +554,7 @@ for (const [i, width] of [320, 360, 1280].entries()) {
 
 const page = source("out/try.html");
 for (const code of new Set(source("out/js/speedate.d.ts").match(/^export type ErrorCode = (.*);$/m)[1].match(/\w+/g)))
-  assert.ok(page.includes(`id="fault-${code}"`) || /^(invalid_type|number_too_large|invalid_integer|no_such_date|value_|config_|buffer_)/.test(code), code);
+  assert.ok(page.includes(`id="fault-${code}"`) || /^(invalid_type|number_too_large)$/.test(code), code);
 const shown = page.slice(page.indexOf("<footer>")).replace(/<(script|code)[^]*?<\/\1>/g, "");
 assert.ok(!/[`*]|\]\(|^<p>([-|>]| {4}|\d+\.)/m.test(shown), "the grammar has all of its Markdown as HTML");
 for (const [, to, place] of page.replace(/<script[^]*?<\/script>/g, "").matchAll(/href="(?!https:|data:)([^"#]*)#?([^"]*)"/g))

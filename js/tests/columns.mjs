@@ -416,6 +416,22 @@ for (const [maxLineBytes, size, index] of [[20, 20], [20, 21, 0], [0, 0], [0, 1,
     if (index !== undefined) assert.throws(() => reader.read(""), TypeError);
   }
 }
+// A byte order mark at the beginning is no part of the first line, and anywhere else it is.
+for (const [lines, wanted] of [
+  ["\ufeff1970-01-02\n1970-01-03", [1, 2]], ["\ufeff", []], ["\ufeff\n", [SMALLEST]], ["\ufeff\ufeff1970-01-02", [SMALLEST]], ["1970-01-02\n\ufeff1970-01-03", [1, SMALLEST]],
+  ["\n\ufeff1970-01-03", [SMALLEST, SMALLEST]], ["\ufefe\n", [SMALLEST]], ["\ufeffx", [SMALLEST]],
+]) {
+  for (const text of [lines, Buffer.from(lines)])
+    for (let i = 0; i <= text.length; i++)
+      for (let j = i; j <= text.length; j++) {
+        const reader = columnReader("date", { refused: "collect", maxLineBytes: 13 });
+        const parts = [reader.read(text.slice(0, i)), reader.read(text.slice(i, j)), reader.read(text.slice(j)), reader.end()];
+        assert.deepEqual(parts.flatMap((it) => [...it.numbers]), wanted, JSON.stringify(lines));
+        for (const it of parts.flatMap((it) => it.refusals)) assert.ok(it.start <= it.end && it.end <= it.text.length);
+        if (lines.endsWith("\n")) assert.equal(parts[3].numbers.length, 0, "the lines that end are those of a piece");
+      }
+}
+assert.deepEqual(((it) => [it.start, it.end, it.text.length])(readColumn("\ufeff2020-13-01", "date", { refused: "collect" }).refusals[0]), [5, 7, 10]);
 for (const [text, limits] of [
   // Lines, which of them is too long for each limit, and none for the others. Their ends are not counted.
   ["1970-01-02\r\n1970-01-03 x\n1970-01-04\n", { 10: 1, 11: 1, 12: undefined }], ["1970-01-02\r", { 9: 0, 10: undefined }], ["\r\r\n\n", { 0: 0, 1: undefined }],

@@ -13,7 +13,7 @@ import * as speedate from "speedate/columns";
 import { scriptOf } from "./examples.mjs";
 import { thrown, unitsAt } from "./helpers.mjs";
 
-const { add, columnReader, dateTimeFromTimestamp, format, fromDate, parseDate, parseDateFront, parseDateTime, parseDuration, parseTime, readColumn, safeParseDate, toDate, withOffset } = speedate;
+const { add, columnReader, dateTimeFromTimestamp, format, fromDate, parseDate, parseDateFront, parseDateTime, parseDuration, parseTime, readColumn, safeParseDate, toDate, toUnixMicroseconds, withOffset } = speedate;
 const date = parseDate("2020-02-29");
 const time = parseTime("12:13:14.5Z");
 const dateTime = parseDateTime("2020-02-29T12:13:14.5Z");
@@ -40,7 +40,7 @@ const ofMove = [[dateTime, [...noValue, time, duration]], ofDuration];
 const noKind = [undefined, ...noObject, "datetime", "offset", "toString", ["date"]];
 const CALLS = {
   ...Object.fromEntries(readers.map((it) => [it, [["x", it.startsWith("safe") ? [] : noText], [undefined, noOptions]]])),
-  dateTimeFromTimestamp: [[0, noNumber.filter((it) => it !== 5n)], ["s", noUnit]], toDate: [ofDateTime], fromDate: [[new Date(0), [undefined, ...noObject, {}, date]]],
+  dateTimeFromTimestamp: [[0, noNumber.filter((it) => it !== 5n)], ["s", noUnit]], toDate: [ofDateTime], toUnixMicroseconds: [ofDateTime], dateOf: [ofDateTime], timeOf: [ofDateTime], fromDate: [[new Date(0), [undefined, ...noObject, {}, date]]],
   format: [[time, noValue], [undefined, [...noOptions, ...["3", 1, 2, 9, -3, NaN, null, true, 3n].map((digits) => ({ digits }))]]], compare: [ofDate, ofDate], until: [ofDate, ofDate], daysBetween: [ofDate, ofDate],
   durationFromMicroseconds: [[0, noNumber.filter((it) => it !== 5n)]], totalMicroseconds: [ofDuration],
   sum: [[[duration], [undefined, ...noObject, {}, new Set(), ...ofDuration[1].filter((it) => typeof it !== "symbol").map((it) => [duration, it])]]],
@@ -72,7 +72,10 @@ assert.throws(() => add(date, parseDuration("PT1H")), refused("date_not_exact"))
 assert.equal(toDate(dateTimeFromTimestamp(0, "ms")).getTime(), 0, "a timestamp is in UTC");
 for (const it of noIntegers) assert.throws(() => format({ ...date, day: it }), outside("day"));
 for (const it of [-1, 256, 2 ** 40]) assert.throws(() => format({ ...date, month: it }), refused("out_of_range_month"));
-for (const it of [-1, 1000, 2 ** 40]) assert.throws(() => format({ ...time, microsecond: it }), refused("time_too_large"));
+for (const it of [-1, 1000, 2 ** 40]) for (const name of ["millisecond", "microsecond"])
+  assert.throws(() => format({ ...time, [name]: it }), (error) => refused("time_too_large")(error) && error.message === "expected millisecond and microsecond, 0 to 999 each");
+for (const it of [{ seconds: 86400 }, { milliseconds: 1000 }, { microseconds: 2 ** 40 }, { sign: 2, days: 0 }])
+  assert.throws(() => format(it), (error) => refused("duration_value_too_large")(error) && error.message === "expected sign 1 or -1, seconds up to 86399, milliseconds and microseconds up to 999 each");
 for (const it of [86400, -86400, 2 ** 40, -(2 ** 40)]) assert.throws(() => format({ ...time, offsetSeconds: it }), refused("out_of_range_tz"));
 assert.throws(() => format({ ...date, year: -1 }), refused("date_too_small"));
 assert.throws(() => format({ ...duration, days: 1 }), outside("days"));
@@ -89,10 +92,25 @@ const wrongFields = [
   [{ ...date, hour: 1 }, ": it is a date with hour"], [{ ...time, year: 1 }, ": it is a time with year"],
   [{ year: 2020, month: 2 }, ": it is a date without day"], [{ ...time, seconds: 1, second: undefined, hour: undefined, year: 1 }, ": it is a time with year"],
   [{ hour: 1, minute: 2 }, ": it is a time without second, without millisecond, without microsecond, without offsetSeconds"],
-  [{ sign: 1, day: 1 }, ": it is a date without year, without month"], [{ x: 1 }, ""], [{}, ""], [5, ""],
+  [{ sign: 1, day: 1 }, ": it is a date without year, without month"], [{ days: 1, hours: 2 }, ": it is a duration with hours"], [{ sign: -1 }, ""], [{ x: 1 }, ""], [{}, ""], [5, ""],
 ];
 for (const [it, said] of wrongFields)
   assert.throws(() => format(it), new TypeError(`value has to be a date or time or datetime or duration${said}`));
+assert.throws(() => add(date, { hours: 24 }), new TypeError("duration has to be a duration: its fields are sign, days, seconds, milliseconds, microseconds"));
+assert.throws(() => speedate.printColumn([1], "date"), new TypeError("numbers has to be an Int32Array"));
+assert.throws(() => speedate.printColumn([1], "time"), new TypeError("numbers has to be a Float64Array or a BigInt64Array"));
+// A field of a duration may be missing, but not be undefined.
+for (const [it, text] of [
+  [{ days: 1 }, "P1D"], [{ days: -1 }, "-P1D"], [{ sign: -1, days: 0 }, "-PT0S"], [{ sign: 1, seconds: 90 }, "PT1M30S"], [{ microseconds: -1, seconds: -1 }, "-PT1.000001S"], [{ milliseconds: 5 }, "PT0.005S"],
+]) {
+  assert.equal(format(it), text);
+  assert.deepEqual(add(dateTime, it), add(dateTime, parseDuration(text)));
+  assert.deepEqual(speedate.subtract(dateTime, it), speedate.subtract(dateTime, parseDuration(text)));
+  assert.equal(speedate.totalMicroseconds(it), speedate.totalMicroseconds(parseDuration(text)));
+  assert.deepEqual([speedate.compare(it, parseDuration(text)), format(speedate.sum([it, duration, it]))], [0, format(speedate.sum([parseDuration(text), duration, parseDuration(text)]))]);
+}
+for (const it of [{ days: 1, seconds: -1 }, { sign: 1, days: -1 }, { sign: -1, seconds: 1 }]) assert.throws(() => format(it), /^RangeError: (days|seconds) has another sign than sign$/);
+for (const it of [{ days: undefined }, { days: 1, sign: null }, { days: 1n }, { seconds: "1" }, { days: 1, label: "rent" }]) assert.throws(() => add(date, it), TypeError);
 assert.throws(() => speedate.daysBetween(dateTime, date), /^TypeError: earlier has to be a date: it is a date with hour$/);
 assert.throws(() => format({ ...time, offsetSeconds: 90 }), outside("offsetSeconds"));
 assert.throws(() => fromDate(new Date(NaN)), outside("date has to be a Date that has a time"));
@@ -294,6 +312,14 @@ const gone = new Uint8Array(2 ** 25);
 structuredClone(gone.buffer, { transfer: [gone.buffer] });
 assert.throws(() => parseDate(gone));
 assert.equal(safeParseDate(gone).code, "too_short", "an array whose bytes were transferred has none");
+assert.equal(speedate.safeParseDateFront(gone).code, "too_short");
+// No data is thrown for, not even what has no room in the memory of a module.
+const huge = new Uint8Array(2 ** 32);
+for (const name of readers.filter((it) => !it.endsWith("Front"))) {
+  if (name.startsWith("safe")) assert.deepEqual(speedate[name](huge), { ok: false, code: "invalid_type", expected: "a shorter text", start: 0, end: 0 });
+  else assert.throws(() => speedate[name](huge), { constructor: RangeError, message: "text has to be shorter" });
+}
+assert.equal(speedate.safeParseDateFront(huge).code, "invalid_char_year");
 assert.deepEqual(parseDate("2020-02-29"), date);
 
 // ---- Values, long texts, and many ----
@@ -301,6 +327,20 @@ assert.deepEqual(parseDate("2020-02-29"), date);
 assert.deepEqual(duration, { sign: -1, days: -1, seconds: 0, milliseconds: -1, microseconds: -2 });
 assert.deepEqual(safeParseDate("x"), { ok: false, code: "too_short", expected: "a date: YYYY-MM-DD", start: 1, end: 1 });
 assert.deepEqual(fromDate(toDate(dateTime)), dateTime);
+for (const text of ["0000-01-01T00:00:00.000001Z", "1969-12-31T23:59:59.999999-23:59", "2020-02-29T12:13:14.5+01:30", "9999-12-31T23:59:59.999999Z"]) {
+  const it = parseDateTime(text);
+  const micro = toUnixMicroseconds(it);
+  assert.deepEqual(dateTimeFromTimestamp(micro, "us"), withOffset(it, 0));
+  assert.equal(micro, readColumn(text, "dateTime", { unit: "us" }).numbers[0]);
+  const { year, month, day, ...clock } = it;
+  assert.deepEqual([speedate.dateOf({ label: 1, ...it }), speedate.timeOf(it)], [{ year, month, day }, clock]);
+}
+assert.deepEqual(speedate.timeOf(parseDateTime("2020-02-29T12:13")), parseTime("12:13"));
+for (const call of [speedate.dateOf, speedate.timeOf, toUnixMicroseconds]) {
+  assert.throws(() => call({ ...dateTime, day: 32, offsetSeconds: null }), refused("out_of_range_day"));
+  assert.throws(() => call({ ...dateTime, hour: 24 }), refused("out_of_range_hour"));
+}
+assert.throws(() => toUnixMicroseconds({ ...dateTime, offsetSeconds: null }), refused("tz_required"));
 assert.equal(format(speedate.durationFromMicroseconds(-1500000)), "-PT1.5S");
 assert.deepEqual([0, 3, 6, undefined].map((digits) => format(dateTime, { digits })), ["14", "14.500", "14.500000", "14.500000"].map((it) => `2020-02-29T12:13:${it}Z`));
 assert.equal(format({ ...time, microsecond: 999, offsetSeconds: null }, { digits: 3 }), "12:13:14.500");
@@ -587,14 +627,13 @@ for (const name of ["README.md", "GRAMMAR.md"])
 
 const said = documents.map((it) => readFileSync(it, "utf8")).join("\n");
 const sizeOf = (...names) => names.map((it) => inPackage(it)).reduce(([all, gzipped], it) => [all + it.length, gzipped + gzipSync(it, { level: 9 }).length], [0, 0]);
-const SIZES = [
-  [/^\| `speedate` \|.*\| (\d+) kB, (\d+) gzipped \|$/m, sizeOf("speedate.js")], [/^\| `speedate\/columns` \|.*\| (\d+) kB, (\d+) gzipped \|$/m, sizeOf("columns.js")],
-  [/^\| `speedate\/bare` \|.*\| (\d+) kB, (\d+) gzipped \|$/m, sizeOf("speedate.bare.js", "speedate.wasm")],
-];
-// Without esbuild the scripts keep their lines, and are larger.
+const SIZES = { speedate: ["speedate.js"], "speedate/columns": ["columns.js"], "speedate/bare": ["speedate.bare.js", "speedate.wasm"] };
+// Without esbuild the scripts keep their lines.
 const isMinified = String(inPackage("speedate.bare.js")).split("\n").length < 20;
-for (const [form, sizes] of isMinified ? SIZES : [])
-  for (const [i, size] of sizes.entries()) assert.ok(Math.abs(Number(form.exec(said)?.[i + 1]) - size / 1000) < 1, `${form}: ${size}`);
+for (const [entry, files] of Object.entries(SIZES)) {
+  const shown = new RegExp(`^\\| \`${entry}\` \\|.*\\| (\\d+) kB, (\\d+) gzipped \\| (\\d+) kB, (\\d+) gzipped \\|$`, "m").exec(said).slice(1).map(Number);
+  for (const [i, size] of sizeOf(...files).entries()) assert.ok(Math.abs(shown[isMinified ? i : i + 2] - size / 1000) < 1, `${entry}: ${size}`);
+}
 
 // ---- The examples of the documents, whose results stand after them ----
 

@@ -44,6 +44,9 @@ export const shapes = [
   same<SpeedateDuration["sign"], 1 | -1>(true, second.sign), same<SpeedateDuration[keyof SpeedateDuration], number>(true, second.days),
 ];
 const bytes = new Uint8Array([49, 50, 58, 49, 51]);
+const either = date as SpeedateDate | SpeedateDateTime;
+const timed = time as SpeedateTime | SpeedateDateTime;
+const any = second as SpeedateValue;
 const labelled = { ...date, label: "rent" };
 const timestamps = { form: "orTimestamp", timestampUnit: "s" } as const;
 const uses: Record<keyof typeof speedate, unknown> = {
@@ -96,20 +99,23 @@ const uses: Record<keyof typeof speedate, unknown> = {
   sum: same<SpeedateDuration, ReturnType<typeof speedate.sum>>(true, speedate.sum([second, second])),
   totalMicroseconds: same<bigint, ReturnType<typeof speedate.totalMicroseconds>>(true, speedate.totalMicroseconds(second)),
   dateTimeFromTimestamp: same<SpeedateDateTime, ReturnType<typeof speedate.dateTimeFromTimestamp>>(true, speedate.dateTimeFromTimestamp(1n, "infer")),
+  toUnixMicroseconds: same<bigint, ReturnType<typeof speedate.toUnixMicroseconds>>(true, speedate.toUnixMicroseconds(moment)),
+  dateOf: same<SpeedateDate, ReturnType<typeof speedate.dateOf>>(true, speedate.dateOf(moment)),
+  timeOf: same<SpeedateTime, ReturnType<typeof speedate.timeOf>>(true, speedate.timeOf(moment)),
   toDate: same<Date, ReturnType<typeof speedate.toDate>>(true, speedate.toDate(moment)),
   fromDate: same<SpeedateDateTime, ReturnType<typeof speedate.fromDate>>(true, speedate.fromDate(new Date(0))),
   format: [speedate.format(date as SpeedateValue), same<string, ReturnType<typeof speedate.format>>(true, speedate.format(moment, { digits: 3 })), speedate.format(time, { digits: 0 }), speedate.format(labelled)],
   compare: [
     same<-1 | 0 | 1, ReturnType<typeof speedate.compare>>(true, speedate.compare(date, date)), speedate.compare(time, time),
     speedate.compare(moment, moment), speedate.compare(second, second), [date, date].sort(speedate.compare), [moment, moment].sort(speedate.compare),
-    [labelled, labelled].sort(speedate.compare),
+    [labelled, labelled].sort(speedate.compare), speedate.compare(either, either), [either, either].sort(speedate.compare), speedate.compare(any, any),
   ],
   daysBetween: same<number, ReturnType<typeof speedate.daysBetween>>(true, speedate.daysBetween(date, date)),
-  add: [((it: SpeedateDate) => it.day)(speedate.add(date, speedate.parseDuration("P1D"))), same<SpeedateDateTime, ReturnType<typeof speedate.add>>(true, speedate.add(moment, second))],
-  subtract: [((it: SpeedateDate) => it.day)(speedate.subtract(date, speedate.parseDuration("P1D"))), same<SpeedateDateTime, ReturnType<typeof speedate.subtract>>(true, speedate.subtract(moment, second))],
-  until: [same<SpeedateDuration, ReturnType<typeof speedate.until>>(true, speedate.until(date, date)), speedate.until(moment, moment).sign],
+  add: [((it: SpeedateDate) => it.day)(speedate.add(date, speedate.parseDuration("P1D"))), ((it: SpeedateDateTime) => it.hour)(speedate.add(moment, { days: 1 })), ((it: SpeedateDate | SpeedateDateTime) => it.day)(speedate.add(either, { days: -1 }))],
+  subtract: [((it: SpeedateDate) => it.day)(speedate.subtract(date, speedate.parseDuration("P1D"))), ((it: SpeedateDateTime) => it.hour)(speedate.subtract(moment, second)), ((it: SpeedateDate | SpeedateDateTime) => it.day)(speedate.subtract(either, { days: 1 }))],
+  until: [same<SpeedateDuration, ReturnType<typeof speedate.until>>(true, speedate.until(date, date)), speedate.until(moment, moment).sign, speedate.until(either, either).sign],
   durationFromMicroseconds: same<SpeedateDuration, ReturnType<typeof speedate.durationFromMicroseconds>>(true, speedate.durationFromMicroseconds(1n)),
-  withOffset: [((it: SpeedateTime) => it.hour)(speedate.withOffset(time, 0)), same<SpeedateDateTime, ReturnType<typeof speedate.withOffset>>(true, speedate.withOffset(moment, 3600))],
+  withOffset: [((it: SpeedateTime) => it.hour)(speedate.withOffset(time, 0)), ((it: SpeedateDateTime) => it.day)(speedate.withOffset(moment, 3600)), ((it: SpeedateTime | SpeedateDateTime) => it.hour)(speedate.withOffset(timed, 3600))],
   schema: [
     same<SpeedateDate, OutputOf<Schema<SpeedateDate>>>(true, validated(speedate.schema("date", timestamps), "86400")),
     same<SpeedateTime, OutputOf<Schema<SpeedateTime>>>(true, validated(speedate.schema("time", { form: "strict" }), "12:13:14Z")),
@@ -215,6 +221,12 @@ const refused = [
   () => speedate.add(time, second),
   // @ts-expect-error
   () => speedate.subtract(date, 1),
+  // @ts-expect-error
+  () => speedate.add(date, { hours: 24 }),
+  // @ts-expect-error
+  () => speedate.add(date, { days: 1, hours: 24 }),
+  // @ts-expect-error
+  () => speedate.add(date, date),
 ];
 for (const call of refused) assert.throws(call, TypeError, String(call));
 
@@ -227,6 +239,19 @@ export const unions = () => [
 const ofUnion = () => speedate.readColumn("", "dateTime", { unit }).numbers;
 
 export const sameTypes = [same<typeof bare, typeof core>(true, bare), same<typeof bareColumns, typeof speedate>(true, bareColumns)];
+
+// No call returns these.
+// @ts-expect-error
+export const noInteger: ErrorCode = "invalid_integer";
+// @ts-expect-error
+export const noFraction: ErrorCode = "invalid_char_second_fraction";
+// @ts-expect-error
+export const noTime: ErrorCode = "system_time_error";
+// @ts-expect-error
+export const noSuchDate: ErrorCode = "no_such_date";
+// @ts-expect-error
+export const noValue: ErrorCode = "value_out_of_range";
+export const allOthers: ErrorCode[] = ["too_short", "tz_required", "out_of_range_month", "microsecond_fraction_too_long", "number_too_large"];
 
 export const unsaid = [
   // @ts-expect-error
