@@ -18,7 +18,7 @@ const source = (name) => readFileSync(`${root}/${name}`, "utf8");
 /** What the page to try shows by its address and after each step of a visitor; what is wrong with how it looks and is reached,
  * which should be nothing; the calls that it shows; and the least milliseconds in which it shows what a typed text is: the
  * machine may be busy. */
-async function visit({ SAID, MARKED, OFFERED, GUESSED, TABLES, CALLED }) {
+async function visit({ SAID, MARKED, OFFERED, GUESSED, TABLES, CALLED, TITLES }) {
   const form = document.forms[0];
   const [nav, options, main, status] = ["nav", "details", "main", "[role=status]"].map((it) => document.querySelector(it));
   const sleep = (milliseconds) => new Promise((resolve) => setTimeout(resolve, milliseconds));
@@ -59,6 +59,7 @@ async function visit({ SAID, MARKED, OFFERED, GUESSED, TABLES, CALLED }) {
     return all(".why code", (code) => [code.closest("summary, section"), code.querySelector("bdi"), code.querySelector("mark"), code.querySelector(".rest"), code.nextSibling])
       .map(([row, right, wrong, rest, words]) => `${row.firstChild.textContent} ${right?.textContent ?? ""}[${wrong.textContent}]${rest?.textContent ?? ""} ${words.textContent}`);
   });
+  const titles = TITLES.map((it) => (type(it), main.querySelector("h2").textContent));
   // A frame from disk is given no focus by WebKit.
   let isFocused;
   main.focus = () => (isFocused = main.hasAttribute("tabindex"));
@@ -97,6 +98,10 @@ async function visit({ SAID, MARKED, OFFERED, GUESSED, TABLES, CALLED }) {
     type(text);
     for (const it of clicked) all("section button", (it) => it).find(({ textContent }) => textContent.startsWith(it)).click();
     all(".copy", (it) => it.click());
+    // On a narrow screen a line is above what it is. No word is cut in two.
+    const [, line, value] = main.querySelector("tbody tr").cells;
+    has((innerWidth < 640) === value.getBoundingClientRect().top >= line.getBoundingClientRect().bottom - 1, `the cells of ${text}`);
+    has(getComputedStyle(line).wordBreak === "normal", "whole words");
     return [text, fields, clicked, tableShown(), all("p > button", (it) => it.textContent).join(), copied];
   });
   form.reset();
@@ -268,7 +273,7 @@ async function visit({ SAID, MARKED, OFFERED, GUESSED, TABLES, CALLED }) {
   const row = document.querySelector(":target").closest("tr");
   const { top, bottom: end } = row.getBoundingClientRect();
   steps.push(row.cells[0].textContent, top >= 0 && end <= innerHeight, document.documentElement.scrollWidth > innerWidth, form.text.value);
-  report({ width: innerWidth, steps, marks, offers, guesses, tables, ofMany, wrong, calls, least, leastOfMany });
+  report({ width: innerWidth, steps, marks, titles, offers, guesses, tables, ofMany, wrong, calls, least, leastOfMany });
 }
 const MONTHS = ["January", "February", "March", "April", "May", "June", "July", "August", "September", "October", "November", "December"];
 const WEEKDAYS = ["Monday", "Tuesday", "Wednesday", "Thursday", "Friday", "Saturday", "Sunday"];
@@ -284,6 +289,12 @@ const SAID = {
   "00:10:05.000001+0130": "00:10:05.000001, 1:30 east of UTC: 22:40:05.000001 UTC on the day before",
   "9999-12-31T23:30-01:00": "Friday, 31 December 9999, 23:30, 1:00 west of UTC: in UTC outside the years 0 to 9999",
   "-P1DT1H1M1.5S": "minus 1 day 1 hour 1 minute 1.5 seconds", "P1Y2M": "425 days", PT0S: "0 seconds", "-PT0.01S": "minus 0.01 seconds", PT1S: "1 second",
+};
+/** Texts, and the title of what is nearest: a text that is being typed is not wrong. */
+const TITLES = {
+  2: "Not yet a date", 2020: "Not yet a date", "2020-0": "Not yet a date", "2020-02-2": "Not yet a date", "2020-02-29T1": "Not yet a date-time", "2020-02-29T12:13:14+01:3": "Not yet a date-time",
+  "12:13+01:3": "Not yet a time", "2 da": "Not yet a duration", P: "Not yet a duration", PT: "Not yet a duration", P1: "Not yet a duration", PT5: "Not yet a duration",
+  20200: "Not a date-time", "2020-1-": "Not a date", "2020-03-3": "Not yet a date", "2020-02-3": "Not one of the four kinds", "2020-13": "Not a date", "2021-02-29": "Not a date",
 };
 /** Texts, and by kind how the page marks where each is wrong, and says it. */
 const MARKED = {
@@ -305,7 +316,7 @@ const MARKED = {
     "Not yet a date-time 2020-02-29T12[] at the end: ", "Date 2020-02-29[T12] from character 11 on: ",
     "Duration 2020[-]02-29T12 at character 5: ", "Time 20[2]0-02-29T12 at character 3: ",
   ],
-  "1 da": ["Not a duration 1 d[a] from character 4 on: ", "Date 1 da[] at the end: ", "Time 1 da[] at the end: ", "Date-time 1 da[] at the end: "],
+  "1 da": ["Not yet a duration 1 d[a] from character 4 on: ", "Date 1 da[] at the end: ", "Time 1 da[] at the end: ", "Date-time 1 da[] at the end: "],
   "12:13\t": ["Not a time 12:13[U+0009] from character 6 on: ", "Duration 12:13[U+0009] from character 6 on: ", "Date 12:13U+0009[] at the end: ", "Date-time 12:13U+0009[] at the end: "],
   "\u200b12:13": ["Not a date U+200B12:13[] at the end: ", "Time [U+200B12]:13 at characters 1 to 3: ", "Date-time U+200B12:13[] at the end: ", "Duration [U+200B12]:13 at characters 1 to 3: "],
   "12:13 \u00a0\ufeff": [
@@ -344,6 +355,11 @@ const OFFERED = [
   ["2020-02-29 ", {}, ["Not a date: spaces and line ends around it are not read: drop them"], "Options", "Date: 2020-02-29"],
   ["\n 12:13:14Z\n", { form: "strict" }, ["Not a time: spaces and line ends around it are not read: drop them"], "Options, form: strict", "Time: 12:13:14Z"],
   ["2021-02-29 ", {}, [], "Options", "Not a date: out_of_range_day"],
+  ["1582934400000000", {}, ["Not a date: timestamps of microseconds are not read: allow them", "Date-time: timestamps of microseconds are not read: allow them"], "Options, form: orTimestamp, timestampUnit: us", "Date: 2020-02-29"],
+  ["2020-02-29T12:13:14Z GET /", {}, ["Not a date-time: a date-time is at its front: drop the rest"], "Options", "Date-time: 2020-02-29T12:13:14Z"],
+  ["2026-11-22T12:13:14.123456789Z stdout F x", {}, ["Not a date-time: a date-time is at its front: drop the rest"], "Options", "Date-time: 2026-11-22T12:13:14.123456Z"],
+  ["[2026-11-22 10:00:00] x", {}, ["Not a date-time: a date-time is within it: drop the rest"], "Options", "Date-time: 2026-11-22T10:00:00"],
+  ['{"time":"2026-11-22T10:00:00.5Z","level":30}', {}, ["Not a date-time: a date-time is within it: drop the rest"], "Options", "Date-time: 2026-11-22T10:00:00.500000Z"],
   ["2020-02-29T12:13", { missingOffset: "error" }, ["Not a date-time: an offset is required: allow none"], "Options", "Date-time: 2020-02-29T12:13:00"],
 ];
 const guessed = (text, date) => [text, {}, "Not one of the four kinds", date, "", `Date: ${date}`];
@@ -459,6 +475,12 @@ async function readAll() {
       document.body.append(frame);
     });
   const without = [await shownIn("without.html", () => {}), await shownIn("page.html", (it) => it.setAttribute("sandbox", "allow-same-origin"))];
+  // The page itself can ask for nothing, whatever its scripts do.
+  const policy = await new Promise((resolve) => {
+    const frame = Object.assign(document.createElement("iframe"), { src: "page.html" });
+    frame.onload = () => frame.contentWindow.fetch("asked").then(() => "asked", () => "refused").then(resolve);
+    document.body.append(frame);
+  });
   document.body.insertAdjacentHTML("beforeend", "<input required><output></output><input><output></output>");
   await import("./form.js");
   const saidOf = (field, text) => {
@@ -469,7 +491,7 @@ async function readAll() {
   const form = ["2021-02-29", "2020-2-9", "2020-02-29", ""].map((text) => Array.from(document.querySelectorAll("input"), (it) => saidOf(it, text)));
   const bare = await import("./speedate.bare.js");
   bare.init(await WebAssembly.compileStreaming(fetch("speedate.wasm")));
-  report({ width: 0, temporal: typeof Temporal, drawn: readDrawn(), without, form, handedOver: bare.format(bare.parseDuration("PT90M")) });
+  report({ width: 0, temporal: typeof Temporal, drawn: readDrawn(), without, policy, form, handedOver: bare.format(bare.parseDuration("PT90M")) });
 }
 /** What the page asks of a server that it was loaded from, while a visitor types: nothing more. */
 async function askNothing() {
@@ -514,11 +536,13 @@ const reporting = `<script>
   onerror = (it) => report({ error: String(it) });
   onunhandledrejection = ({ reason }) => report({ error: String(reason) });
 </script>`;
-files["served.html"] = `${source("out/try.html")}${reporting}<script type="module">(${askNothing})()</script>`;
+/** The page without its policy, by which it could report nothing. */
+const reportable = source("out/try.html").replace(/<meta http-equiv="content-security-policy"[^>]*>/, "");
+files["served.html"] = `${reportable}${reporting}<script type="module">(${askNothing})()</script>`;
 files["all.html"] = `<!DOCTYPE html>${reporting}
   <script type="importmap">{ "imports": { "speedate": "./speedate.js", "speedate/columns": "./columns.js", "node:assert/strict": "./shim.mjs", "node:fs": "./shim.mjs" } }</script>
   <script type="module">(${readAll})()</script>`;
-writeFileSync("try.html", `${source("out/try.html")}${reporting}<script type="module">(${visit})(${JSON.stringify({ SAID: Object.keys(SAID), MARKED: Object.keys(MARKED), OFFERED, GUESSED, TABLES, CALLED })})</script>`);
+writeFileSync("try.html", `${reportable}${reporting}<script type="module">(${visit})(${JSON.stringify({ SAID: Object.keys(SAID), MARKED: Object.keys(MARKED), OFFERED, GUESSED, TABLES, CALLED, TITLES: Object.keys(TITLES) })})</script>`);
 writeFileSync("frames.html", `<!DOCTYPE html><body><script>
   const frames = [[320, "try.html#text=2021-02-29"], [360, "try.html#text=2021-02-29"], [1280, "try.html#text=2021-02-29"], [100, "http://127.0.0.1:${port}/all.html"], [100, "http://127.0.0.1:${port}/served.html#text=secret"]];
   const add = ([width, src]) => document.body.append(Object.assign(document.createElement("iframe"), { width, src, height: 800 }));
@@ -541,11 +565,12 @@ for (const { url, referer } of server.asked)
   assert.ok(!/secret|favicon/.test(url) && !/secret/.test(referer ?? ""), `${url} from ${referer}`);
 assert.deepEqual(all.drawn, { ...readDrawn(), wrong: [] });
 assert.deepEqual(all.without, WITHOUT);
+assert.equal(all.policy, "refused");
 assert.deepEqual(all.form, FORM);
 assert.equal(all.handedOver, "PT1H30M");
 for (const [i, width] of [320, 360, 1280].entries()) {
   const { calls, least, leastOfMany, ...others } = visits[i];
-  assert.deepEqual(others, { width, steps: STEPS, marks: Object.values(MARKED), offers: OFFERED, guesses: GUESSED, tables: TABLES, ofMany: OF_MANY, wrong: [] });
+  assert.deepEqual(others, { width, steps: STEPS, marks: Object.values(MARKED), titles: Object.values(TITLES), offers: OFFERED, guesses: GUESSED, tables: TABLES, ofMany: OF_MANY, wrong: [] });
   assert.ok(least < 16, `what is typed is shown after ${least} milliseconds`);
   assert.ok(leastOfMany < 100, `10,000 lines take ${leastOfMany} milliseconds`);
 }
