@@ -19,7 +19,7 @@ page() { sed 's/\\-/-/g; s/\\e/\\/g' "$here/bin/speedate_lines.1"; }
 
 # Makes a clone and a kit. The kit's `rt run` reads all its input, does what the file `during` says, and makes a program that
 # prints the file `mark`, its arguments and its input, and ends with the status $STATUS. Its `rt lib` makes a library of that
-# file for a target, and so does its rattle, from libraries. Its `rt ci` does what the file `during` says, and leaves the same
+# file for a target, and so does its rattle, from libraries. Its `rt try` prints its folder, its arguments and its input. Its `rt ci` does what the file `during` says, and leaves the same
 # program and libraries. The C compiler keeps its arguments, makes a file with the name of the last one, and
 # names `true` as its ar.
 prepare() {
@@ -39,6 +39,11 @@ kit=${0%/bin/rt}
 echo "$*" >>"$kit/calls"
 case $1 in
 run | lib | ci) ;;
+try)
+    printf '%s\n' "${PWD##*/}" "$@" && cat
+    printf '%s\n' 'what the program says' 'checked: ended status=4' "run=${TRIED-ended} status=4 runners=1 proved=no" >&2
+    exit 4
+    ;;
 *) exec cat "$kit/version" ;;
 esac
 cat >>"$kit/taken"
