@@ -51,7 +51,7 @@ cat >>"$kit/taken"
 # Just a library, which is built before what needs it.
 case $* in
 run\ *) made=${PWD##*/} ;;
-lib) made=${PWD##*/} ;;
+lib | 'lib --jobs 2') made=${PWD##*/} ;;
 lib\ *) made=speedate_c ;;
 *) made='speedate_base speedate_civil speedate speedate_c' ;;
 esac
@@ -59,10 +59,14 @@ for it in $made; do
     echo "rt: chose --jobs 1 for $it"
     echo 'so far: 1 of 2 functions checked'
 done
-if [ "$*" = lib ]; then
+case $* in
+lib | 'lib --jobs 2')
+    : >"$kit/began_$made"
+    for it in $(cat "$kit/waits_$made" 2>/dev/null); do until [ -e "$kit/began_$it" ]; do sleep 0.1; done; done
     [ ! -e "$kit/fails_$made" ]
     exit
-fi
+    ;;
+esac
 . "$kit/during"
 crates=..
 [ "$1" != ci ] || crates=crates
@@ -110,9 +114,12 @@ for last; do :; done
 echo shared >"$last"
 END
     : >"$kit/after"
+    processors 1
     chmod +x "$kit/bin/rt" "$kit/bin/rattle" "$kit/bin/cc"
 }
 
+# From now on there are so many processors.
+processors() { printf '#!/bin/sh\necho %s\n' "$1" >"$kit/bin/nproc" && chmod +x "$kit/bin/nproc"; }
 lines() { env PATH="$path" "$script" 2>>"$folder/errors"; }
 install() { env PATH="$path" "$clone/bin/build_program" --prefix "$1" 2>>"$folder/errors" </dev/null; }
 # Prints the path where it installs the program that answers lines.

@@ -199,12 +199,40 @@ prove() {
 }
 
 # over_libraries COMMAND..: builds the libraries, lowest first, and then runs a command of rt in the folder of a crate above
-# them. If one of them is missing, rt itself would look through the sources of all of them before it proves any.
+# them. If one of them is missing, rt itself would look through the sources of all of them before it proves any. A library
+# starts beside the one before it once all that it uses is built, if there are processors and memory for both.
 over_libraries() {
+    built=' ' beside=' ' groups=
+    copies=$(mktemp -d) || fail 'there is no folder for temporary files'
+    at_end 'for it in $groups; do kill -TERM "-$it"; done 2>/dev/null; rm -rf "$copies"'
     for it in $libraries; do
+        count_jobs
+        for other in $libraries; do
+            [ $jobs -lt 4 ] || [ "$other" = "$it" ] || ! is_ready "$other" || build_beside "$other"
+        done
         (cd "../$it" && rt lib) || return
+        built="$built$it "
     done
     "$@"
+}
+
+# is_ready CRATE: whether all libraries that a library uses are built, and it is not.
+is_ready() {
+    case $built$beside in *" $1 "*) return 1 ;; esac
+    for need in $(sed -n "s/^$1: //p" "$root/crates.txt"); do
+        case " $libraries " in *" $need "*) ;; *) continue ;; esac
+        case $built in *" $need "*) ;; *) return 1 ;; esac
+    done
+}
+
+# build_beside CRATE: starts to build a library in a copy, because only one rt at a time can work in a crate and in those
+# below it. rt takes there what it has built here, and here it waits for what it builds there.
+build_beside() {
+    beside="$beside$1 "
+    echo "rt: chose a copy for $1"
+    setsid sh -c 'mkdir "$2" && cd "$1" && tar cf - --exclude=out crates crates.txt HANDLES | tar xf - -C "$2" &&
+        cd "$2/crates/$3" && exec rt lib --jobs 2' '' "$root" "$copies/$1" "$1" >/dev/null 2>&1 </dev/null &
+    groups="$groups $!"
 }
 
 # Sets `cpu`, the flags with which the C functions are built for every processor of a target. For x86-64 the kit would otherwise
