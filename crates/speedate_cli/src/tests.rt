@@ -1,10 +1,7 @@
-//! The commands over readers and writers in memory.
+//! The commands over readers and writers that give and take some bytes, and fail.
 
 mod ends;
-mod files;
 mod merged;
-mod option_rows;
-mod rows;
 mod searched;
 mod sorted;
 
@@ -13,64 +10,19 @@ use crate::files::write_end;
 use crate::program::program;
 use clap::ArgMatches;
 use ends::{Sink, Source};
-use option_rows::OPTIONS;
-use rows::{COMMANDS, DURATIONS, LOG};
 use speedate_commands::command::Command;
 use speedate_stream::run::RunError;
 use speedate_stream::{NoObserver, Watched};
 use std::alloc::AllocError;
 use std::process::Abort;
 
-/// Command lines, and how many values are then bad, lines told to be before the first entry, and values out
-/// of order or after a gap.
-const COUNTS: [(&str, &str, (u64, u64, u64)); 15] = [
-    ("between .. ..", LOG, (1, 0, 0)),
-    (
-        "between --bad stop 2026-11-22T06:09:30Z ..",
-        "x\n2026-11-22T06:09:00Z\n2026-11-22T06:10:00Z\n2026-13-22\n2026-11-22T06:11:00Z\n",
-        (1, 1, 0),
-    ),
-    ("between --undated bad 2027-01-01T00:00Z ..", LOG, (2, 0, 0)),
-    ("check", LOG, (1, 0, 0)),
-    ("check", BEGINNING, (1, 3, 0)),
-    ("check", "x\n2026-02-30T06:10Z\n", (1, 0, 0)),
-    ("check --header", BEGINNING, (1, 2, 0)),
-    ("convert --to utc", BEGINNING, (1, 3, 0)),
-    ("check --order", BEGINNING, (1, 3, 0)),
-    // The second value cannot be written, so it is bad.
-    (
-        "convert --to utc",
-        "2026-02-30T06:10\n2026-11-22T06:10\n2026-11-22T06:10Z\n",
-        (2, 2, 0),
-    ),
-    ("check --order", LOG, (1, 0, 1)),
-    ("check --gap PT10M", LOG, (1, 0, 1)),
-    ("sum", DURATIONS, (2, 0, 0)),
-    ("sum --field 2", "a,PT1H\nb,\nc\n", (2, 0, 0)),
-    ("summary", LOG, (1, 0, 1)),
-];
-
-/// Lines before the first entry, of which one has a bad value.
-const BEGINNING: &str = "x\n2026-02-30T06:10Z\ny\n2026-11-22T06:10Z\nz\n";
-
-/// Command lines, and whether no line then has a value.
-const VALUELESS: [(&str, &str, bool); 15] = [
-    ("check", "", false),
-    ("check", "x", true),
-    ("check", "x\ny\n\n", true),
-    ("check", BEGINNING, false),
-    ("check", "x\n2026-02-30T06:10Z", false),
-    ("check --header", "x\n", false),
-    ("check --header", "x\n\n", true),
-    ("check --after ts=", LOG, true),
-    ("check --undated bad", "x\n", true),
-    ("between --bad stop .. ..", "x\n2026-13-22\nx\n", false),
-    ("convert --field 3", "1,2026-11-22T06:10Z\n2,\n", true),
-    ("sum", "\n\r\n", true),
-    ("sum", "\nP1M\n", false),
-    ("sum --field 2", "1,\n2,\n", true),
-    ("sum --field 2", "1,\n2,PT1H\n", false),
-];
+/// A log.
+const LOG: &str = "\
+2026-11-22T06:10:00Z a\n\
+trace\n\
+[2026-11-22T07:09:00+01:00] b\n\
+2026-02-30T00:00Z c\n\
+2026-11-22T06:30:00.5Z d";
 
 /// One command line for each command.
 const EACH: [&str; 6] = [
@@ -92,10 +44,6 @@ struct Ended {
     /// How many calls of the reader there were.
     reads: u64,
     taken: Vec<u8>,
-    /// How many values were bad, lines before the first entry, and values out of order or after a gap.
-    counts: (u64, u64, u64),
-    /// Whether no line has a value.
-    is_without_value: bool,
 }
 
 /// A run of a command over a reader and a writer.
@@ -107,14 +55,10 @@ fn run_command<'a, C: Command<'a>>(command: &mut C, source: Source<'_>, sink: Si
     if result != Err(RunError::Write) && write_end(command, &mut output).is_err() {
         result = Err(RunError::Write);
     }
-    let scan = command.scan();
-    let about = command.about();
     Ended {
         result,
         reads: input.into_inner().calls,
         taken: output.into_inner().taken,
-        counts: (scan.bad, about.before, about.reported),
-        is_without_value: result == Ok(()) && scan.is_without_value(),
     }
 }
 
@@ -155,82 +99,6 @@ fn words_of<R: AllocGlobal>(rt: &R, words: &'static str) -> Result<Vec<&'static 
         list.push(word)?;
     }
     Ok(list)
-}
-
-/// A run of the command of a command line.
-fn run_words<R: AllocGlobal + Abort>(
-    rt: &R,
-    words: &'static str,
-    source: Source<'_>,
-    sink: Sink,
-) -> Result<Ended, AllocError> {
-    let list = words_of(rt, words)?;
-    let program = program(rt.alloc())?;
-    let matches = program.try_get_matches_from(list.as_slice());
-    let matches = matches.ok().expect(rt, words);
-    let (name, given) = matches.subcommand().expect(rt, words);
-    Ok(run_given(rt, name, given, source, sink))
-}
-
-/// What a command line prints of an input that is read at once.
-fn whole<R: AllocGlobal + Abort>(
-    rt: &R,
-    words: &'static str,
-    input: &[u8],
-) -> Result<Ended, AllocError> {
-    let sink = Sink::new(rt.alloc(), usize::MAX);
-    run_words(rt, words, Source::new(input, usize::MAX), sink)
-}
-
-/// The rows are to print what they want, by reads and writes of some bytes each.
-fn expect_rows<R: AllocGlobal + Abort>(
-    rt: &R,
-    rows: &[(&'static str, &'static str, &'static str)],
-) -> Result<(), AllocError> {
-    for &(words, input, want) in rows {
-        for step in [1, 7, usize::MAX] {
-            let source = Source::new(input.as_bytes(), step);
-            let ended = run_words(rt, words, source, Sink::new(rt.alloc(), step))?;
-            assert_eq!(rt; ended.result, Ok(()), "{words}");
-            assert_eq!(rt; ended.taken.as_slice(), want.as_bytes(), "{words}");
-        }
-    }
-    Ok(())
-}
-
-#[test]
-fn each_command_prints(rt: HostRuntime) -> Result<(), AllocError> {
-    expect_rows(&rt, &COMMANDS)
-}
-
-#[test]
-fn each_option_matters(rt: HostRuntime) -> Result<(), AllocError> {
-    expect_rows(&rt, &OPTIONS)
-}
-
-#[test]
-fn values_and_lines_are_counted(rt: HostRuntime) -> Result<(), AllocError> {
-    for (words, input, want) in COUNTS {
-        assert_eq!(rt;
-            whole(&rt, words, input.as_bytes())?.counts,
-            want,
-            "{words}"
-        );
-    }
-    Ok(())
-}
-
-#[test]
-fn files_without_values_are_known(rt: HostRuntime) -> Result<(), AllocError> {
-    for (words, input, want) in VALUELESS {
-        for step in [1, 2, usize::MAX] {
-            let source = Source::new(input.as_bytes(), step);
-            let sink = Sink::new(rt.alloc(), usize::MAX);
-            let ended = run_words(&rt, words, source, sink)?;
-            assert_eq!(rt; ended.is_without_value, want, "{words} {input}");
-        }
-    }
-    Ok(())
 }
 
 /// A run of a command over a log that is read and written by some bytes a call.
