@@ -5,7 +5,8 @@ use Rattle.speedate.specs.DateTime.{DateAndTime}
 use Rattle.speedate_base.specs.declared.refusal.Refused.{Refused}
 use Rattle.speedate_scan.specs.declared.form.Form.{Form}
 use Rattle.speedate_scan.specs.Print.{call_kind}
-use Rattle.speedate_scan.specs.Reading.{assumed, claims_date, field_claims, instant_of, whole_of}
+use Rattle.speedate_scan.specs.Reading.{assumed, claims, claims_date, field_claims, instant_of}
+use Rattle.speedate_scan.specs.Reading.{whole_of}
 use Rattle.speedate_commands.specs.declared.between.Bounds.{Bounds}
 use Rattle.speedate_scan.specs.declared.scan.Offsets.{Offsets}
 use Rattle.speedate_cli.specs.Word.{is_word}
@@ -35,14 +36,24 @@ bound_at offset form text value =
 abbrev pub bound_or_bad : Option ℤ → Form → List ℕ → Result DateAndTime Refused
     → Result (ℤ × Bool) BadBound
 bound_or_bad offset form text (Ok value) = Ok (bound_at offset form text value)
-bound_or_bad offset form text (Err refused) =
-    Err (record { kind = call_kind form; refused = refused })
+bound_or_bad offset form text (Err refused) = Err (BadBound.Refused (call_kind form) refused)
+
+-- a bound that has been given its form
+abbrev pub whole_bound : Option ℤ → Form → List ℕ → Result (ℤ × Bool) BadBound
+whole_bound offset form text = bound_or_bad offset form text (whole_of form Behavior.Truncate text)
+
+-- a bound by its form: a number has as many digits as the timestamps of lines
+abbrev pub bound_by : Option ℤ → Form → List ℕ → Result (ℤ × Bool) BadBound
+bound_by offset Form.DateTime text = whole_bound offset Form.DateTime text
+bound_by offset Form.Strict text = whole_bound offset Form.Strict text
+bound_by offset Form.Date text = whole_bound offset Form.Date text
+bound_by offset (Form.Timestamp unit) text =
+    if claims (Form.Timestamp unit) text then whole_bound offset (Form.Timestamp unit) text
+    else Err (BadBound.FewDigits unit)
 
 -- a bound by its text: a date-time, the midnight of a date, or that of a number
 abbrev pub bound_value : Form → Option ℤ → List ℕ → Result (ℤ × Bool) BadBound
-bound_value form offset text =
-    let form = bound_form form text in
-    bound_or_bad offset form text (whole_of form Behavior.Truncate text)
+bound_value form offset text = bound_by offset (bound_form form text) text
 
 -- Two bounds.
 
@@ -77,13 +88,21 @@ bounds_of (Some from) (Some to) =
 abbrev pub is_open : List ℕ → Bool
 is_open text = is_word text (codes "..")
 
--- a bound is a date or a date-time
-abbrev pub is_time : Form → List ℕ → Bool
-is_time form text = not (is_open text) && not (claims_number form text)
+-- a value has an offset of its own
+abbrev pub has_own_offset : Result DateAndTime Refused → Bool
+has_own_offset (Ok value) = is_some value.time.offset
+has_own_offset (Err refused) = false
+
+-- a bound is a date, or a date-time without an offset
+abbrev pub is_local : Form → List ℕ → Bool
+is_local form text =
+    not (is_open text)
+    && not (claims_number form text)
+    && not (has_own_offset (whole_of (bound_form form text) Behavior.Truncate text))
 
 -- what two bounds are, by their texts
 abbrev pub bounds_kind_of : Form → List ℕ → List ℕ → BoundsKind
 bounds_kind_of form from to =
     if is_open from && is_open to then BoundsKind.Open
-    else if is_time form from || is_time form to then BoundsKind.Times
-    else BoundsKind.Numbers
+    else if is_local form from || is_local form to then BoundsKind.Local
+    else BoundsKind.Fixed

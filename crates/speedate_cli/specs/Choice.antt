@@ -19,6 +19,13 @@ unit_of text =
     else if is_word text (codes "microseconds") then Some TimestampUnit.Microsecond
     else None
 
+-- the unit that a unit is called by: an inferred one by seconds
+abbrev pub named_unit : TimestampUnit → Option TimestampUnit
+named_unit TimestampUnit.Second = Some TimestampUnit.Second
+named_unit TimestampUnit.Millisecond = Some TimestampUnit.Millisecond
+named_unit TimestampUnit.Microsecond = Some TimestampUnit.Microsecond
+named_unit TimestampUnit.Infer = Some TimestampUnit.Second
+
 -- what values of a kind are
 abbrev pub kind_of : List ℕ → Option Form
 kind_of text =

@@ -23,30 +23,31 @@ checks Kind.Prints = false
 checks Kind.Reports = false
 checks Kind.Checks = true
 
--- at least one bound is a date or a date-time
-abbrev pub are_times : Option BoundsKind → Bool
-are_times None = false
-are_times (Some BoundsKind.Open) = false
-are_times (Some BoundsKind.Numbers) = false
-are_times (Some BoundsKind.Times) = true
+-- at least one bound is a date, or a date-time without an offset
+abbrev pub are_local : Option BoundsKind → Bool
+are_local None = false
+are_local (Some BoundsKind.Open) = false
+are_local (Some BoundsKind.Fixed) = false
+are_local (Some BoundsKind.Local) = true
 
 -- both bounds are open
 abbrev pub are_open : Option BoundsKind → Bool
 are_open None = false
 are_open (Some BoundsKind.Open) = true
-are_open (Some BoundsKind.Numbers) = false
-are_open (Some BoundsKind.Times) = false
+are_open (Some BoundsKind.Fixed) = false
+are_open (Some BoundsKind.Local) = false
 
 -- `--offset` is given for Unix timestamps, and no bound may need it
 abbrev pub is_offset_of_numbers : Asked → Bool
 is_offset_of_numbers asked =
-    asked.has_offset && (asked.is_timestamp && not (are_times asked.bounds))
+    asked.has_offset && (asked.is_timestamp && not (are_local asked.bounds))
 
--- `--offset` where each value has an offset, no values are compared or all fit, and `--strict` for
--- Unix timestamps
+-- `--offset` where each value has an offset, no values are compared or all fit, and `--strict` and
+-- `--to utc` for Unix timestamps
 abbrev pub about_offset : Asked → Option Idle
 about_offset asked =
     if asked.is_strict && asked.is_timestamp then Some Idle.StrictOfTimestamps
+    else if asked.is_target_utc && asked.is_timestamp then Some Idle.TargetOfTimestamps
     else if asked.has_offset && asked.is_strict then Some Idle.OffsetOfStrict
     else if is_offset_of_numbers asked then Some Idle.OffsetOfTimestamps
     else if asked.has_offset && (checks asked.kind && not asked.compares)

@@ -2,7 +2,7 @@
 
 ghost use Rattle.std.specs.Prelude.{◌≡◌};
 ghost use Rattle.speedate_cli.specs.Choice.{bad_of, digits_of, form_of, fraction_of, gap_of};
-ghost use Rattle.speedate_cli.specs.Choice.{hours_of, kind_of, undated_of, unit_of};
+ghost use Rattle.speedate_cli.specs.Choice.{hours_of, kind_of, named_unit, undated_of, unit_of};
 
 use speedate::{MicrosecondsPrecisionOverflowBehavior, TimestampUnit};
 use speedate_scan::amount::exact_between;
@@ -13,7 +13,7 @@ use speedate_scan::scan::{BadLines, UndatedLines};
 /// Why a gap is refused.
 #[derive(Clone, Copy, Debug)]
 pub enum BadGap {
-    /// It is no exact duration.
+    /// It is not an exact duration.
     Bad(Bad),
     /// It has a minus.
     Negative,
@@ -31,6 +31,17 @@ pub fn unit_of(text: &[u8]) -> Option<TimestampUnit>
         Some(TimestampUnit::Microsecond)
     } else {
         None
+    }
+}
+
+/// The name of a unit of Unix timestamps, as a kind has it.
+pub fn unit_name(unit: TimestampUnit) -> &'static str
+    ensures name { unit_of result.now ≡ named_unit unit }
+{
+    match unit {
+        TimestampUnit::Second | TimestampUnit::Infer => "seconds",
+        TimestampUnit::Millisecond => "milliseconds",
+        TimestampUnit::Microsecond => "microseconds",
     }
 }
 

@@ -9,6 +9,8 @@ use crate::input::{Input, Reasoned, open_input};
 use crate::reason::Reason;
 use crate::seeking::Seeking;
 use crate::told::{Reports, tell_counts, tell_file, tell_line, tell_output};
+use crate::unread_zone::{FirstZone, LOOKED_AT};
+use speedate::CallKind;
 use speedate_commands::command::Command;
 use speedate_commands::status::{READ, USAGE, WRITE, lines_status, worse};
 use speedate_scan::form::Form;
@@ -165,7 +167,8 @@ fn run_file<'a, C: Command<'a>, R: Read + Seek + Drop, F: Files<R>, W: Write>(
         name: name.as_bytes(),
         told: command.scan().bad,
     };
-    let (ended, reason) = run_input(command, input, output, &mut reports);
+    let first_zone = first_zone(rt, command);
+    let (ended, reason) = run_input(command, input, output, first_zone, &mut reports);
     reports.before_read(command);
     let is_without_value = command.scan().is_without_value();
     tell_file(rt, name, ended, is_without_value, reason)
@@ -176,6 +179,7 @@ fn run_input<'a, C: Command<'a>, R: Read + Seek + Drop, W: Write, O: Observer<C>
     command: &mut C,
     input: R,
     output: &mut Watched<W>,
+    first_zone: Option<FirstZone<'_, 'a>>,
     observer: &mut O,
 ) -> (Result<(), RunError>, Option<Reason>)
     ensures left { Leaves C.machine C.scan C.begun C.Says C.about (Some result.0)
@@ -184,9 +188,9 @@ fn run_input<'a, C: Command<'a>, R: Read + Seek + Drop, W: Write, O: Observer<C>
     ensures failed { output.old.failed ≡ false → output.new.failed ≡ is_write result.0 }
 {
     if command.about().is_in_order {
-        return search_input(command, input, output, observer);
+        return search_input(command, input, output, first_zone, observer);
     }
-    read_input(command, input, output, observer)
+    read_input(command, input, output, first_zone, observer)
 }
 
 /// Prints what a command prints of an input that is searched. One that cannot be moved in is read as a whole.
@@ -194,16 +198,46 @@ fn search_input<'a, C: Command<'a>, R: Read + Seek + Drop, W: Write, O: Observer
     command: &mut C,
     mut input: R,
     output: &mut Watched<W>,
+    first_zone: Option<FirstZone<'_, 'a>>,
     observer: &mut O,
 ) -> (Result<(), RunError>, Option<Reason>)
     ensures failed { output.old.failed ≡ false → output.new.failed ≡ is_write result.0 }
 {
     let Ok(size) = input.seek(SeekFrom::End(0)) else {
-        return read_input(command, input, output, observer);
+        return read_input(command, input, output, first_zone, observer);
     };
+    if let Some(first_zone) = first_zone {
+        look_at_first(&mut input, &first_zone);
+    }
     let source = Seeking::new(input);
     let ended = command.search(&source, size, &mut false, output);
     (ended, source.reason())
+}
+
+/// What is looked for in the first bytes of a file, whose lines have not been read yet: nothing if no date-times are
+/// read, or if `check` takes each value by itself.
+fn first_zone<'r, 'a, C: Command<'a>>(
+    rt: &'r HostRuntime,
+    command: &C,
+) -> Option<FirstZone<'r, 'a>> {
+    let scan = command.scan();
+    let about = command.about();
+    let is_by_itself = !about.tells_bad && scan.offsets == Offsets::Any;
+    if about.kind != CallKind::DateTime || is_by_itself {
+        return None;
+    }
+    Some(FirstZone { rt, scan })
+}
+
+/// Looks at the first bytes of an input that is searched, if they can be read: the search tells why one cannot.
+fn look_at_first<R: Read + Seek>(input: &mut R, first_zone: &FirstZone<'_, '_>) {
+    let mut buffer = [0; LOOKED_AT];
+    if input.seek(SeekFrom::Start(0)).is_err() {
+        return;
+    }
+    if let Ok(count) = input.read(&mut buffer) {
+        first_zone.tell(&buffer[..count]);
+    }
 }
 
 /// Prints what a command prints of an input that is read as a whole.
@@ -211,6 +245,7 @@ fn read_input<'a, C: Command<'a>, R: Read + Drop, W: Write, O: Observer<C>>(
     command: &mut C,
     input: R,
     output: &mut Watched<W>,
+    first_zone: Option<FirstZone<'_, 'a>>,
     observer: &mut O,
 ) -> (Result<(), RunError>, Option<Reason>)
     ensures left { (rest : Option (List ℕ)) × Prints C.machine C.scan C.begun C.Says C.about result.0
@@ -218,7 +253,7 @@ fn read_input<'a, C: Command<'a>, R: Read + Drop, W: Write, O: Observer<C>>(
         (W.contents output.old.inner) (W.contents output.new.inner) }
     ensures failed { output.old.failed ≡ false → output.new.failed ≡ is_write result.0 }
 {
-    let mut input = Watched::new(Reasoned::new(input));
+    let mut input = Watched::new(Reasoned::new(input, first_zone));
     let ended = command.print(&mut input, output, observer);
     (ended, input.into_inner().reason)
 }
@@ -240,13 +275,19 @@ fn tell_end<'a, C: Command<'a>>(rt: &HostRuntime, command: &C) -> u8
     ensures status { result ≡ about_status (C.scan command.now) (C.about command.now) }
 {
     let scan = command.scan();
-    if let (Stop::AtUnfit, Offsets::AsBounds(has_offset)) = (scan.stop, scan.offsets) {
-        tell_unfit(rt, &scan, has_offset);
-        return USAGE;
-    }
     let about = command.about();
+    let unfit = match (scan.stop, scan.offsets) {
+        (Stop::AtUnfit, Offsets::AsBounds(has_offset)) => Some(has_offset),
+        _ => None,
+    };
+    if let Some(has_offset) = unfit {
+        tell_unfit(rt, &scan, has_offset);
+    }
     let bad = if about.tells_bad { scan.bad } else { 0 };
     tell_counts(rt, bad, about.before);
+    if unfit.is_some() {
+        return USAGE;
+    }
     if about.is_too_large {
         let _ = eprintln!(rt; "speedate: the total has more than 999,999,999 days");
     }

@@ -22,10 +22,10 @@ pub enum Kind {
 pub enum BoundsKind {
     /// Both are open.
     Open,
-    /// Each is open, or a number, which has no offset.
-    Numbers,
-    /// At least one is a date or a date-time.
-    Times,
+    /// Each is open, a number, or a date-time with an offset.
+    Fixed,
+    /// At least one is a date, or a date-time without an offset.
+    Local,
 }
 
 /// What a command line asks for that may make an option idle.
@@ -53,6 +53,8 @@ pub struct Asked {
     pub has_offset: bool,
     /// Whether `--to` is given.
     pub has_target: bool,
+    /// Whether `--to` asks for UTC.
+    pub is_target_utc: bool,
     /// Whether `--fraction` is given.
     pub has_fraction: bool,
     /// Whether `--digits` is given.
@@ -74,6 +76,8 @@ pub enum Idle {
     OffsetOfDates,
     /// `--to` for dates.
     TargetOfDates,
+    /// `--to` for Unix timestamps, if it asks for UTC.
+    TargetOfTimestamps,
     /// `--offset` for values that all have an offset.
     OffsetOfStrict,
     /// `--strict` for Unix timestamps.
@@ -136,15 +140,18 @@ impl Asked {
     fn is_offset_of_numbers(&self) -> bool
         ensures idle { result ≡ is_offset_of_numbers self.now }
     {
-        self.has_offset && self.is_timestamp && self.bounds != Some(BoundsKind::Times)
+        self.has_offset && self.is_timestamp && self.bounds != Some(BoundsKind::Local)
     }
 
-    /// `--offset` where each value has an offset, no values are compared or all fit, and `--strict` for Unix timestamps.
+    /// `--offset` where each value has an offset, no values are compared or all fit, and `--strict` and `--to utc` for
+    /// Unix timestamps.
     fn about_offset(&self) -> Option<Idle>
         ensures idle { result ≡ about_offset self.now }
     {
         if self.is_strict && self.is_timestamp {
             Some(Idle::StrictOfTimestamps)
+        } else if self.is_target_utc && self.is_timestamp {
+            Some(Idle::TargetOfTimestamps)
         } else if self.has_offset && self.is_strict {
             Some(Idle::OffsetOfStrict)
         } else if self.is_offset_of_numbers() {
@@ -199,6 +206,8 @@ impl Idle {
             Idle::FractionOfDates => "--fraction has no effect with --kind date",
             Idle::OffsetOfDates => "--offset has no effect with --kind date",
             Idle::TargetOfDates => "--to has no effect with --kind date",
+            Idle::TargetOfTimestamps =>
+                "--to utc has no effect with --kind seconds, milliseconds or microseconds: each value is in UTC",
             Idle::OffsetOfStrict => "--offset has no effect with --strict: each value has one",
             Idle::StrictOfTimestamps =>
                 "--strict has no effect with --kind seconds, milliseconds or microseconds",

@@ -3,6 +3,7 @@
 ghost use Rattle.std.specs.Prelude.{◌≡◌};
 
 use crate::reason::Reason;
+use crate::unread_zone::{FirstZone, LOOKED_AT};
 use speedate_commands::status::are_one;
 use std::fs::{self, File, OpenOptions};
 use std::io::{self, ErrorKind, Read, Seek, SeekFrom, Stdin};
@@ -87,33 +88,41 @@ fn is_output(rt: &HostRuntime, path: &str) -> bool {
     }
 }
 
-/// A reader that remembers why a read failed.
+/// A reader that remembers why a read failed, and looks at the first bytes that it reads.
 #[derive(Drop)]
-pub struct Reasoned<R> {
+pub struct Reasoned<'r, 'a, R> {
     /// The reader.
     pub inner: R,
     /// Why a read failed, if one did.
     pub reason: Option<Reason>,
+    /// What is looked for in the first bytes, until they are read.
+    first_zone: Option<FirstZone<'r, 'a>>,
 }
 
-impl<R> Reasoned<R> {
-    /// A reader of which nothing was read.
-    pub fn new(inner: R) -> Self
+impl<'r, 'a, R> Reasoned<'r, 'a, R> {
+    /// A reader of which nothing was read, and what is looked for in its first bytes.
+    pub fn new(inner: R, first_zone: Option<FirstZone<'r, 'a>>) -> Self
         ensures inner { result.inner ≡ inner }
     {
         Reasoned {
             inner,
             reason: None,
+            first_zone,
         }
     }
 }
 
-impl<R: Read> Read for Reasoned<R> {
+impl<R: Read> Read for Reasoned<'_, '_, R> {
     ghost remaining = { λ reader. R.remaining reader.inner };
 
     fn read(&mut self, buffer: &mut [u8]) -> io::Result<usize> {
         match self.inner.read(buffer) {
-            Ok(count) => Ok(count),
+            Ok(count) => {
+                if let Some(first_zone) = self.first_zone.take() {
+                    first_zone.tell(&buffer[..count.min(LOOKED_AT)]);
+                }
+                Ok(count)
+            }
             Err(error) => {
                 self.reason = Some(Reason::new(&error));
                 Err(error)

@@ -15,6 +15,7 @@ mod sort_session;
 #[cfg(test)]
 mod tests;
 mod told;
+mod unread_zone;
 
 use clap::ArgMatches;
 use commands::{
@@ -95,7 +96,11 @@ fn run(rt: &HostRuntime, name: &str, given: &ArgMatches<'_>) -> Result<u8, Refus
     let _output = input::hold_output(rt);
     let files = given.get_strs("FILE").unwrap_or(&[]);
     Ok(match name {
-        "between" => files::run_files(rt, &mut first_between(given)?, files),
+        "between" => {
+            let mut between = first_between(given)?;
+            told::tell_bounds(rt, &between.bounds);
+            files::run_files(rt, &mut between, files)
+        }
         "check" => files::run_files(rt, &mut first_check(given)?, files),
         "convert" => files::run_files(rt, &mut first_convert(given)?, files),
         "merge" => merge_session::run_merge(rt, &first_merge(given)?, files),

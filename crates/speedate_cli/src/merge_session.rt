@@ -6,6 +6,7 @@ ghost use Rattle.speedate_cli.specs.Files.{halt_status};
 use crate::files::{names_or_input, standard_output};
 use crate::input::{Input, Reasoned, open_input};
 use crate::told::{Reports, tell_counts, tell_file, tell_line, tell_memory, tell_output};
+use crate::unread_zone::FirstZone;
 use speedate_commands::order::{Latest, push_late};
 use speedate_commands::status::{BAD, READ, lines_status, worse};
 use speedate_scan::scan::{Offsets, REPORTS_MAX, Scan};
@@ -17,7 +18,7 @@ use std::alloc::AllocError;
 use std::io::{BufReader, Write};
 
 /// A source of a file, or of standard input.
-type FileSource<'a> = Source<'a, BufReader<Reasoned<Input>>>;
+type FileSource<'r, 'a> = Source<'a, BufReader<Reasoned<'r, 'a, Input>>>;
 
 /// Runs `merge` over files, and returns the exit status. Without files it reads standard input. All are
 /// opened before a line is printed, and none is printed if one cannot be opened or its first line not read.
@@ -49,7 +50,7 @@ pub fn run_merge<'a>(rt: &HostRuntime, keys: &Keys<'a>, files: &[&'a str]) -> u8
 
 /// Reads the first line of each source, up to one whose lines end the merge.
 fn read_first_lines(
-    sources: &mut [FileSource<'_>],
+    sources: &mut [FileSource<'_, '_>],
     offsets: &mut Offsets,
     first_bad: &mut FirstBad<'_>,
 ) -> Option<Halted> {
@@ -94,16 +95,20 @@ impl Reporter for FirstBad<'_> {
 /// Opens a file of which no line has been read, or tells why it cannot be read.
 ///
 /// Fails if memory runs out.
-fn open_source<'a>(
-    rt: &HostRuntime,
+fn open_source<'r, 'a>(
+    rt: &'r HostRuntime,
     mut keys: Keys<'a>,
     name: &'a str,
-) -> Result<Option<FileSource<'a>>, AllocError> {
+) -> Result<Option<FileSource<'r, 'a>>, AllocError> {
     keys.scan.begin(name.as_bytes());
     let Some(input) = open_input(rt, name) else {
         return Ok(None);
     };
-    match BufReader::new(rt.alloc(), Reasoned::new(input)) {
+    let first_zone = FirstZone {
+        rt,
+        scan: keys.scan,
+    };
+    match BufReader::new(rt.alloc(), Reasoned::new(input, Some(first_zone))) {
         Ok(input) => Ok(Some(Source::new(keys, input, rt.alloc()))),
         Err(_) => Err(AllocError),
     }
@@ -113,7 +118,7 @@ fn open_source<'a>(
 fn merge_sources(
     rt: &HostRuntime,
     files: &[&str],
-    sources: &mut [FileSource<'_>],
+    sources: &mut [FileSource<'_, '_>],
     offsets: Offsets,
     first_bad: &mut FirstBad<'_>,
 ) -> u8 {
@@ -131,7 +136,7 @@ fn merge_sources(
 fn tell_end(
     rt: &HostRuntime,
     files: &[&str],
-    sources: &[FileSource<'_>],
+    sources: &[FileSource<'_, '_>],
     halted: Option<Halted>,
 ) -> u8
     ensures halted { IfSome halted (λ halted. halted.index < length files.now →
@@ -165,7 +170,7 @@ fn is_unread(halted: Option<Halted>, source: usize) -> bool {
 }
 
 /// Tells why a source ended a merge, and returns the exit status for that.
-fn tell_halt(rt: &HostRuntime, name: &str, source: &FileSource<'_>, halt: Halt) -> u8
+fn tell_halt(rt: &HostRuntime, name: &str, source: &FileSource<'_, '_>, halt: Halt) -> u8
     ensures status { result ≡ halt_status halt }
 {
     match halt {

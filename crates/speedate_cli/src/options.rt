@@ -2,13 +2,14 @@
 
 ghost use Rattle.std.specs.Prelude.{◌≡◌};
 ghost use Rattle.speedate_cli.specs.Bound.{bound_form, bound_value, bounds_kind_of, claims_number};
-ghost use Rattle.speedate_cli.specs.Bound.{bounds_of, closed, is_open, is_time};
+ghost use Rattle.speedate_cli.specs.Bound.{bounds_of, closed, is_local, is_open};
 ghost use Rattle.speedate_cli.specs.Field.{separator_of};
 ghost use Rattle.speedate_cli.specs.Offset.{is_utc, offset_of};
 
 use self::Refusal::Usage;
 use crate::choice::{
     BadGap, bad_of, digits_of, form_of, fraction_of, gap_of, hours_of, kind_of, undated_of,
+    unit_name,
 };
 use crate::idle::{Asked, BoundsKind, Idle, Kind};
 use clap::ArgMatches;
@@ -16,12 +17,13 @@ use speedate::{CallKind, MicrosecondsPrecisionOverflowBehavior, Refused, Timesta
 use speedate_base::numbers::byte_at;
 use speedate_commands::between::Bounds;
 use speedate_commands::convert::Target;
-use speedate_scan::claim::{claims_date, field_claims};
+use speedate_scan::claim::{claims, claims_date, field_claims};
 use speedate_scan::field::{NthField, QUOTE};
 use speedate_scan::form::Form;
 use speedate_scan::print::Prefix;
-use speedate_scan::reading::{Bad, Place, Reader, assume, instant_of};
+use speedate_scan::reading::{Place, Reader, assume, instant_of};
 use speedate_scan::scan::{BadLines, Offsets, UndatedLines};
+use speedate_scan::timestamp::fewest_digits;
 use speedate_scan::zone::zone_front;
 use std::fmt;
 
@@ -50,16 +52,16 @@ pub enum Refusal {
     /// A bound of this name is bad.
     Bound(&'static str, BadBound),
     /// The duration of a gap is bad.
-    Gap(Bad),
+    Gap(BadGap),
 }
 
 /// What is bad about a bound.
 #[derive(Clone, Copy, Debug)]
-pub struct BadBound {
-    /// What kind of call refused it.
-    pub kind: CallKind,
-    /// What was expected, and at which byte.
-    pub refused: Refused,
+pub enum BadBound {
+    /// What this kind of call expected, and at which byte.
+    Refused(CallKind, Refused),
+    /// It is a number with fewer digits than the Unix timestamps of lines in this unit.
+    FewDigits(TimestampUnit),
 }
 
 impl fmt::Display for Refusal {
@@ -67,15 +69,26 @@ impl fmt::Display for Refusal {
         match self {
             Refusal::Usage(text) => f.write_str(text),
             Refusal::Idle(idle) => f.write_str(idle.text()),
-            Refusal::Bound(name, bad) => {
-                let column = bad.refused.place.saturating_add(1);
-                let expected = bad.refused.fault.expected(bad.kind);
+            Refusal::Bound(name, BadBound::Refused(kind, refused)) => {
+                let column = refused.place.saturating_add(1);
+                let expected = refused.fault.expected(*kind);
                 write!(f, "{name}:{column}: expected {expected}")
             }
-            Refusal::Gap(bad) => {
+            Refusal::Bound(name, BadBound::FewDigits(unit)) => {
+                let unit_name = unit_name(*unit);
+                let digits = fewest_digits(*unit);
+                write!(
+                    f,
+                    "{name}:1: expected {unit_name} since 1970: at least {digits} digits, or a date-time"
+                )
+            }
+            Refusal::Gap(BadGap::Bad(bad)) => {
                 let column = bad.place.saturating_add(1);
                 let expected = bad.why.expected(CallKind::Duration);
                 write!(f, "--gap:{column}: expected {expected}")
+            }
+            Refusal::Gap(BadGap::Negative) => {
+                f.write_str("--gap:1: expected a duration without a minus")
             }
         }
     }
@@ -120,6 +133,9 @@ fn asked(matches: &ArgMatches<'_>, kind: Kind) -> Result<Asked, Refusal> {
         is_strict: matches.get_flag("strict"),
         has_offset: matches.get_str("offset").is_some(),
         has_target: matches.get_str("to").is_some(),
+        is_target_utc: matches
+            .get_str("to")
+            .is_some_and(|text| offset_of(text.as_bytes()) == Some(0)),
         has_fraction: matches.get_str("fraction").is_some(),
         has_digits: matches.get_str("digits").is_some(),
         undated: match matches.get_str("undated") {
@@ -148,10 +164,10 @@ fn bounds_kind_of(from: &[u8], to: &[u8], form: Form) -> BoundsKind
 {
     if is_open(from) && is_open(to) {
         BoundsKind::Open
-    } else if is_time(from, form) || is_time(to, form) {
-        BoundsKind::Times
+    } else if is_local(from, form) || is_local(to, form) {
+        BoundsKind::Local
     } else {
-        BoundsKind::Numbers
+        BoundsKind::Fixed
     }
 }
 
@@ -162,11 +178,18 @@ fn is_open(text: &[u8]) -> bool
     text == b"..".as_slice()
 }
 
-/// Whether a bound is a date or a date-time.
-fn is_time(text: &[u8], form: Form) -> bool
-    ensures time { result ≡ is_time form text.now }
+/// Whether a bound is a date, or a date-time without an offset.
+fn is_local(text: &[u8], form: Form) -> bool
+    ensures local { result ≡ is_local form text.now }
 {
-    !is_open(text) && !claims_number(text, form)
+    if is_open(text) || claims_number(text, form) {
+        return false;
+    }
+    let form = bound_form(text, form);
+    match form.whole(text, MicrosecondsPrecisionOverflowBehavior::Truncate) {
+        Ok(value) => value.time.tz_offset.is_none(),
+        Err(_) => true,
+    }
 }
 
 /// How values are read.
@@ -192,6 +215,9 @@ fn place<'a>(matches: &ArgMatches<'a>) -> Result<Place<'a>, Refusal> {
         (None, None) => Ok(Place::Front),
         (Some(text), None) if text.is_empty() => Err(Usage(
             "--after wants a text that is not empty",
+        )),
+        (Some(text), None) if text.as_bytes().contains(&b'\n') => Err(Usage(
+            "--after wants a text without a line feed, which no line has",
         )),
         (Some(text), None) => Ok(Place::After(text.as_bytes())),
         (None, Some(text)) => Ok(Place::Field(NthField {
@@ -292,8 +318,7 @@ pub fn gap(matches: &ArgMatches<'_>) -> Result<Option<i128>, Refusal> {
     };
     match gap_of(text.as_bytes()) {
         Ok(gap) => Ok(Some(gap)),
-        Err(BadGap::Negative) => Err(Usage("--gap is a duration without a minus")),
-        Err(BadGap::Bad(bad)) => Err(Refusal::Gap(bad)),
+        Err(bad) => Err(Refusal::Gap(bad)),
     }
 }
 
@@ -417,21 +442,24 @@ fn bound_of(name: &'static str, text: Option<&str>, reader: &Reader<'_>) -> Resu
 }
 
 /// The nanosecond of a bound that is not open, and whether it has an offset, by what values are, and by the offset
-/// that one without gets. A date is its midnight. Where values are Unix timestamps, a number is one too.
+/// that one without gets. A date is its midnight. Where values are Unix timestamps, a number is one too, and has as many
+/// digits as theirs: one with fewer is mostly in another unit.
 fn bound_value(text: &[u8], form: Form, offset: Option<i32>) -> Result<(i128, bool), BadBound>
     ensures value { result ≡ bound_value form offset text.now }
 {
     let form = bound_form(text, form);
+    if let Form::Timestamp(unit) = form {
+        if !claims(form, text) {
+            return Err(BadBound::FewDigits(unit));
+        }
+    }
     match form.whole(text, MicrosecondsPrecisionOverflowBehavior::Truncate) {
         Ok(value) => {
             let value = assume(offset, value);
             let instant = instant_of(form, text, &value);
             Ok((instant, value.time.tz_offset.is_some()))
         }
-        Err(refused) => Err(BadBound {
-            kind: form.call_kind(),
-            refused,
-        }),
+        Err(refused) => Err(BadBound::Refused(form.call_kind(), refused)),
     }
 }
 

@@ -10,6 +10,7 @@ ghost use Rattle.speedate_cli.specs.Files.{FileEnd, PrintsSorted, end_status, so
 use crate::files::{names_or_input, standard_output};
 use crate::input::{Reasoned, open_input};
 use crate::told::{Reports, tell_counts, tell_file, tell_memory, tell_output};
+use crate::unread_zone::FirstZone;
 use speedate_commands::status::{READ, WRITE, lines_status, worse};
 use speedate_sort::sort::{KeyedLines, Keys, Unread, Unsorted};
 use speedate_stream::Watched;
@@ -71,7 +72,11 @@ fn add_file<'a>(
         name: name.as_bytes(),
         told: keys.scan.bad,
     };
-    let mut input = Watched::new(Reasoned::new(input));
+    let first_zone = FirstZone {
+        rt,
+        scan: keys.scan,
+    };
+    let mut input = Watched::new(Reasoned::new(input, Some(first_zone)));
     let added = lines.add(keys, &mut input);
     reports.tell(&keys.scan, keys.scan.reader.form.call_kind());
     let ended = match added {

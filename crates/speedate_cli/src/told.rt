@@ -5,8 +5,10 @@ ghost use Rattle.speedate_commands.specs.Status.{file_status};
 
 use crate::reason::Reason;
 use speedate::CallKind;
+use speedate_commands::between::Bounds;
 use speedate_commands::status::{READ, WRITE, file_status, is_due};
 use speedate_scan::print::{push_line_place, push_report};
+use speedate_scan::reading::seen;
 use speedate_scan::scan::{Report, Scan};
 use speedate_stream::run::RunError;
 use speedate_stream::{Pending, push_bytes};
@@ -96,6 +98,27 @@ pub fn tell_line(rt: &HostRuntime, scan: &Scan<'_>, told: &str)
     push_bytes(told.as_bytes(), &mut text);
     push_bytes(b"\n", &mut text);
     let _ = rt.stderr().write_all(text.as_slice());
+}
+
+/// Tells that the name of a zone is not read.
+pub fn tell_unread_zone(rt: &HostRuntime, name: &[u8], number: u64, zone: &str) {
+    let mut text = Pending::new();
+    push_bytes(b"speedate: ", &mut text);
+    push_line_place(name, number, &mut text);
+    push_bytes(b": ", &mut text);
+    push_bytes(seen(zone.as_bytes()), &mut text);
+    push_bytes(
+        b" is not read: --offset gives values an offset\n",
+        &mut text,
+    );
+    let _ = rt.stderr().write_all(text.as_slice());
+}
+
+/// Tells that nothing lies between two bounds, if they are the same.
+pub fn tell_bounds(rt: &HostRuntime, bounds: &Bounds) {
+    if bounds.from.is_some() && bounds.from == bounds.to {
+        let _ = eprintln!(rt; "speedate: FROM is TO: nothing lies between them");
+    }
 }
 
 /// Tells how many lines were bad, and how many were before the first entry, if there were any.

@@ -6,8 +6,9 @@ use Rattle.speedate_scan.specs.Scan.{bad_of, counted, first_after, first_found, 
 use Rattle.speedate_scan.specs.Scan.{is_stopped, line_of, passed, settled, valued}
 use Rattle.speedate_scan.specs.declared.scan.First.{First}
 use Rattle.speedate_commands.specs.Base.{Bad, Found, LineKind, Offsets, Scan}
-use Rattle.speedate_commands.specs.Check.{Check, bad_report, check_after, check_text, compares}
-use Rattle.speedate_commands.specs.Check.{is_after_gap, is_plain, takes_any, value_report}
+use Rattle.speedate_commands.specs.Check.{Check, bad_report, check_after, check_machine, compares}
+use Rattle.speedate_commands.specs.Check.{cut_value, is_after_gap, is_plain, line_text, takes_any}
+use Rattle.speedate_commands.specs.Check.{value_report}
 use Rattle.speedate_commands.specs.Order.{Latest}
 use Rattle.speedate_commands.proofs.KindLemmas.{MayBe, line_of_may}
 
@@ -52,30 +53,38 @@ no_value_report check instant (Some latest) is =
     no_report check.reports_late check.gap instant latest _ _ is
 
 -- nothing is said of a line that is not bad
-line_text : (check : Check) (line : LineKind) → compares check ≡ false → bad_of line ≡ None
-    → check_text check line ≡ []
-line_text check (LineKind.Value found) is none =
+silent : (check : Check) (line : LineKind) → compares check ≡ false → bad_of line ≡ None
+    → line_text check line ≡ []
+silent check (LineKind.Value found) is none =
     no_value_report check found.instant check.order.latest is
-line_text check (LineKind.Bad bad) is none = cc
-line_text check line is none = refl
+silent check (LineKind.Bad bad) is none = cc
+silent check line is none = refl
+
+-- no value is compared of which only the digits are bad
+no_cut : (check : Check) (head : List ℕ) (line : LineKind) → compares check ≡ false
+    → cut_value check head line ≡ None
+no_cut check head line is = rw is refl
 
 pub plain_text : (check : Check) (line items : List ℕ) → is_plain check ≡ true
     → bad_of (line_of check.order.scan line) ≡ None
-    → items ≡ items ++ check_text check (line_of check.order.scan line)
+    → items ≡ items ++ check_machine.text check line
 plain_text check line items is none =
-    let nothing = line_text check (line_of check.order.scan line) (plain check is).alone none in
-    sym (append-nil items) ∙ ap (λ (text : List ℕ). items ++ text) (sym nothing)
+    let what : LineKind = line_of check.order.scan line in
+    let parts = plain check is in
+    rw (no_cut check line what parts.alone, silent check what parts.alone none)
+    (sym (append-nil items))
 
 -- a line about which something is bad is a bad one
 bad_line : (line : LineKind) (bad : Bad) → bad_of line ≡ Some bad → LineKind.Bad bad ≡ line
 bad_line (LineKind.Bad other) bad is = cc
 bad_line line bad is = cc
 
-pub plain_bad_text : (check : Check) (line items : List ℕ) (bad : Bad)
+pub plain_bad_text : (check : Check) (line items : List ℕ) (bad : Bad) → is_plain check ≡ true
     → bad_of (line_of check.order.scan line) ≡ Some bad
-    → items ++ bad_report check.order.scan bad
-    ≡ items ++ check_text check (line_of check.order.scan line)
-plain_bad_text check line items bad is = rw (← bad_line (line_of check.order.scan line) bad is) refl
+    → items ++ bad_report check.order.scan bad ≡ items ++ check_machine.text check line
+plain_bad_text check line items bad is found =
+    let what : LineKind = line_of check.order.scan line in
+    rw (no_cut check line what (plain check is).alone, ← bad_line what bad found, append-nil) refl
 
 -- What is known after a line.
 
@@ -113,24 +122,23 @@ line_passed check LineKind.Undated is may none =
 abbrev with_scan : Check → Scan → Check
 with_scan check scan = record check { order = record check.order { scan = scan } }
 
-line_after : (check : Check) (line : LineKind) → compares check ≡ false
-    → with_scan check (passed check.order.scan line) ≡ check_after check line
-line_after check line is = rw is refl
+line_after : (check : Check) (line : LineKind) (cut : Option Found) → compares check ≡ false
+    → with_scan check (passed check.order.scan line) ≡ check_after check line cut
+line_after check line cut is = rw is refl
 
 pub plain_after : (check : Check) (line : List ℕ) → is_plain check ≡ true
     → bad_of (line_of check.order.scan line) ≡ None
-    → with_scan check (counted check.order.scan) ≡ check_after check (line_of check.order.scan line)
+    → with_scan check (counted check.order.scan) ≡ check_machine.after check line
 plain_after check line is none =
     let parts = plain check is in
     let what : LineKind = line_of check.order.scan line in
     ap (with_scan check) (line_passed check what parts (line_of_may check.order.scan line) none)
-    ∙ line_after check what parts.alone
+    ∙ line_after check what (cut_value check line what) parts.alone
 
 pub plain_bad_after : (check : Check) (line : List ℕ) (bad : Bad) → is_plain check ≡ true
     → bad_of (line_of check.order.scan line) ≡ Some bad
-    → with_scan check (passed check.order.scan (LineKind.Bad bad))
-    ≡ check_after check (line_of check.order.scan line)
+    → with_scan check (passed check.order.scan (LineKind.Bad bad)) ≡ check_machine.after check line
 plain_bad_after check line bad is found =
     let what : LineKind = line_of check.order.scan line in
     ap (λ (one : LineKind). with_scan check (passed check.order.scan one)) (bad_line what bad found)
-    ∙ line_after check what (plain check is).alone
+    ∙ line_after check what (cut_value check line what) (plain check is).alone

@@ -1,11 +1,11 @@
 -- What the machines of `check` and `convert` print of lines.
 use Rattle.std.proofs.Common.{◌≡◌, ℕ, Bool, true, false, List, [], ◌∷◌, ◌++◌, refl, append_assoc, take}
 use Rattle.std.proofs.lemmas.List.{append-nil}
-use Rattle.std.specs.Prelude.{Some, None, if◌then◌else◌}
+use Rattle.std.specs.Prelude.{Option, Some, None, if◌then◌else◌}
 use Rattle.speedate_stream.specs.Machine.{head, lines_output, rest_of}
 use Rattle.speedate_scan.specs.Scan.{keeps, line_of, passed}
-use Rattle.speedate_commands.specs.Base.{LineKind}
-use Rattle.speedate_commands.specs.Check.{Check, check_after, check_lines, check_machine}
+use Rattle.speedate_commands.specs.Base.{Found, LineKind}
+use Rattle.speedate_commands.specs.Check.{Check, check_after, check_lines, check_machine, cut_value}
 use Rattle.speedate_commands.specs.Convert.{Convert, convert_line, convert_lines, convert_machine}
 use Rattle.speedate_commands.specs.Convert.{convert_rest, convert_text, converted, line_prefix}
 use Rattle.speedate_commands.specs.Convert.{text_of, written_of}
@@ -16,7 +16,8 @@ pub check_prints : (check : Check) (lines : List (List ℕ))
 check_prints check [] = refl
 check_prints check (line ∷ lines) =
     let what : LineKind = line_of check.order.scan (head line) in
-    rw (append-nil, check_prints (check_after check what) lines) refl
+    let cut : Option Found = cut_value check (head line) what in
+    rw (append-nil, check_prints (check_after check what cut) lines) refl
 
 -- a line that is printed as it is, if it is printed
 as_it_is : (test : Bool) (prefix line : List ℕ)

@@ -5,11 +5,13 @@ use Rattle.std.specs.Borrow.{Bor}
 use Rattle.speedate_stream.specs.Machine.{Machine, head, state_after}
 use Rattle.speedate_stream.specs.Watch.{one_more}
 use Rattle.speedate_scan.specs.Print.{call_kind, report_text}
-use Rattle.speedate_scan.specs.Scan.{begun, is_found, is_stopped, line_of, lines_before, passed}
+use Rattle.speedate.specs.Base.{Behavior}
+use Rattle.speedate_scan.specs.Scan.{begun, found_in, is_found, is_stopped, line_of, lines_before}
+use Rattle.speedate_scan.specs.Scan.{passed}
 use Rattle.speedate_scan.specs.declared.scan.Offsets.{Offsets}
-use Rattle.speedate_commands.specs.Base.{Bad, LineKind, Scan}
+use Rattle.speedate_commands.specs.Base.{Bad, Found, LineKind, Scan}
 use Rattle.speedate_commands.specs.Nanosecond.{distance}
-use Rattle.speedate_commands.specs.Order.{Latest, gap_text, late_text, order_after}
+use Rattle.speedate_commands.specs.Order.{Latest, gap_text, late_text, order_after, order_after_cut}
 use Rattle.speedate_commands.specs.Runs.{About}
 pub use Rattle.speedate_commands.specs.declared.check.Check.{Check}
 
@@ -39,31 +41,67 @@ abbrev pub bad_report : Scan → Bad → List ℕ
 bad_report scan bad =
     report_text scan.name.now (one_more scan.number) bad (call_kind scan.reader.form)
 
--- what is reported of a line
-abbrev pub check_text : Check → LineKind → List ℕ
-check_text check (LineKind.Bad bad) = bad_report check.order.scan bad
-check_text check (LineKind.Value found) = value_report check found.instant check.order.latest
-check_text check LineKind.Late = []
-check_text check LineKind.Header = []
-check_text check LineKind.Unfit = []
-check_text check LineKind.Undated = []
+-- digits past the microsecond are bad
+abbrev pub are_bad : Behavior → Bool
+are_bad Behavior.Error = true
+are_bad Behavior.Truncate = false
 
--- how many values came after a gap
-abbrev pub gaps_after : Check → LineKind → ℕ
-gaps_after check (LineKind.Value found) =
+-- the same lines, in which digits past the microsecond are cut off
+abbrev pub cutting : Scan → Scan
+cutting scan = record scan { reader = record scan.reader { behavior = Behavior.Truncate } }
+
+-- what a bad line has as its value to be compared, if only its digits are bad
+abbrev pub cut_value_of : Scan → List ℕ → LineKind → Option Found
+cut_value_of scan head (LineKind.Bad bad) = found_in (line_of (cutting scan) head)
+cut_value_of scan head (LineKind.Value found) = None
+cut_value_of scan head LineKind.Late = None
+cut_value_of scan head LineKind.Header = None
+cut_value_of scan head LineKind.Unfit = None
+cut_value_of scan head LineKind.Undated = None
+
+abbrev pub cut_value : Check → List ℕ → LineKind → Option Found
+cut_value check head line =
+    if compares check && are_bad check.order.scan.reader.behavior
+    then cut_value_of check.order.scan head line else None
+
+-- what is reported of a line by itself, or by the value before
+abbrev pub line_text : Check → LineKind → List ℕ
+line_text check (LineKind.Bad bad) = bad_report check.order.scan bad
+line_text check (LineKind.Value found) = value_report check found.instant check.order.latest
+line_text check LineKind.Late = []
+line_text check LineKind.Header = []
+line_text check LineKind.Unfit = []
+line_text check LineKind.Undated = []
+
+-- what is reported of a value of which only the digits are bad, by the value before
+abbrev pub cut_text : Check → Option Found → List ℕ
+cut_text check None = []
+cut_text check (Some found) = value_report check found.instant check.order.latest
+
+-- what is reported of a line
+abbrev pub check_text : Check → LineKind → Option Found → List ℕ
+check_text check line cut = line_text check line ++ cut_text check cut
+
+-- how many values came after a gap, after a line that has this value to be compared
+abbrev pub gaps_after : Check → Option Found → ℕ
+gaps_after check None = check.gaps
+gaps_after check (Some found) =
     if is_after_gap check.gap found.instant check.order.latest then one_more check.gaps
     else check.gaps
-gaps_after check (LineKind.Bad bad) = check.gaps
-gaps_after check LineKind.Late = check.gaps
-gaps_after check LineKind.Header = check.gaps
-gaps_after check LineKind.Unfit = check.gaps
-gaps_after check LineKind.Undated = check.gaps
+
+-- what is known after a line where values are compared
+abbrev pub compared_after : Check → LineKind → Option Found → Check
+compared_after check line None =
+    record check { order = order_after check.order line; gaps = gaps_after check (found_in line) }
+compared_after check line (Some found) = record check {
+  order = order_after_cut check.order line found;
+  gaps = gaps_after check (Some found);
+}
 
 -- what is known after a line
-abbrev pub check_after : Check → LineKind → Check
-check_after check line =
-    if compares check
-    then record check { order = order_after check.order line; gaps = gaps_after check line }
+abbrev pub check_after : Check → LineKind → Option Found → Check
+check_after check line cut =
+    if compares check then compared_after check line cut
     else record check { order = record check.order { scan = passed check.order.scan line } }
 
 -- all values fit
@@ -83,8 +121,10 @@ is_plain check =
 -- the reports, and no line itself
 abbrev pub check_machine : Machine Check
 check_machine = record {
-  after = λ check head. check_after check (line_of check.order.scan head);
-  text = λ check head. check_text check (line_of check.order.scan head);
+  after = λ check head. let line = line_of check.order.scan head in
+      check_after check line (cut_value check head line);
+  text = λ check head. let line = line_of check.order.scan head in
+      check_text check line (cut_value check head line);
   rest = λ check head. None;
   done = λ check. is_stopped check.order.scan.stop;
 }
@@ -94,7 +134,8 @@ abbrev pub check_lines : Check → List (List ℕ) → List ℕ
 check_lines check [] = []
 check_lines check (line ∷ lines) =
     let what = line_of check.order.scan (head line) in
-    check_text check what ++ check_lines (check_after check what) lines
+    let cut = cut_value check (head line) what in
+    check_text check what cut ++ check_lines (check_after check what cut) lines
 
 -- What a run over files knows.
 

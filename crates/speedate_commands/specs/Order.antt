@@ -3,7 +3,7 @@ use Rattle.std.specs.Prelude.{ℕ, ℤ, Bool, false, List, [], ◌∷◌, ◌++�
 use Rattle.speedate.specs.Ascii.{line_feed}
 use Rattle.speedate_stream.specs.Watch.{one_more}
 use Rattle.speedate_scan.specs.Print.{line_place}
-use Rattle.speedate_scan.specs.Scan.{passed}
+use Rattle.speedate_scan.specs.Scan.{passed, settled}
 use Rattle.speedate_commands.specs.Base.{Found, LineKind, Scan}
 use Rattle.speedate_commands.specs.Nanosecond.{duration_between}
 pub use Rattle.speedate_commands.specs.declared.order.Latest.{Latest}
@@ -71,4 +71,11 @@ order_after order line = record {
   scan = passed order.scan line;
   latest = value_after order line;
   late = late_after order line;
+}
+
+-- what is known after a line that is bad, of which this value is compared all the same: it settles
+-- which values fit, as a good one does
+abbrev pub order_after_cut : Order → LineKind → Found → Order
+order_after_cut order line found = record (order_after order (LineKind.Value found)) {
+  scan = record (passed order.scan line) { offsets = settled order.scan.offsets found };
 }

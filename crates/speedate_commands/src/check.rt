@@ -4,17 +4,18 @@
 ghost use Rattle.std.specs.Prelude.{◌≡◌, ◌+◌, ◌++◌, ◌≤◌, int_lt, true};
 ghost use Rattle.arrayvec.specs.ArrayVec.{array_vec_len};
 ghost use Rattle.speedate_commands.specs.Check.{bad_report, check_after, check_machine};
-ghost use Rattle.speedate_commands.specs.Check.{check_text, compares, gaps_after, is_after_gap};
-ghost use Rattle.speedate_commands.specs.Check.{is_plain, reported, value_report};
-ghost use Rattle.speedate_scan.specs.Scan.{line_of};
+ghost use Rattle.speedate_commands.specs.Check.{check_text, compares, cut_value, cutting};
+ghost use Rattle.speedate_commands.specs.Check.{gaps_after, is_after_gap, is_plain, line_text};
+ghost use Rattle.speedate_commands.specs.Check.{reported, value_report};
 ghost use Rattle.speedate_commands.specs.Nanosecond.{distance};
 
 use crate::command::{About, Command};
 use crate::nanosecond::distance;
-use crate::order::{Order, push_gap, push_late};
+use crate::order::{APART_MAX, Order, push_gap, push_late};
 use crate::search::ReadAt;
-use speedate_scan::print::push_report;
-use speedate_scan::reading::Bad;
+use speedate::MicrosecondsPrecisionOverflowBehavior;
+use speedate_scan::print::{REPORT_MAX, push_report};
+use speedate_scan::reading::{Bad, Found, Reader};
 use speedate_scan::scan::{LineKind, Offsets, Scan};
 use speedate_stream::run::{RunError, run};
 use speedate_stream::{LineMachine, Observer, PENDING_MAX, Pending, STEP_MAX, Watched};
@@ -40,6 +41,20 @@ fn is_past_gap(from: i128, to: i128, gap: i128) -> bool
     gap < distance(from, to)
 }
 
+/// The same lines, in which digits past the microsecond are cut off.
+fn cut_scan<'a>(scan: &Scan<'a>) -> Scan<'a>
+    ensures cutting { result ≡ cutting scan.now }
+{
+    let mut cut = *scan;
+    cut.reader = Reader {
+        place: scan.reader.place,
+        form: scan.reader.form,
+        behavior: MicrosecondsPrecisionOverflowBehavior::Truncate,
+        offset: scan.reader.offset,
+    };
+    cut
+}
+
 impl Check<'_> {
     /// Whether values are compared with the one before.
     #[inline(always)]
@@ -59,12 +74,12 @@ impl Check<'_> {
         }
     }
 
-    /// Appends the report of a value.
+    /// Appends the report of a value, by the one before.
     fn push_value(&self, instant: i128, pending: &mut Pending)
-        requires room { array_vec_len pending.old + STEP_MAX ≤ PENDING_MAX }
+        requires room { array_vec_len pending.old + APART_MAX ≤ PENDING_MAX }
         ensures pushed { pending.new.items
             ≡ pending.old.items ++ value_report self.now instant self.now.order.latest }
-        ensures length { array_vec_len pending.new ≤ array_vec_len pending.old + STEP_MAX }
+        ensures length { array_vec_len pending.new ≤ array_vec_len pending.old + APART_MAX }
     {
         let Some(latest) = &self.order.latest else {
             return;
@@ -79,10 +94,10 @@ impl Check<'_> {
 
     /// Appends the report of a bad value.
     fn push_bad(&self, bad: &Bad, pending: &mut Pending)
-        requires room { array_vec_len pending.old + STEP_MAX ≤ PENDING_MAX }
+        requires room { array_vec_len pending.old + REPORT_MAX ≤ PENDING_MAX }
         ensures pushed { pending.new.items
             ≡ pending.old.items ++ bad_report self.now.order.scan bad.now }
-        ensures length { array_vec_len pending.new ≤ array_vec_len pending.old + STEP_MAX }
+        ensures length { array_vec_len pending.new ≤ array_vec_len pending.old + REPORT_MAX }
     {
         let scan = &self.order.scan;
         push_report(
@@ -94,16 +109,46 @@ impl Check<'_> {
         );
     }
 
-    /// Appends what is reported of a line.
+    /// Appends what is reported of a line by itself, or by the value before.
     fn push_line(&self, line: &LineKind, pending: &mut Pending)
-        requires room { array_vec_len pending.old + STEP_MAX ≤ PENDING_MAX }
-        ensures pushed { pending.new.items ≡ pending.old.items ++ check_text self.now line.now }
-        ensures length { array_vec_len pending.new ≤ array_vec_len pending.old + STEP_MAX }
+        requires room { array_vec_len pending.old + APART_MAX ≤ PENDING_MAX }
+        ensures pushed { pending.new.items ≡ pending.old.items ++ line_text self.now line.now }
+        ensures length { array_vec_len pending.new ≤ array_vec_len pending.old + APART_MAX }
     {
         match line {
             LineKind::Bad(bad) => self.push_bad(bad, pending),
             LineKind::Value(found) => self.push_value(found.instant, pending),
             _ => {}
+        }
+    }
+
+    /// Appends what is reported of a line, of which this value is to be compared although its digits are bad.
+    #[tactic(auto, using(std::proofs::Common::append_assoc))]
+    fn push_text(&self, line: &LineKind, cut: &Option<Found>, pending: &mut Pending)
+        requires room { array_vec_len pending.old + STEP_MAX ≤ PENDING_MAX }
+        ensures pushed { pending.new.items
+            ≡ pending.old.items ++ check_text self.now line.now cut.now }
+        ensures length { array_vec_len pending.new ≤ array_vec_len pending.old + STEP_MAX }
+    {
+        self.push_line(line, pending);
+        if let Some(found) = cut {
+            self.push_value(found.instant, pending);
+        }
+    }
+
+    /// The value of a bad line that is to be compared, since only its digits past the microsecond are bad.
+    fn cut_value(&self, head: &[u8], line: &LineKind) -> Option<Found>
+        ensures cut { result ≡ cut_value self.now head.now line.now }
+    {
+        let scan = &self.order.scan;
+        if !self.compares()
+            || scan.reader.behavior != MicrosecondsPrecisionOverflowBehavior::Error
+        {
+            return None;
+        }
+        match line {
+            LineKind::Bad(_) => cut_scan(scan).line(head).found(),
+            _ => None,
         }
     }
 
@@ -119,14 +164,12 @@ impl Check<'_> {
         late.saturating_add(self.gaps)
     }
 
-    /// How many values came after a gap, after a line.
-    fn gaps_after(&self, line: &LineKind) -> u64
-        ensures gaps { result ≡ gaps_after self.now line.now }
+    /// How many values came after a gap, after a line that has this value to be compared.
+    fn gaps_after(&self, found: &Option<Found>) -> u64
+        ensures gaps { result ≡ gaps_after self.now found.now }
     {
-        match line {
-            LineKind::Value(found) if self.is_after_gap(found.instant) => self
-                .gaps
-                .saturating_add(1),
+        match found {
+            Some(found) if self.is_after_gap(found.instant) => self.gaps.saturating_add(1),
             _ => self.gaps,
         }
     }
@@ -148,9 +191,9 @@ impl Check<'_> {
     fn pass_plain(&mut self, head: &[u8], pending: &mut Pending)
         requires plain { is_plain self.old ≡ true }
         requires room { array_vec_len pending.old + STEP_MAX ≤ PENDING_MAX }
-        ensures after { self.new ≡ check_after self.old (line_of self.old.order.scan head.now) }
+        ensures after { self.new ≡ check_machine.after self.old head.now }
         ensures pushed { pending.new.items
-            ≡ pending.old.items ++ check_text self.old (line_of self.old.order.scan head.now) }
+            ≡ pending.old.items ++ check_machine.text self.old head.now }
         ensures length { array_vec_len pending.new ≤ array_vec_len pending.old + STEP_MAX }
     {
         match self.order.scan.what_is_bad(head) {
@@ -166,28 +209,34 @@ impl Check<'_> {
     #[inline(never)]
     fn pass_any(&mut self, head: &[u8], pending: &mut Pending)
         requires room { array_vec_len pending.old + STEP_MAX ≤ PENDING_MAX }
-        ensures after { self.new ≡ check_after self.old (line_of self.old.order.scan head.now) }
+        ensures after { self.new ≡ check_machine.after self.old head.now }
         ensures pushed { pending.new.items
-            ≡ pending.old.items ++ check_text self.old (line_of self.old.order.scan head.now) }
+            ≡ pending.old.items ++ check_machine.text self.old head.now }
         ensures length { array_vec_len pending.new ≤ array_vec_len pending.old + STEP_MAX }
     {
         let line = self.order.scan.line(head);
-        self.pass(line, pending);
+        let cut = self.cut_value(head, &line);
+        self.push_text(&line, &cut, pending);
+        self.pass(line, &cut);
     }
 
-    /// Reports and counts a line.
-    fn pass(&mut self, line: LineKind, pending: &mut Pending)
-        requires room { array_vec_len pending.old + STEP_MAX ≤ PENDING_MAX }
-        ensures after { self.new ≡ check_after self.old line }
-        ensures pushed { pending.new.items ≡ pending.old.items ++ check_text self.old line }
-        ensures length { array_vec_len pending.new ≤ array_vec_len pending.old + STEP_MAX }
+    /// Counts a line, of which this value is to be compared although its digits are bad.
+    fn pass(&mut self, line: LineKind, cut: &Option<Found>)
+        ensures after { self.new ≡ check_after self.old line cut.now }
     {
-        self.push_line(&line, pending);
-        if self.compares() {
-            self.gaps = self.gaps_after(&line);
-            self.order.pass(line);
-        } else {
+        if !self.compares() {
             self.order.scan.pass(line);
+            return;
+        }
+        match cut {
+            Some(found) => {
+                self.gaps = self.gaps_after(cut);
+                self.order.pass_cut(line, found);
+            }
+            None => {
+                self.gaps = self.gaps_after(&line.found());
+                self.order.pass(line);
+            }
         }
     }
 }

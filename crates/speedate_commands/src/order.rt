@@ -5,13 +5,16 @@ ghost use Rattle.arrayvec.specs.ArrayVec.{array_vec_len};
 ghost use Rattle.speedate_commands.specs.Order.{apart_text, distance_text, gap_text};
 ghost use Rattle.speedate_stream.specs.Watch.{one_more};
 ghost use Rattle.speedate_commands.specs.Order.{is_before, is_late, late_text, latest_of, order_after};
-ghost use Rattle.speedate_commands.specs.Order.{value_after};
+ghost use Rattle.speedate_commands.specs.Order.{order_after_cut, value_after};
 
 use crate::nanosecond::push_duration_between;
 use speedate_scan::print::push_line_place;
 use speedate_scan::reading::Found;
 use speedate_scan::scan::{LineKind, Scan};
-use speedate_stream::{PENDING_MAX, Pending, STEP_MAX, push_bytes};
+use speedate_stream::{PENDING_MAX, Pending, push_bytes};
+
+/// How many bytes the report of a value by the one before takes at most.
+pub const APART_MAX: usize = 8286;
 
 /// A value, and where it stands.
 #[derive(Clone, Copy)]
@@ -102,6 +105,19 @@ impl<'a> Order<'a> {
         self.scan.pass(line);
     }
 
+    /// Compares this value of a line with the one before, and counts the line as what it is, although it is bad: the value
+    /// settles which values fit, as a good one does.
+    pub fn pass_cut(&mut self, line: LineKind, found: &Found)
+        ensures passed { self.new ≡ order_after_cut self.old line found.now }
+    {
+        let value = Latest::new(&self.scan, found);
+        let offsets = self.scan.offsets.settled(found);
+        self.late = self.late_with(self.is_before(found.instant));
+        self.latest = Some(value);
+        self.scan.pass(line);
+        self.scan.offsets = offsets;
+    }
+
     /// The same for a line with this value, by what was found of it.
     #[inline(always)]
     pub fn pass_value(&mut self, value: &Latest<'a>, found: &Found)
@@ -123,10 +139,10 @@ pub fn push_late(
     latest: &Latest<'_>,
     pending: &mut Pending,
 )
-    requires room { array_vec_len pending.old + STEP_MAX ≤ PENDING_MAX }
+    requires room { array_vec_len pending.old + APART_MAX ≤ PENDING_MAX }
     ensures pushed { pending.new.items
         ≡ pending.old.items ++ late_text name.now number instant latest.now }
-    ensures length { array_vec_len pending.new ≤ array_vec_len pending.old + STEP_MAX }
+    ensures length { array_vec_len pending.new ≤ array_vec_len pending.old + APART_MAX }
 {
     let instants = (instant, latest.instant);
     push_apart(name, number, instants, b" before ", latest, pending);
@@ -135,10 +151,10 @@ pub fn push_late(
 /// Appends where a value stands that comes after another, how long after it, and where that stands:
 /// `app.log:7: PT1H after app.log:6`, and a line feed.
 pub fn push_gap(name: &[u8], number: u64, instant: i128, latest: &Latest<'_>, pending: &mut Pending)
-    requires room { array_vec_len pending.old + STEP_MAX ≤ PENDING_MAX }
+    requires room { array_vec_len pending.old + APART_MAX ≤ PENDING_MAX }
     ensures pushed { pending.new.items
         ≡ pending.old.items ++ gap_text name.now number instant latest.now }
-    ensures length { array_vec_len pending.new ≤ array_vec_len pending.old + STEP_MAX }
+    ensures length { array_vec_len pending.new ≤ array_vec_len pending.old + APART_MAX }
 {
     let instants = (latest.instant, instant);
     push_apart(name, number, instants, b" after ", latest, pending);
@@ -155,11 +171,11 @@ fn push_apart(
     latest: &Latest<'_>,
     pending: &mut Pending,
 )
-    requires room { array_vec_len pending.old + STEP_MAX ≤ PENDING_MAX }
+    requires room { array_vec_len pending.old + APART_MAX ≤ PENDING_MAX }
     requires short { length words.now ≤ 8 }
     ensures pushed { pending.new.items ≡ pending.old.items
         ++ apart_text name.now number (distance_text instants.0 instants.1 words.now) latest.now }
-    ensures length { array_vec_len pending.new ≤ array_vec_len pending.old + STEP_MAX }
+    ensures length { array_vec_len pending.new ≤ array_vec_len pending.old + APART_MAX }
 {
     push_line_place(name, number, pending);
     push_distance(instants.0, instants.1, words, pending);

@@ -11,12 +11,13 @@ use Rattle.std.proofs.lemmas.List.{drop-drop}
 use Rattle.speedate.specs.Requirement.{result_and_then, shifted}
 use Rattle.speedate.specs.Time.{Clock, TimeOfDay, clock_front, clock_with_offset, has_minus_sign}
 use Rattle.speedate.specs.Time.{is_plus_or_minus, is_utc, offset_front, signed_front}
-use Rattle.speedate.specs.Ascii.{capital_z, hyphen}
+use Rattle.speedate.specs.Ascii.{capital_p, hyphen}
 use Rattle.speedate_base.specs.declared.refusal.Refused.{Refused}
-use Rattle.speedate_scan.specs.Reading.{relaxed_front, with_late_zone, zoned}
+use Rattle.speedate_scan.specs.Reading.{relaxed_front, with_late_zone, with_zone, zoned}
 use Rattle.speedate_base.proofs.RefusalLemmas.{seen-read}
-use Rattle.speedate_scan.specs.Zone.{begins_with, capital_g, capital_u, late_zone, may_begin_zone}
-use Rattle.speedate_scan.specs.Zone.{no_zone, signed_zone, utc_zone, zone_after_blank, zone_front}
+use Rattle.speedate_scan.specs.Zone.{begins_with, capital_a, capital_g, capital_u, is_half_day}
+use Rattle.speedate_scan.specs.Zone.{late_zone, may_begin_zone, no_zone, or_half_day, signed_zone}
+use Rattle.speedate_scan.specs.Zone.{small_a, small_p, utc_zone, zone_after_blank, zone_front}
 
 -- an offset that the library reads after a sign is the zone there
 signed_read : (start sign : ℕ) (west : Bool) (numbers : List ℕ) (zone : Option ℤ × ℕ)
@@ -36,14 +37,14 @@ signed_some from sign west numbers zone read =
     (seen-read (shifted from placed) (signed_front west sign numbers) zone read)
 
 -- the zone of a line by the offset that the library reads
-abbrev late : List ℕ → Option ℤ × ℕ → Option ℤ × ℕ
-late rest zone = if is_some zone.0 then zone else late_zone rest
+abbrev or_other : Option ℤ × ℕ → Option (Option ℤ × ℕ) → Option (Option ℤ × ℕ)
+or_other zone other = if is_some zone.0 then Some zone else other
 
 -- an offset is the zone, and where there is none the zone is the late one
-chosen : (zone other : Option ℤ × ℕ) (answer : Result (Option ℤ × ℕ) Refused)
-    → answer ≡ Ok zone → is_some zone.0 ≡ true
-    → answer ≡ Ok (if is_some zone.0 then zone else other)
-chosen zone other answer read some = read ∙ rw some refl
+chosen : (start : ℕ) (zone : Option ℤ × ℕ) (other : Option (Option ℤ × ℕ))
+    (answer : Result (Option ℤ × ℕ) Refused) → answer ≡ Ok zone → is_some zone.0 ≡ true
+    → answer ≡ or_half_day start (or_other zone other)
+chosen start zone other answer read some = read ∙ rw some refl
 
 abbrev read_as : {A : Type 0} → A → Result A Refused
 read_as value = Ok value
@@ -54,40 +55,42 @@ none = None
 value_of : {A : Type 0} (one other : A) → read_as one ≡ Ok other → one ≡ other
 value_of one other same = cc
 
-by_sign : (plus utc minus : Bool)
+by_sign : (start : ℕ) (plus utc minus : Bool)
     (after after_minus there there_minus : Result (Option ℤ × ℕ) Refused)
-    (other zone : Option ℤ × ℕ)
-    → (after ≡ Ok zone → there ≡ Ok (if is_some zone.0 then zone else other))
-    → (after_minus ≡ Ok zone → there_minus ≡ Ok (if is_some zone.0 then zone else other))
+    (other : Option (Option ℤ × ℕ)) (zone : Option ℤ × ℕ)
+    → (after ≡ Ok zone → there ≡ or_half_day start (or_other zone other))
+    → (after_minus ≡ Ok zone → there_minus ≡ or_half_day start (or_other zone other))
     → (if plus then after else if utc then Ok (Some (pos 0), 1)
     else if minus then after_minus else Ok (None, 0)) ≡ Ok zone
     → (if plus then there else if utc then Ok (utc_zone 1)
-    else if minus then there_minus else Ok other)
-    ≡ Ok (if is_some zone.0 then zone else other)
-by_sign true utc minus after after_minus there there_minus other zone one two read = one read
-by_sign false true minus after after_minus there there_minus other zone one two read =
+    else if minus then there_minus else or_half_day start other)
+    ≡ or_half_day start (or_other zone other)
+by_sign start true utc minus after after_minus there there_minus other zone one two read = one read
+by_sign start false true minus after after_minus there there_minus other zone one two read =
     rw (← value_of (Some (pos 0), 1) zone read) refl
-by_sign false false true after after_minus there there_minus other zone one two read = two read
-by_sign false false false after after_minus there there_minus other zone one two read =
+by_sign start false false true after after_minus there there_minus other zone one two read =
+    two read
+by_sign start false false false after after_minus there there_minus other zone one two read =
     rw (← value_of (None, 0) zone read) refl
 
-signed_chosen : (start from sign : ℕ) (west : Bool) (numbers : List ℕ) (zone other : Option ℤ × ℕ)
+signed_chosen : (at start from sign : ℕ) (west : Bool) (numbers : List ℕ) (zone : Option ℤ × ℕ)
+    (other : Option (Option ℤ × ℕ))
     → from_byte from (signed_front west sign numbers) ≡ Ok zone
-    → signed_zone start west sign numbers ≡ Ok (if is_some zone.0 then zone else other)
-signed_chosen start from sign west numbers zone other read =
+    → signed_zone start west sign numbers ≡ or_half_day at (or_other zone other)
+signed_chosen at start from sign west numbers zone other read =
     let front = seen-read (shifted from placed) (signed_front west sign numbers) zone read in
-    chosen zone other (signed_zone start west sign numbers)
+    chosen at zone other (signed_zone start west sign numbers)
     (signed_read start sign west numbers zone front) (signed_some from sign west numbers zone read)
 
-offset_read : (start : ℕ) (rest : List ℕ) (zone : Option ℤ × ℕ)
-    → offset_front rest ≡ Ok zone → zone_front start rest ≡ Ok (late rest zone)
+offset_read : (start : ℕ) (rest : List ℕ) (zone : Option ℤ × ℕ) → offset_front rest ≡ Ok zone
+    → zone_front start rest ≡ or_half_day start (or_other zone (late_zone rest))
 unfolding zone_front
 offset_read start rest zone read =
-    by_sign (is_plus_or_minus (slice_index rest 0)) (is_utc (slice_index rest 0))
+    by_sign start (is_plus_or_minus (slice_index rest 0)) (is_utc (slice_index rest 0))
     (has_minus_sign rest) _ _ _ _ (late_zone rest) zone
-    (signed_chosen (start + 1) 1 1 (slice_index rest 0 == hyphen) (drop 1 rest) zone
+    (signed_chosen start (start + 1) 1 1 (slice_index rest 0 == hyphen) (drop 1 rest) zone
     (late_zone rest))
-    (signed_chosen (start + 3) 3 3 true (drop 3 rest) zone (late_zone rest)) read
+    (signed_chosen start (start + 3) 3 3 true (drop 3 rest) zone (late_zone rest)) read
 
 no_some : (size : ℕ) → is_some none ≡ true → size ≡ 0
 no_some size some = cc
@@ -129,31 +132,56 @@ zoned_at text front =
     result_and_then (λ (zone : Option ℤ × ℕ). Ok (zoned front.0 front.1 zone))
     (zone_front (11 + front.1.size) (drop (11 + front.1.size) text))
 
+abbrev zoned_by : Ymd → Clock → Result (Option ℤ × ℕ) Refused → Result (DateAndTime × ℕ) Refused
+zoned_by date clock zone =
+    result_and_then (λ (zone : Option ℤ × ℕ). Ok (zoned date clock zone)) zone
+
+abbrev found_as : DateAndTime × ℕ → Option (DateAndTime × ℕ)
+found_as front = Some front
+
+same_found : (one other : DateAndTime × ℕ) → found_as one ≡ found_as other → one ≡ other
+same_found one other same = cc
+
+zoned_after : (start : ℕ) (date : Ymd) (clock : Clock) (other : Option (Option ℤ × ℕ))
+    (found : DateAndTime × ℕ)
+    → with_zone (record { date = date; time = clock_with_offset clock None }, 11 + clock.size) other
+    ≡ Some found
+    → zoned_by date clock (or_half_day start other) ≡ Ok found
+zoned_after start date clock (Some zone) found is = ap Ok (same_found _ found is)
+zoned_after start date clock None found is = cc
+
 zoned_late : (text : List ℕ) (date : Ymd) (clock : Clock) (zone : Option ℤ × ℕ)
+    (found : DateAndTime × ℕ)
     → offset_front (drop (11 + clock.size) text) ≡ Ok zone
-    → zoned date clock (late (drop (11 + clock.size) text) zone)
-    ≡ with_late_zone text
+    → with_late_zone text
     (record { date = date; time = clock_with_offset clock zone.0 }, 11 + (clock.size + zone.1))
-zoned_late text date clock (Some offset, size) read =
-    ap (λ (n : ℕ). (record { date = date; time = clock_with_offset clock (Some offset) }, n))
-    (omega arith)
-zoned_late text date clock (None, size) read =
+    ≡ Some found
+    → zoned_by date clock
+    (or_half_day (11 + clock.size) (or_other zone (late_zone (drop (11 + clock.size) text))))
+    ≡ Ok found
+zoned_late text date clock (Some offset, size) found read is =
+    let sum : (11 + clock.size) + size ≡ 11 + (clock.size + size) = omega arith in
+    let time = clock_with_offset clock (Some offset) in
+    ap (λ (n : ℕ). read_as (record { date = date; time = time }, n)) sum
+    ∙ ap Ok (same_found _ found is)
+zoned_late text date clock (None, size) found read is =
     let none : size ≡ 0 = offset_none (drop (11 + clock.size) text) size read in
     let after : 11 + (clock.size + size) ≡ 11 + clock.size = omega (arith, none) in
-    rw after refl
+    zoned_after (11 + clock.size) date clock (late_zone (drop (11 + clock.size) text)) found
+    (rw after at is)
 
-after_clock : (text : List ℕ) (date : Ymd) (clock : Clock) (front : DateAndTime × ℕ)
+after_clock : (text : List ℕ) (date : Ymd) (clock : Clock) (front found : DateAndTime × ℕ)
     (offset : Result (Option ℤ × ℕ) Refused)
     → offset_front (drop (11 + clock.size) text) ≡ offset
     → result_and_then (dated date)
     (from_byte 11 (result_and_then (timed clock) (from_byte clock.size offset))) ≡ Ok front
-    → zoned_at text (date, clock) ≡ Ok (with_late_zone text front)
-after_clock text date clock front (Ok zone) there read =
+    → with_late_zone text front ≡ Some found
+    → zoned_at text (date, clock) ≡ Ok found
+after_clock text date clock front found (Ok zone) there read is =
     let zone_is = offset_read (11 + clock.size) (drop (11 + clock.size) text) zone there in
-    let whole = zoned_late text date clock zone there in
     let same = value_of _ _ read in
-    rw zone_is (ap Ok whole ∙ ap (λ (f : DateAndTime × ℕ). Ok (with_late_zone text f)) same)
-after_clock text date clock front (Err refused) there read = cc
+    rw zone_is (zoned_late text date clock zone found there (rw (← same) at is))
+after_clock text date clock front found (Err refused) there read is = cc
 
 -- The chain of both, over plain answers.
 
@@ -181,24 +209,26 @@ line_chain text at_date separated at_clock =
     at_date)
 
 chained : (text : List ℕ) (at_date : Result (Ymd × ℕ) Refused) (separated : Bool)
-    (at_clock : Result Clock Refused) (front : DateAndTime × ℕ)
+    (at_clock : Result Clock Refused) (front found : DateAndTime × ℕ)
     → library_chain text at_date separated at_clock ≡ Ok front
-    → line_chain text at_date separated at_clock ≡ Ok (with_late_zone text front)
-chained text (Ok date) true (Ok clock) front read =
-    after_clock text date.0 clock front _ refl (rw drop-drop at read)
-chained text (Ok date) true (Err refused) front read = cc
-chained text (Ok date) false at_clock front read = cc
-chained text (Err refused) separated at_clock front read = cc
+    → with_late_zone text front ≡ Some found
+    → line_chain text at_date separated at_clock ≡ Ok found
+chained text (Ok date) true (Ok clock) front found read is =
+    after_clock text date.0 clock front found _ refl (rw drop-drop at read) is
+chained text (Ok date) true (Err refused) front found read is = cc
+chained text (Ok date) false at_clock front found read is = cc
+chained text (Err refused) separated at_clock front found read is = cc
 
 -- a date-time that the library reads at the front of a text is the one of a line, but for a zone
 -- after a blank
-pub library_is_zoned : (behavior : Behavior) (text : List ℕ) (front : DateAndTime × ℕ)
+pub library_is_zoned : (behavior : Behavior) (text : List ℕ) (front found : DateAndTime × ℕ)
     → date_time_front behavior text ≡ Ok front
-    → relaxed_front behavior text ≡ Ok (with_late_zone text front)
+    → with_late_zone text front ≡ Some found
+    → relaxed_front behavior text ≡ Ok found
 unfolding relaxed_front
-library_is_zoned behavior text front read =
+library_is_zoned behavior text front found read is =
     chained text (date_front text) (is_separator (slice_index text 10))
-    (clock_front behavior (drop 11 text)) front read
+    (clock_front behavior (drop 11 text)) front found read is
 
 -- no text begins with a word whose first byte is another
 other_word : (byte first : ℕ) (bytes word : List ℕ) → (byte == first) ≡ false
@@ -207,17 +237,26 @@ other_word byte first bytes word other =
     let turned : (first == byte) ≡ false = grind (arith, nat_tests) in
     rw turned refl
 
--- no zone comes after a blank if its first byte does not
+-- no zone and no half of the day comes after a blank if its first byte does not
 pub no_zone_begins : (text : List ℕ) → may_begin_zone (slice_index text 0) ≡ false
-    → zone_after_blank text ≡ no_zone
-unfolding zone_after_blank
+    → zone_after_blank text ≡ Some no_zone
+unfolding zone_after_blank is_half_day
 no_zone_begins [] other = refl
 no_zone_begins (byte ∷ bytes) other =
     let signs = is_plus_or_minus byte in
-    let with_z = or_parts (signs || (byte == capital_g) || (byte == capital_u)) (byte == capital_z)
-    other in
-    let with_u = or_parts (signs || (byte == capital_g)) (byte == capital_u) with_z.0 in
-    let with_g = or_parts signs (byte == capital_g) with_u.0 in
+    let is : ℕ → Bool = λ first. byte == first in
+    let to_pm = signs || is capital_g || is capital_u || is capital_a || is capital_p in
+    let with_p = or_parts (to_pm || is small_a) (is small_p) other in
+    let with_a = or_parts to_pm (is small_a) with_p.0 in
+    let with_P = or_parts (signs || is capital_g || is capital_u || is capital_a) (is capital_p)
+    with_a.0 in
+    let with_A = or_parts (signs || is capital_g || is capital_u) (is capital_a) with_P.0 in
+    let with_u = or_parts (signs || is capital_g) (is capital_u) with_A.0 in
+    let with_g = or_parts signs (is capital_g) with_u.0 in
     let utc = other_word byte capital_u bytes (drop 1 (codes "UTC")) with_u.1 in
     let gmt = other_word byte capital_g bytes (drop 1 (codes "GMT")) with_g.1 in
-    rw (utc, gmt, with_z.1, with_g.0) refl
+    let first_half = other_word byte capital_a bytes (drop 1 (codes "AM")) with_A.1 in
+    let second_half = other_word byte capital_p bytes (drop 1 (codes "PM")) with_P.1 in
+    let first_small = other_word byte small_a bytes (drop 1 (codes "am")) with_a.1 in
+    let second_small = other_word byte small_p bytes (drop 1 (codes "pm")) with_p.1 in
+    rw (first_half, second_half, first_small, second_small, utc, gmt, with_g.0) refl

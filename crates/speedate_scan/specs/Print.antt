@@ -46,6 +46,7 @@ expected_by Why.Within kind = codes "a value within the first 4,080 bytes"
 expected_by Why.End kind = codes "the end of the value"
 expected_by (Why.Undated form) kind = expected_of form kind
 expected_by Why.Clock kind = codes "a time, as in 2026-11-22T06:10, or --kind date"
+expected_by Why.HalfDay kind = codes "a clock of 24 hours, without AM or PM"
 expected_by Why.NoOffset kind = codes "no offset"
 expected_by Why.NoYearsOrMonths kind = codes "a duration without years and months"
 expected_by Why.NoClock kind = codes "no clock after days with a minus"

@@ -22,7 +22,7 @@ use Rattle.speedate_stream.specs.Machine.{longest_line}
 use Rattle.speedate_scan.specs.Field.{Field, goes_on, mark_length, nth_field}
 use Rattle.speedate_scan.specs.Fraction.{value_past_microsecond}
 use Rattle.speedate_scan.specs.Timestamp.{fewest_digits, has_number, number_length, whole_digits}
-use Rattle.speedate_scan.specs.Zone.{begins_with, is_boundary, late_zone, zone_front}
+use Rattle.speedate_scan.specs.Zone.{begins_with, is_boundary, is_half_day, late_zone, zone_front}
 pub use Rattle.speedate_scan.specs.declared.claim.Wanted.{Wanted}
 pub use Rattle.speedate_scan.specs.declared.reading.Place.{Place}
 pub use Rattle.speedate_scan.specs.declared.form.Form.{Form}
@@ -55,13 +55,18 @@ relaxed_front behavior text = do
   zone ← zone_front (11 + front.1.size) (drop (11 + front.1.size) text)
   Ok (zoned front.0 front.1 zone)
 
+-- a date-time without an offset at the front of a text, with the zone that comes after its clock
+abbrev pub with_zone : DateAndTime × ℕ → Option (Option ℤ × ℕ) → Option (DateAndTime × ℕ)
+with_zone front None = None
+with_zone (value, size) (Some zone) =
+    Some (record value { time = record value.time { offset = zone.0 } }, size + zone.1)
+
 -- a date-time that the library read at the front of a text, with the zone that may come after a
--- blank
-abbrev pub with_late_zone : List ℕ → DateAndTime × ℕ → DateAndTime × ℕ
+-- blank, or nothing if the half of the day does
+abbrev pub with_late_zone : List ℕ → DateAndTime × ℕ → Option (DateAndTime × ℕ)
 with_late_zone text (value, size) =
-    if is_some value.time.offset then (value, size)
-    else let zone = late_zone (drop size text) in
-    (record value { time = record value.time { offset = zone.0 } }, size + zone.1)
+    if is_some value.time.offset then Some (value, size)
+    else with_zone (value, size) (late_zone (drop size text))
 
 -- the date-time that the library reads at the front of a text, and how many bytes it takes
 unfoldable pub library_front : Behavior → List ℕ → Result (DateAndTime × ℕ) Refused
@@ -267,11 +272,20 @@ lacks_clock Form.Strict text place = false
 lacks_clock Form.Date text place = false
 lacks_clock (Form.Timestamp unit) text place = false
 
+-- a text was refused at the half of the day, after a clock of twelve hours
+abbrev pub has_half_day : Form → List ℕ → ℕ → Bool
+has_half_day Form.DateTime text place = is_half_day (drop place text)
+has_half_day Form.Strict text place = false
+has_half_day Form.Date text place = false
+has_half_day (Form.Timestamp unit) text place = false
+
 -- what is bad about a text that was refused and begins at a byte of a line
 abbrev pub refused_at : Form → List ℕ → Refused → ℕ → Bad
 refused_at form text refused from =
     if lacks_clock form text refused.place
     then record { place = from + 10; why = Why.Clock }
+    else if has_half_day form text refused.place
+    then record { place = from + refused.place; why = Why.HalfDay }
     else record { place = from + refused.place; why = Why.Parse refused.fault }
 
 -- what was parsed at a byte of a line; on a longer line it may not reach too far

@@ -152,6 +152,7 @@ is_dated (Why.Parse fault) = true
 is_dated Why.Within = true
 is_dated Why.End = true
 is_dated Why.Clock = true
+is_dated Why.HalfDay = true
 is_dated Why.NoOffset = true
 is_dated Why.NoYearsOrMonths = true
 is_dated Why.NoClock = true
@@ -235,6 +236,15 @@ is_value (LineKind.Bad bad) = false
 is_value LineKind.Undated = false
 is_value LineKind.Late = false
 is_value LineKind.Unfit = false
+
+-- the value of a line
+abbrev pub found_in : LineKind → Option Found
+found_in (LineKind.Value found) = Some found
+found_in LineKind.Header = None
+found_in (LineKind.Bad bad) = None
+found_in LineKind.Undated = None
+found_in LineKind.Late = None
+found_in LineKind.Unfit = None
 
 -- a line is counted: it came before the run ended
 abbrev pub is_counted : LineKind → Bool

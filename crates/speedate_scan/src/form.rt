@@ -1,7 +1,7 @@
 //! What values are, and how a text is parsed as one.
 
 ghost use Rattle.std.specs.Prelude.{◌≡◌, ◌+◌, ◌≤◌, ℕ, Err, IfErr, IfOk, IfSome, List, Ok, Result, length, true};
-ghost use Rattle.std.specs.Option.{ForSome};
+ghost use Rattle.std.specs.Option.{ForSome, option_map};
 ghost use Rattle.speedate_base.specs.Offset.{IsOffset};
 ghost use Rattle.speedate_civil.specs.Time.{clock_parts, clock_with_offset, end_fault};
 ghost use Rattle.speedate.specs.Base.{Behavior, IsoOrder};
@@ -135,24 +135,30 @@ fn usual_front(text: &[u8]) -> Option<(DateTime, usize)>
     ensures within { IfSome result (λ front. front.1 ≤ length text.now) }
 {
     match full_front(text) {
-        Some((value, size)) => Some(with_late_zone(value, size, text)),
+        Some((value, size)) => match with_late_zone(value, size, text) {
+            Some(front) => Some(front),
+            None => None,
+        },
         None => None,
     }
 }
 
 /// A date-time that the library read at the front of a text, and how many bytes it takes, with the zone that may
-/// come after a blank.
+/// come after a blank. `None` if the half of the day does.
 #[inline(always)]
-fn with_late_zone(value: DateTime, size: usize, text: &[u8]) -> (DateTime, usize)
+fn with_late_zone(value: DateTime, size: usize, text: &[u8]) -> Option<(DateTime, usize)>
     requires size { size ≤ length text.now }
-    ensures front { with_size date_and_time result
+    ensures front { option_map (with_size date_and_time) result
         ≡ with_late_zone text.now (date_and_time value, size) }
-    ensures within { result.1 ≤ length text.now }
+    ensures within { IfSome result (λ front. front.1 ≤ length text.now) }
 {
     if value.time.tz_offset.is_some() {
-        return (value, size);
+        return Some((value, size));
     }
-    let (offset, more) = late_zone(&text[size..]);
+    let (offset, more) = match late_zone(&text[size..]) {
+        Some((offset, more)) => (offset, more),
+        None => return None,
+    };
     let time = Time {
         hour: value.time.hour,
         minute: value.time.minute,
@@ -161,7 +167,7 @@ fn with_late_zone(value: DateTime, size: usize, text: &[u8]) -> (DateTime, usize
         tz_offset: offset,
     };
     let date = value.date;
-    (DateTime { date, time }, size + more)
+    Some((DateTime { date, time }, size + more))
 }
 
 /// A date, a separator and a clock at the front of a text.
@@ -218,7 +224,10 @@ fn accepted_front(
     ensures within { IfSome result (λ front. front.1 ≤ length text.now) }
 {
     match DateTime::parse_front(text, &relaxed(behavior)) {
-        Ok((value, size)) => Some(with_late_zone(value, size, text)),
+        Ok((value, size)) => match with_late_zone(value, size, text) {
+            Some(front) => Some(front),
+            None => None,
+        },
         Err(_) => None,
     }
 }

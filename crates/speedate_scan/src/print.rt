@@ -118,6 +118,7 @@ impl Why {
             Why::Undated(Form::Timestamp(_)) => "a Unix timestamp, as --kind says",
             Why::Undated(_) => ParseError::TooShort.expected(kind),
             Why::Clock => "a time, as in 2026-11-22T06:10, or --kind date",
+            Why::HalfDay => "a clock of 24 hours, without AM or PM",
             Why::NoOffset => "no offset",
             Why::NoYearsOrMonths => "a duration without years and months",
             Why::NoClock => "no clock after days with a minus",

@@ -8,7 +8,7 @@ ghost use Rattle.speedate.specs.DateTime.{date_and_time};
 ghost use Rattle.speedate_scan.specs.Field.{IsFieldWithin};
 ghost use Rattle.speedate_scan.specs.Reading.{IsParsed, IsReadWithin};
 ghost use Rattle.speedate_scan.specs.Reading.{IsWithoutValue, alone, assumed, can_end, fields_of};
-ghost use Rattle.speedate_scan.specs.Reading.{found_at, found_from, front_of, instant_of};
+ghost use Rattle.speedate_scan.specs.Reading.{found_at, found_from, front_of, has_half_day, instant_of};
 ghost use Rattle.speedate_scan.specs.Reading.{is_cut, is_longer, is_without_clock, lacks_clock};
 ghost use Rattle.speedate_scan.specs.Reading.{not_within, read, read_claim, read_field};
 ghost use Rattle.speedate_scan.specs.Reading.{read_whole, refused_at, seen, undated_field, value_at};
@@ -20,7 +20,7 @@ use crate::field::{Field, NthField, first_bytes};
 use crate::form::Form;
 use crate::fraction::value_past_microsecond;
 use crate::glance::Glance;
-use crate::zone::is_boundary;
+use crate::zone::{is_boundary, is_half_day};
 use speedate::{DateTime, MicrosecondsPrecisionOverflowBehavior, ParseError, Refused, Time};
 use speedate_base::config::require_offset;
 use speedate_base::numbers::byte_at;
@@ -61,6 +61,8 @@ pub enum Why {
     End,
     /// A clock after the date, unless values are dates.
     Clock,
+    /// A clock of 24 hours: `AM` or `PM` comes after this one.
+    HalfDay,
     /// A value of this form.
     Undated(Form),
     /// A value without an offset.
@@ -131,6 +133,14 @@ fn is_without_clock(rest: &[u8]) -> bool
         && (matches!(byte_at(rest, 0), b'T' | b't') || is_boundary(rest))
 }
 
+/// Whether a text was refused at the half of the day, after a clock of twelve hours.
+fn has_half_day(form: Form, text: &[u8], place: usize) -> bool
+    requires within { place ≤ length text.now }
+    ensures half { result ≡ has_half_day form text.now place }
+{
+    matches!(form, Form::DateTime) && is_half_day(&text[place..])
+}
+
 /// What is bad about a text that was refused and begins at a byte of a line. Where no clock follows a date, the
 /// error lies after the date.
 fn refused_at(form: Form, text: &[u8], refused: Refused, from: usize) -> Bad
@@ -144,9 +154,14 @@ fn refused_at(form: Form, text: &[u8], refused: Refused, from: usize) -> Bad
             why: Why::Clock,
         };
     }
+    let why = if has_half_day(form, text, refused.place) {
+        Why::HalfDay
+    } else {
+        Why::Parse(refused.fault)
+    };
     Bad {
         place: from + refused.place,
-        why: Why::Parse(refused.fault),
+        why,
     }
 }
 

@@ -8,7 +8,7 @@ ghost use Rattle.speedate_stream.specs.Watch.{one_more};
 ghost use Rattle.speedate_scan.specs.Reading.{Found, IsReadWithin, IsWithin};
 ghost use Rattle.speedate_scan.specs.Reading.{value_of};
 ghost use Rattle.speedate_scan.specs.Scan.{IsFoundWithin, IsLineParsed, has_offsets, is_counted, keeps};
-ghost use Rattle.speedate_scan.specs.Scan.{Offsets, counted, fits, is_stopped, is_value};
+ghost use Rattle.speedate_scan.specs.Scan.{Offsets, counted, fits, found_in, is_stopped, is_value};
 ghost use Rattle.speedate_scan.specs.Scan.{before_entry, begun, headers, is_dated, is_found, is_without_value};
 ghost use Rattle.speedate_scan.specs.Scan.{judged, line_of, lines_before, valued};
 ghost use Rattle.speedate_scan.specs.Scan.{is_clock_byte, noted, offset_place, passed, settled, unfit};
@@ -188,9 +188,17 @@ impl LineKind {
     {
         matches!(self, LineKind::Value(_))
     }
-}
 
-impl LineKind {
+    /// The value of the line, if it has one that fits.
+    pub fn found(&self) -> Option<Found>
+        ensures found { result ≡ found_in self.now }
+    {
+        match self {
+            LineKind::Value(found) => Some(*found),
+            _ => None,
+        }
+    }
+
     /// Whether the line came before the run ended.
     pub fn is_counted(&self) -> bool
         ensures counted { result ≡ is_counted self.now }
@@ -212,7 +220,7 @@ impl Offsets {
     }
 
     /// Which values fit after one that fits.
-    fn settled(self, found: &Found) -> Self
+    pub fn settled(self, found: &Found) -> Self
         ensures settled { result ≡ settled self found.now }
     {
         match self {

@@ -5,8 +5,10 @@ ghost use Rattle.std.specs.Option.{ForSome};
 ghost use Rattle.speedate_base.specs.Digits.{two_digit_value, two_digits_at};
 ghost use Rattle.speedate_base.specs.Offset.{IsOffset};
 ghost use Rattle.speedate_civil.specs.Time.{has_minus_sign, is_plus_or_minus, is_utc};
-ghost use Rattle.speedate_scan.specs.Zone.{apart, has_utc_name, is_boundary, joins};
-ghost use Rattle.speedate_scan.specs.Zone.{late_zone, minute_zone, signed_zone, zone_after_blank};
+ghost use Rattle.speedate_civil.specs.Time.{offset_minute_place};
+ghost use Rattle.speedate_scan.specs.Zone.{apart, has_half_name, has_utc_name, is_boundary, joins};
+ghost use Rattle.speedate_scan.specs.Zone.{hour_and_minute, is_half_day, is_in_use, late_zone};
+ghost use Rattle.speedate_scan.specs.Zone.{minute_zone, signed_zone, zone_after_blank, zone_in_use};
 ghost use Rattle.speedate_scan.specs.Zone.{has_minute, hour_zone, may_begin_zone, zone_front};
 
 use speedate::{ParseError, Refused};
@@ -45,7 +47,10 @@ fn is_boundary_byte(first: u8, rest: &[u8]) -> bool
     if first.is_ascii_alphanumeric() {
         return false;
     }
-    !joins(first) || !byte_at(rest, 1).is_ascii_digit()
+    if joins(first) {
+        return !byte_at(rest, 1).is_ascii_digit();
+    }
+    !has_minus_sign(rest, 0) || !byte_at(rest, 3).is_ascii_digit()
 }
 
 /// The number of the two digits at a place of a text, if there are two.
@@ -119,29 +124,70 @@ fn has_utc_name(text: &[u8]) -> bool
     text.starts_with(b"UTC") || text.starts_with(b"GMT")
 }
 
-/// The zone of a text that begins with its sign, if it is `HH:MM` or `HHMM` and an offset.
-#[tactic(auto, unfolding(crate::specs::Zone::minute_zone))]
+/// Whether an offset of so many hours and minutes is in use somewhere.
+fn is_in_use(hour: u8, minute: u8) -> bool
+    ensures used { result ≡ is_in_use hour minute }
+    ensures hour { IsTrue result → hour ≤ 14 }
+    ensures minute { IsTrue result → minute ≤ 45 }
+{
+    hour <= 14 && matches!(minute, 0 | 15 | 30 | 45)
+}
+
+/// The zone of an hour, and of a minute at a place after the sign, if they are in use.
+fn zone_in_use(hour: u8, minute: u8, place: usize, west: bool) -> (Option<i32>, usize)
+    requires short { place ≤ 3 }
+    ensures zone { result ≡ zone_in_use west place (Some (hour, minute)) }
+    ensures range { ForSome result.0 IsOffset }
+    ensures size { IfSome result.0 (λ offset. result.1 ≡ 3 + place) }
+{
+    if !is_in_use(hour, minute) {
+        return (None, 0);
+    }
+    let size = 3600 * u32::from(hour) + 60 * u32::from(minute);
+    (Some(with_sign(west, size)), 3 + place)
+}
+
+/// The zone of a text that begins with its sign, if it is `HH:MM` or `HHMM` and an offset in use.
 fn minute_zone(text: &[u8], west: bool) -> (Option<i32>, usize)
     requires sign { 1 ≤ length text.now }
     ensures zone { result ≡ minute_zone west (drop 1 text.now) }
     ensures range { ForSome result.0 IsOffset }
     ensures size { IfSome result.0 (λ offset. result.1 ≤ length text.now) }
 {
-    if !has_minute(&text[1..]) {
-        return (None, 0);
+    match hour_and_minute(&text[1..]) {
+        Some((hour, minute)) => zone_in_use(hour, minute, minute_place(&text[1..]), west),
+        None => (None, 0),
     }
-    match signed_zone(text, west, 1, 0) {
-        Ok(zone) => zone,
-        Err(_) => (None, 0),
-    }
+}
+
+/// The place of the minute in a text that begins with `HH:MM` or `HHMM`.
+fn minute_place(numbers: &[u8]) -> usize
+    ensures place { result ≡ offset_minute_place numbers.now }
+    ensures short { result ≤ 3 }
+{
+    if byte_at(numbers, 2) == b':' { 3 } else { 2 }
+}
+
+/// The hour and the minute of a text that begins with `HH:MM` or `HHMM`.
+fn hour_and_minute(numbers: &[u8]) -> Option<(u8, u8)>
+    ensures numbers { result ≡ hour_and_minute numbers.now }
+    ensures small { IfSome result (λ both. both.0 ≤ 99) }
+    ensures there { IfSome result (λ both. offset_minute_place numbers.now + 2 ≤ length numbers.now) }
+{
+    let Some(hour) = digits_at(numbers, 0) else {
+        return None;
+    };
+    let Some(minute) = digits_at(numbers, minute_place(numbers)) else {
+        return None;
+    };
+    Some((hour, minute))
 }
 
 /// Whether a text begins with `HH:MM` or `HHMM`.
 fn has_minute(numbers: &[u8]) -> bool
     ensures minute { result ≡ has_minute numbers.now }
 {
-    let place = if byte_at(numbers, 2) == b':' { 3 } else { 2 };
-    digits_at(numbers, 0).is_some() && digits_at(numbers, place).is_some()
+    hour_and_minute(numbers).is_some()
 }
 
 /// The zone at the front of what follows a blank, whatever comes after it.
@@ -154,65 +200,86 @@ fn apart(text: &[u8]) -> (Option<i32>, usize)
         return (Some(0), 3);
     }
     let first = byte_at(text, 0);
-    if first == b'Z' {
-        return (Some(0), 1);
-    }
     if is_plus_or_minus(first) {
         return minute_zone(text, first == b'-');
     }
     (None, 0)
 }
 
-/// Whether a zone may begin with a byte that follows a blank.
+/// Whether the half of the day stands before a text: true for `b"PM"` and `b"am [1]"`, false for `b"PM2"`.
+#[tactic(auto, unfolding(crate::specs::Zone::is_half_day))]
+pub fn is_half_day(text: &[u8]) -> bool
+    ensures half { result ≡ is_half_day text.now }
+{
+    has_half_name(text) && is_boundary(&text[2..])
+}
+
+/// Whether a text begins with the name of a half of the day.
+fn has_half_name(text: &[u8]) -> bool
+    ensures name { result ≡ has_half_name text.now }
+    ensures there { IsTrue result → 2 ≤ length text.now }
+{
+    text.starts_with(b"AM")
+        || text.starts_with(b"PM")
+        || text.starts_with(b"am")
+        || text.starts_with(b"pm")
+}
+
+/// Whether a zone, or a half of the day, may begin with a byte that follows a blank.
 #[inline(always)]
 fn may_begin_zone(byte: u8) -> bool
     ensures begins { result ≡ may_begin_zone byte }
 {
-    matches!(byte, b'+' | b'-' | b'G' | b'U' | b'Z')
+    matches!(byte, b'+' | b'-' | b'A' | b'G' | b'P' | b'U' | b'a' | b'p')
 }
 
 /// The zone after a blank, by what follows it, and how many bytes it takes with the blank: 3,600, and six bytes,
-/// for `b"+0100 GET"`, none for `b"+0100a"` and `b"-5 items"`.
+/// for `b"+0100 GET"`, none for `b"+0100a"`, `b"-5 items"` and `b"-1234 items"`. `None` if the half of the day follows.
 #[inline(always)]
-fn zone_after_blank(text: &[u8]) -> (Option<i32>, usize)
+fn zone_after_blank(text: &[u8]) -> Option<(Option<i32>, usize)>
     ensures zone { result ≡ zone_after_blank text.now }
-    ensures range { ForSome result.0 IsOffset }
-    ensures size { result.1 ≤ 1 + length text.now }
+    ensures range { IfSome result (λ zone. ForSome zone.0 IsOffset) }
+    ensures size { IfSome result (λ zone. zone.1 ≤ 1 + length text.now) }
 {
     // Most values are followed by a blank and a word.
     if may_begin_zone(byte_at(text, 0)) {
         begun_zone(text)
     } else {
-        (None, 0)
+        Some((None, 0))
     }
 }
 
 /// The same, for a text that may begin with one.
 #[inline(never)]
 #[tactic(auto, unfolding(crate::specs::Zone::zone_after_blank))]
-fn begun_zone(text: &[u8]) -> (Option<i32>, usize)
+fn begun_zone(text: &[u8]) -> Option<(Option<i32>, usize)>
     ensures zone { result ≡ zone_after_blank text.now }
-    ensures range { ForSome result.0 IsOffset }
-    ensures size { result.1 ≤ 1 + length text.now }
+    ensures range { IfSome result (λ zone. ForSome zone.0 IsOffset) }
+    ensures size { IfSome result (λ zone. zone.1 ≤ 1 + length text.now) }
 {
+    if is_half_day(text) {
+        return None;
+    }
     let (offset, size) = apart(text);
     if offset.is_some() && is_boundary(&text[size..]) {
-        (offset, 1 + size)
+        Some((offset, 1 + size))
     } else {
-        (None, 0)
+        Some((None, 0))
     }
 }
 
-/// The zone of a clock that no offset follows, by the bytes after it, and how many bytes it takes.
+/// The zone of a clock that no offset follows, by the bytes after it, and how many bytes it takes. `None` if the half of
+/// the day follows after a blank.
 #[inline(always)]
 #[tactic(auto, unfolding(crate::specs::Zone::late_zone))]
-pub fn late_zone(rest: &[u8]) -> (Option<i32>, usize)
+pub fn late_zone(rest: &[u8]) -> Option<(Option<i32>, usize)>
     ensures zone { result ≡ late_zone rest.now }
-    ensures range { ForSome result.0 IsOffset }
-    ensures size { result.1 ≤ length rest.now }
+    ensures range { IfSome result (λ zone. ForSome zone.0 IsOffset) }
+    ensures size { IfSome result (λ zone. zone.1 ≤ length rest.now) }
+    ensures there { result ≡ None → 1 ≤ length rest.now }
 {
     if byte_at(rest, 0) != b' ' {
-        return (None, 0);
+        return Some((None, 0));
     }
     zone_after_blank(&rest[1..])
 }
@@ -237,5 +304,11 @@ pub fn zone_front(rest: &[u8], start: usize) -> Result<(Option<i32>, usize), Ref
     if has_minus_sign(rest, 0) {
         return signed_zone(rest, true, 3, start);
     }
-    Ok(late_zone(rest))
+    match late_zone(rest) {
+        Some((offset, size)) => Ok((offset, size)),
+        None => Err(Refused {
+            fault: ParseError::ExtraCharacters,
+            place: start + 1,
+        }),
+    }
 }

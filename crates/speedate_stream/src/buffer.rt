@@ -7,7 +7,7 @@ ghost use Rattle.speedate_stream.specs.declared.buffer.TheConstants.{PENDING_MAX
 use std::marker::Model;
 
 /// How many bytes a machine may print for a line, besides the line itself.
-pub const STEP_MAX: usize = 8448;
+pub const STEP_MAX: usize = 16_640;
 
 /// How many bytes there is room for: 65,499 that are gathered before they are written, and what a
 /// machine prints for one more line.
