@@ -475,10 +475,11 @@ async function readAll() {
       document.body.append(frame);
     });
   const without = [await shownIn("without.html", () => {}), await shownIn("page.html", (it) => it.setAttribute("sandbox", "allow-same-origin"))];
-  // The page itself can ask for nothing, whatever its scripts do.
+  // With its policy the page answers, and can ask for nothing, whatever its scripts do.
   const policy = await new Promise((resolve) => {
     const frame = Object.assign(document.createElement("iframe"), { src: "page.html" });
-    frame.onload = () => frame.contentWindow.fetch("asked").then(() => "asked", () => "refused").then(resolve);
+    const said = () => frame.contentDocument.querySelector(".said")?.textContent;
+    frame.onload = () => frame.contentWindow.fetch("asked").then(() => "asked", () => "refused").then((it) => resolve([said(), it]));
     document.body.append(frame);
   });
   document.body.insertAdjacentHTML("beforeend", "<input required><output></output><input><output></output>");
@@ -565,7 +566,7 @@ for (const { url, referer } of server.asked)
   assert.ok(!/secret|favicon/.test(url) && !/secret/.test(referer ?? ""), `${url} from ${referer}`);
 assert.deepEqual(all.drawn, { ...readDrawn(), wrong: [] });
 assert.deepEqual(all.without, WITHOUT);
-assert.equal(all.policy, "refused");
+assert.deepEqual(all.policy, ["Saturday, 29 February 2020", "refused"]);
 assert.deepEqual(all.form, FORM);
 assert.equal(all.handedOver, "PT1H30M");
 for (const [i, width] of [320, 360, 1280].entries()) {
