@@ -202,13 +202,13 @@ prove() {
 # them. If one of them is missing, rt itself would look through the sources of all of them before it proves any. A library
 # starts beside the one before it once all that it uses is built, if there are processors and memory for both.
 over_libraries() {
-    built=' ' beside=' ' groups=
-    copies=$(mktemp -d) || fail 'there is no folder for temporary files'
+    built=' ' beside=' ' groups= copies=
+    find_kit
     at_end 'for it in $groups; do kill -TERM "-$it"; done 2>/dev/null; rm -rf "$copies"'
     for it in $libraries; do
         count_jobs
         for other in $libraries; do
-            [ $jobs -lt 4 ] || [ "$other" = "$it" ] || ! is_ready "$other" || build_beside "$other"
+            [ $jobs -lt 4 ] || [ "$other" = "$it" ] || ! is_ready "$other" || ! is_shared || build_beside "$other"
         done
         (cd "../$it" && rt lib) || return
         built="$built$it "
@@ -225,10 +225,14 @@ is_ready() {
     done
 }
 
+# Whether rt takes here what it has built in a copy. Otherwise the copy would only build all again.
+is_shared() { [ -w "${kit%/*}/rattle-kept/work" ]; }
+
 # build_beside CRATE: starts to build a library in a copy, because only one rt at a time can work in a crate and in those
 # below it. rt takes there what it has built here, and here it waits for what it builds there.
 build_beside() {
     beside="$beside$1 "
+    [ -n "$copies" ] || copies=$(mktemp -d) || fail 'there is no folder for temporary files'
     echo "rt: chose a copy for $1"
     setsid sh -c 'mkdir "$2" && cd "$1" && tar cf - --exclude=out crates crates.txt HANDLES | tar xf - -C "$2" &&
         cd "$2/crates/$3" && exec rt lib --jobs 2' '' "$root" "$copies/$1" "$1" >/dev/null 2>&1 </dev/null &
