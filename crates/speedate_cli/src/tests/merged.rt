@@ -7,7 +7,7 @@ use crate::commands::first_merge;
 use crate::program::program;
 use speedate_scan::scan::{Offsets, Scan};
 use speedate_sort::merge::{Halt, Halted, Reporter, Source as FileSource, merge};
-use speedate_sort::sort::Unread;
+use speedate_sort::sort::{Keys, Unread};
 use speedate_stream::{Failed, Watched};
 use std::alloc::AllocError;
 use std::io::{BufReader, Read};
@@ -59,20 +59,36 @@ fn merged<R: AllocGlobal + Abort, I: Read + Drop>(
     let matches = matches.ok().expect(rt, "merge");
     let (_, given) = matches.subcommand().expect(rt, "merge");
     let keys = first_merge(given).ok().expect(rt, "merge");
+    Ok(merged_with(rt, keys, first, second, sink))
+}
+
+/// A merge of two readers.
+fn merged_with<R: AllocGlobal + Abort, I: Read + Drop>(
+    rt: &R,
+    keys: Keys<'_>,
+    first: I,
+    second: I,
+    sink: Sink,
+) -> Ended {
     let first = BufReader::new(rt.alloc(), first).ok().expect(rt, "merge");
     let second = BufReader::new(rt.alloc(), second).ok().expect(rt, "merge");
-    let mut sources = Vec::new(rt.alloc());
-    sources.push(FileSource::new(keys, first, rt.alloc()))?;
-    sources.push(FileSource::new(keys, second, rt.alloc()))?;
+    let mut first = FileSource::new(keys, first, rt.alloc());
+    let mut second = FileSource::new(keys, second, rt.alloc());
     let mut offsets = Offsets::AsFirst;
-    for index in 0..sources.len() {
-        let next = sources[index].next(&mut offsets, &mut Silent);
-        assert!(rt; next.is_ok());
-    }
+    let mut silent = Silent;
+    let next = first.next(&mut offsets, &mut silent);
+    assert!(rt; next.is_ok());
+    let next = second.next(&mut offsets, &mut silent);
+    assert!(rt; next.is_ok());
+    let mut sources = Vec::new(rt.alloc());
+    sources.push(first).ok().expect(rt, "merge");
+    sources.push(second).ok().expect(rt, "merge");
     let mut output = Watched::new(sink);
-    let halted = merge(&mut sources, offsets, &mut output, &mut Silent);
-    let taken = output.into_inner().taken;
-    Ok(Ended { halted, taken })
+    let halted = merge(&mut sources, offsets, &mut output, &mut silent);
+    Ended {
+        halted,
+        taken: output.into_inner().taken,
+    }
 }
 
 #[test]
