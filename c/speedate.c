@@ -90,10 +90,10 @@ COLUMN(duration, int64_t, form == SPEEDATE_TEXT ? SPEEDATE_TEXT : -1, )
 OFFSET_COLUMN(time)
 OFFSET_COLUMN(datetime)
 
-int speedate_datetime_front_column(const char *text, size_t size, const SpeedateConfig *config, unsigned flags,
-                                   SpeedateDateTimeFront *out, uint8_t *errors, size_t room,
+int speedate_datetime_front_column(const char *text, size_t size, int form, const SpeedateConfig *config,
+                                   unsigned flags, SpeedateDateTimeFront *out, uint8_t *errors, size_t room,
                                    SpeedateProgress *progress) {
-    return speedate_datetime_front_lines(text, size, chosen(config), column_of(SPEEDATE_TEXT, flags), OUTPUTS);
+    return speedate_datetime_front_lines(text, size, chosen(config), column_of(form, flags), OUTPUTS);
 }
 
 const char *speedate_code_string(int code) {

@@ -326,15 +326,20 @@ typedef struct SpeedateDuration {
 /* RFC 3339 and nothing else. It also refuses a second 60. For dates, where it is the same as SPEEDATE_TEXT, times and
  * date-times. */
 #define SPEEDATE_STRICT 2
-/* The text begins with a value, and part->end says where that ends. What follows is up to you: a date-time whose offset
- * comes after a space, "2026-11-01 08:00:00 -0500", is read without an offset, and ends at 19. It is never a timestamp.
- * For dates, times and date-times. */
-#define SPEEDATE_FRONT 3
+/* The same as SPEEDATE_TEXT, but the offset may also be a zone as programs print it: "+01", or after one space "UTC",
+ * "GMT", "+01:00" or "+0100", as in "2026-11-01 08:00:00 -0500". For date-times. */
+#define SPEEDATE_LOOSE 3
+/* The text begins with a value, and part->end says where that ends. What follows is up to you: "2026-11-01 08:00:00
+ * -0500" is read without an offset, and ends at 19. It is never a timestamp. For dates, times and date-times. */
+#define SPEEDATE_FRONT 4
+/* The text begins with a date-time as SPEEDATE_LOOSE reads it, and part->end says where that ends: a line of a log. A
+ * letter or a digit after the date-time is refused. For date-times. */
+#define SPEEDATE_LOOSE_FRONT 5
 
 /* Each parser writes the value to *out, and to *part, which may be NULL:
  *
  * - if the text is refused, the part for which it is, which a form underlines: bytes 5 to 7 of "2020-13-01";
- * - if it is accepted, 0 and the size of the value, which with SPEEDATE_FRONT is where it ends;
+ * - if it is accepted, 0 and the size of the value, which with SPEEDATE_FRONT and SPEEDATE_LOOSE_FRONT is where it ends;
  * - for SPEEDATE_CONFIG_OUT_OF_RANGE SPEEDATE_PART_NONE.
  *
  *     SpeedateDate date;
@@ -505,7 +510,7 @@ typedef struct SpeedateProgress {
  * `errors` is NULL, or has `room` places too. Then the code of each text goes to its place there, 0 if it is accepted,
  * and the column goes on as with SPEEDATE_GO_ON.
  *
- * `form` is SPEEDATE_TEXT, _OR_TIMESTAMP or _STRICT, where a parser of the type has it. */
+ * `form` is SPEEDATE_TEXT, _OR_TIMESTAMP, _STRICT or _LOOSE, where a parser of the type has it. */
 
 /* 1 and -1 from "1970-01-02\n1969-12-31\n". */
 SPEEDATE_NODISCARD int speedate_date_column(const char *text, size_t size, const int32_t *offsets, int form,
@@ -534,11 +539,12 @@ typedef struct SpeedateDateTimeFront {
     size_t size;          /* how many bytes of the line it takes; 0 if the line is refused */
 } SpeedateDateTimeFront;
 
-/* The date-times at the front of lines, as SPEEDATE_FRONT reads them: 1000000 and 20 from "1970-01-01T00:00:01Z GET
- * /\n". */
-SPEEDATE_NODISCARD int speedate_datetime_front_column(const char *text, size_t size, const SpeedateConfig *config,
-                                                      unsigned flags, SpeedateDateTimeFront *out, uint8_t *errors,
-                                                      size_t room, SpeedateProgress *progress);
+/* The date-times at the front of lines: 1000000 and 20 from "1970-01-01T00:00:01Z GET /\n". With
+ * SPEEDATE_TEXT they are read as by SPEEDATE_FRONT, and with SPEEDATE_LOOSE as by SPEEDATE_LOOSE_FRONT. */
+SPEEDATE_NODISCARD int speedate_datetime_front_column(const char *text, size_t size, int form,
+                                                      const SpeedateConfig *config, unsigned flags,
+                                                      SpeedateDateTimeFront *out, uint8_t *errors, size_t room,
+                                                      SpeedateProgress *progress);
 
 /* Offsets in seconds: 0 and 3600 from "1970-01-01T00:00:01Z\n1970-01-01T01:00+01:00\n". A date-time without an offset
  * is refused with SPEEDATE_TZ_REQUIRED, whatever the flags. A timestamp has the offset of the configuration. */

@@ -165,7 +165,9 @@ enum class Form {
     Text = SPEEDATE_TEXT,
     OrTimestamp = SPEEDATE_OR_TIMESTAMP,
     Strict = SPEEDATE_STRICT,
-    Front = SPEEDATE_FRONT
+    Loose = SPEEDATE_LOOSE,
+    Front = SPEEDATE_FRONT,
+    LooseFront = SPEEDATE_LOOSE_FRONT
 };
 
 /* How many digits of a second to_text prints, rounded down: with Auto six, or none if they are 0. */
@@ -688,13 +690,13 @@ template <class Number> class Column {
     Call call_;
 };
 
-/* Columns of lines have no other texts, and that of fronts has no other form. */
+/* Columns of lines have no other texts. */
 inline int front_column(const char *text, std::size_t size, const std::int32_t *offsets, int form,
                         const SpeedateConfig *config, unsigned flags, SpeedateDateTimeFront *out, std::uint8_t *errors,
                         std::size_t room, SpeedateProgress *progress) {
-    if (offsets || form != SPEEDATE_TEXT)
+    if (offsets)
         return SPEEDATE_CONFIG_OUT_OF_RANGE;
-    return speedate_datetime_front_column(text, size, config, flags, out, errors, room, progress);
+    return speedate_datetime_front_column(text, size, form, config, flags, out, errors, room, progress);
 }
 
 template <auto Call>

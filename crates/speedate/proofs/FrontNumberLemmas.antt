@@ -8,7 +8,8 @@ use Rattle.speedate_base.specs.Requirement.{fault_alone, first_fault_or, or_numb
 use Rattle.speedate_base.specs.Requirement.{result_and_then, result_map}
 use Rattle.speedate_base.specs.Refused.{first_refused_or, without_place}
 use Rattle.speedate_base.proofs.RefusalLemmas.{first_refusal_or-chain, refusal-all, refusal-ok}
-use Rattle.speedate_base.proofs.RefusalLemmas.{seen-table, seen_number}
+use Rattle.speedate_base.proofs.RefusalLemmas.{seen-read, seen-table, seen_number}
+use Rattle.speedate_civil.proofs.LooseLemmas.{text_loosens}
 use Rattle.speedate_civil.specs.Calendar.{Ymd, days_between}
 use Rattle.speedate_civil.specs.Date.{date_answer}
 use Rattle.speedate_civil.specs.DateTime.{DateAndTime, IsUtcFront, date_time_answer}
@@ -77,6 +78,9 @@ date_time_of_line-read (DateTimeParser.Strict behavior) line value read taken =
     strict_faults behavior line
     ∙ ap (result_and_then (λ found. first_fault_or table (Ok found))) read
     ∙ refusal-all fault_alone table (Ok value) rows
+date_time_of_line-read (DateTimeParser.Loose behavior) line value read taken =
+    ap without_place (text_loosens behavior line value
+    (seen-read fault_alone (date_time_answer behavior line) value read))
 
 -- if the parser does not take it, the line is refused for that
 pub date_time_of_line-untaken : (parser : DateTimeParser) (line : List ℕ) (value : DateAndTime)
@@ -92,6 +96,8 @@ date_time_of_line-untaken (DateTimeParser.Strict behavior) line value fault read
     ∙ ap (result_and_then (λ found. first_fault_or table (Ok found))) read
     ∙ first_refusal_or-chain fault_alone table tt (Ok value)
     ∙ ap (λ met. result_and met (Ok value)) untaken
+date_time_of_line-untaken (DateTimeParser.Loose behavior) line value fault read untaken =
+    absurd (cc)
 
 -- it is counted, if it has an offset or needs none
 pub IsFront-utc : (reader : DateTimeReader) (text : List ℕ) (front : ℤ × ℕ)

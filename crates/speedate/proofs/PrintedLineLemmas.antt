@@ -18,6 +18,7 @@ use Rattle.speedate_civil.specs.Time.{IsTime, TimeOfDay, microsecond_of_day, tim
 use Rattle.speedate_civil.specs.Time.{timestamp_answer}
 use Rattle.speedate_civil.proofs.DateLemmas.{date_text-reads}
 use Rattle.speedate_civil.proofs.DateTimeLemmas.{date_time_text-front, date_time_text-reads}
+use Rattle.speedate_civil.specs.Loose.{loose_value}
 use Rattle.speedate_civil.proofs.NoControlLemmas.{date_time_front-no_control}
 use Rattle.speedate_civil.proofs.TimeLemmas.{nothing-after, time_text-reads}
 use Rattle.speedate.specs.declared.column.date_time.DateTimeParser.{DateTimeParser}
@@ -85,6 +86,7 @@ relaxed-taken parser line relaxed = search rules
 
 no_date_time : (parser : DateTimeParser) → IsRelaxed parser
     → without_place (date_time_of_line parser []) ≡ Err ParseError.TooShort
+unfolding loose_value
 no_date_time parser relaxed = search rules
 
 -- the date-time of a line that shows a number, or none

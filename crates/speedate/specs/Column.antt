@@ -1,5 +1,5 @@
 -- Columns: the lines of a text as numbers.
-use Rattle.std.specs.Prelude.{◌≡◌, ◌≢◌, ℕ, ◌-◌, ◌^◌, ◌<◌, ◌≤◌, Bool, false, ◌||◌, List, [], ◌∷◌, length, slice_index, take, drop, nat_lt, Option, Some, None, is_some, Result, Ok, Err, ℤ, pos, unsigned_abs, if◌then◌else◌}
+use Rattle.std.specs.Prelude.{◌≡◌, ◌≢◌, ℕ, ◌-◌, ◌^◌, ◌<◌, ◌≤◌, Bool, true, false, ◌||◌, List, [], ◌∷◌, length, slice_index, take, drop, nat_lt, Option, Some, None, is_some, Result, Ok, Err, ℤ, pos, unsigned_abs, if◌then◌else◌}
 use Rattle.std.specs.Option.{unwrap_or}
 use Rattle.speedate_civil.specs.Base.{Behavior, ParseError}
 use Rattle.speedate_base.specs.Ascii.{carriage_return}
@@ -14,6 +14,7 @@ use Rattle.speedate_civil.specs.Date.{date_answer, date_or_timestamp}
 use Rattle.speedate_civil.specs.DateTime.{DateAndTime, date_time_answer, date_time_by_config}
 use Rattle.speedate_civil.specs.DateTime.{date_time_front, local_microsecond, utc_microsecond}
 use Rattle.speedate_civil.specs.Form.{size_or_place}
+use Rattle.speedate_civil.specs.Loose.{loose_answer, loose_front}
 use Rattle.speedate_civil.specs.Strict.{strict_date_time, strict_date_time_answer}
 use Rattle.speedate_civil.specs.Strict.{strict_time_answer}
 use Rattle.speedate_civil.specs.Time.{TimeOfDay, microsecond_of_day, time_answer}
@@ -159,12 +160,14 @@ abbrev pub text_behavior : DateTimeParser → Behavior
 text_behavior (DateTimeParser.Text config) = (time_choices config).behavior
 text_behavior (DateTimeParser.OrTimestamp config) = (choices config).behavior
 text_behavior (DateTimeParser.Strict behavior) = behavior
+text_behavior (DateTimeParser.Loose behavior) = behavior
 
 -- whether a line that is a date-time is one for a parser, or the fault
 abbrev pub taken_answer : DateTimeParser → List ℕ → Result (Unit {0}) ParseError
 taken_answer (DateTimeParser.Text config) line = Ok tt
 taken_answer (DateTimeParser.OrTimestamp config) line = Ok tt
 taken_answer (DateTimeParser.Strict behavior) line = first_fault_or (strict_date_time line) (Ok tt)
+taken_answer (DateTimeParser.Loose behavior) line = Ok tt
 
 -- the date-time of a line, or the fault and its place
 abbrev pub date_time_of_line : DateTimeParser → List ℕ → Result DateAndTime Refused
@@ -172,6 +175,7 @@ date_time_of_line (DateTimeParser.Text config) line =
     date_time_answer (time_choices config).behavior line
 date_time_of_line (DateTimeParser.OrTimestamp config) line = date_time_by_config config line
 date_time_of_line (DateTimeParser.Strict behavior) line = strict_date_time_answer behavior line
+date_time_of_line (DateTimeParser.Loose behavior) line = loose_answer behavior line
 
 -- a date-time that has an offset, or that is taken to be in UTC without one
 abbrev pub with_offset : Bool → DateAndTime → Result DateAndTime ParseError
@@ -187,18 +191,25 @@ date_time_number reader line =
     (result_and_then (with_offset reader.assumes_utc)
     (without_place (date_time_of_line reader.parser line)))
 
--- the number of the date-time at the front of a line, whatever follows it: the microseconds since
--- 1970-01-01T00:00:00 in UTC, and how many bytes it takes
-abbrev pub front_number : Behavior → Bool → List ℕ → Result DateTimeFront LineError
-front_number behavior assumes_utc line = do
-  front ← as_number (λ front. front) (without_place (date_time_front behavior line))
+-- the number of the date-time at the front of a line: the microseconds since 1970-01-01T00:00:00 in
+-- UTC, and how many bytes it takes
+abbrev pub front_number : Bool → Result (DateAndTime × ℕ) Refused → Result DateTimeFront LineError
+front_number assumes_utc read = do
+  front ← as_number (λ front. front) (without_place read)
   microseconds ← as_number utc_microsecond (with_offset assumes_utc front.0)
   Ok (record { microseconds = microseconds; size = front.1 })
+
+-- the date-time at the front of a line, whatever follows it, or with a zone as programs print it,
+-- and how many bytes it takes, or the fault and its place
+abbrev pub front_of_line : Bool → Behavior → List ℕ → Result (DateAndTime × ℕ) Refused
+front_of_line true behavior line = loose_front behavior line
+front_of_line false behavior line = date_time_front behavior line
 
 -- the number of a line in a column of date-times at the front of lines
 abbrev pub date_time_front_number : DateTimeFrontReader → List ℕ → Result DateTimeFront LineError
 date_time_front_number reader line =
-    front_number (time_choices reader.config).behavior reader.assumes_utc line
+    front_number reader.assumes_utc
+    (front_of_line reader.is_loose (time_choices reader.config).behavior line)
 
 -- the reader of the same date-times as whole lines
 abbrev pub whole_reader : DateTimeFrontReader → DateTimeReader
@@ -276,11 +287,9 @@ date_time_place parser line =
 
 -- the place of a line in a column of date-times at the front of lines: the end of the date-time,
 -- if an offset is missing
-abbrev pub front_place : Behavior → List ℕ → ℕ
-front_place behavior line = size_or_place (date_time_front behavior line)
-
 abbrev pub date_time_front_place : DateTimeFrontReader → List ℕ → ℕ
-date_time_front_place reader line = front_place (time_choices reader.config).behavior line
+date_time_front_place reader line =
+    size_or_place (front_of_line reader.is_loose (time_choices reader.config).behavior line)
 
 -- the place of a line in a column of times: its end, if an offset is missing
 abbrev pub time_place : TimeParser → List ℕ → ℕ

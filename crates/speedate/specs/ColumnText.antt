@@ -135,6 +135,7 @@ abbrev pub IsRelaxed : DateTimeParser → Type 0
 IsRelaxed (DateTimeParser.Text config) = Unit {0}
 IsRelaxed (DateTimeParser.OrTimestamp config) = Unit {0}
 IsRelaxed (DateTimeParser.Strict behavior) = ⊥
+IsRelaxed (DateTimeParser.Loose behavior) = Unit {0}
 
 abbrev pub ReadsDates : (List ℕ → Result ℤ LineError) → ℤ → Type 0
 ReadsDates answer refused =

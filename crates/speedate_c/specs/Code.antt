@@ -49,8 +49,14 @@ or_timestamp_form = pos 1
 abbrev pub strict_form : ℤ
 strict_form = pos 2
 
+abbrev pub loose_form : ℤ
+loose_form = pos 3
+
 abbrev pub front_form : ℤ
-front_form = pos 3
+front_form = pos 4
+
+abbrev pub loose_front_form : ℤ
+loose_front_form = pos 5
 
 -- the code of a fault: its number
 abbrev pub fault_code : ParseError → ℤ

@@ -1,11 +1,13 @@
 -- Columns from outside: what their configuration says, which number a line has, and what a call
 -- leaves.
-use Rattle.std.specs.Prelude.{◌≡◌, ◌≢◌, ℕ, ◌≤◌, ◌++◌, ℤ, pos, Bool, false, List, [], ◌∷◌, length, min, drop, slice_get, Option, Some, None, Result, if◌then◌else◌}
+use Rattle.std.specs.Prelude.{◌≡◌, ◌≢◌, ℕ, ◌≤◌, ◌++◌, ℤ, pos, Bool, true, false, List, [], ◌∷◌, length, min, drop, slice_get, Option, Some, None, Result, if◌then◌else◌}
 use Rattle.std.specs.Option.{option_and_then, option_map, unwrap_or}
 use Rattle.speedate.specs.Base.{Behavior, CallKind, ParseError, TimestampUnit}
 use Rattle.speedate.specs.Config.{Choices}
 use Rattle.speedate.specs.DateTime.{DateAndTime, date_time_answer, date_time_or_timestamp}
 use Rattle.speedate.specs.DateTime.{local_microsecond, utc_microsecond}
+use Rattle.speedate.specs.Form.{size_or_place}
+use Rattle.speedate.specs.Loose.{loose_answer}
 use Rattle.speedate.specs.Strict.{strict_date_time_answer, strict_time_answer}
 use Rattle.speedate.specs.Time.{TimeOfDay, microsecond_of_day, time_answer}
 use Rattle.speedate.specs.declared.Refused.{Refused}
@@ -13,7 +15,7 @@ use Rattle.speedate.specs.Refused.{refused_place, without_place}
 use Rattle.speedate.specs.Requirement.{result_and_then}
 use Rattle.speedate.specs.Duration.{duration_answer}
 use Rattle.speedate.specs.Column.{as_number, date_number, date_place, date_time_front_number}
-use Rattle.speedate.specs.Column.{date_time_front_place, ended_part, front_number, front_place}
+use Rattle.speedate.specs.Column.{date_time_front_place, ended_part, front_number, front_of_line}
 use Rattle.speedate.specs.Column.{number_of_duration, offset_as_number, text_column, with_offset}
 use Rattle.speedate.specs.ColumnText.{column_text, least_of_64_bits}
 use Rattle.speedate.specs.declared.column.date.DateReader.{DateReader}
@@ -34,7 +36,7 @@ use Rattle.speedate_c.specs.declared.column.SpeedateProgress.{SpeedateProgress}
 
 -- the parsers in the order of their numbers, the default first
 abbrev pub parsers : List LineParser
-parsers = LineParser.Text ∷ LineParser.OrTimestamp ∷ LineParser.Strict ∷ []
+parsers = LineParser.Text ∷ LineParser.OrTimestamp ∷ LineParser.Strict ∷ LineParser.Loose ∷ []
 
 -- the flag for what the clocks of date-times show
 abbrev pub clock_flag : ℕ
@@ -76,6 +78,7 @@ date_time_by_parser LineParser.Text chosen line = date_time_answer chosen.behavi
 date_time_by_parser LineParser.OrTimestamp chosen line =
     date_time_or_timestamp chosen.unit chosen.behavior chosen.offset line
 date_time_by_parser LineParser.Strict chosen line = strict_date_time_answer chosen.behavior line
+date_time_by_parser LineParser.Loose chosen line = loose_answer chosen.behavior line
 
 -- the place of a line in a column of date-times: its end, if an offset is missing
 abbrev pub date_time_place_by : Choices → LineParser → List ℕ → ℕ
@@ -87,6 +90,7 @@ abbrev pub date_time_kind : LineParser → CallKind
 date_time_kind LineParser.Text = CallKind.DateTime
 date_time_kind LineParser.OrTimestamp = CallKind.DateTimeOrTimestamp
 date_time_kind LineParser.Strict = CallKind.DateTimeStrict
+date_time_kind LineParser.Loose = CallKind.DateTime
 
 -- a column that reads date-times as numbers
 abbrev pub date_time_call : (List ℕ → Result ℤ LineError) → Choices → LineParser → LineCall ℤ
@@ -115,18 +119,26 @@ date_time_offset_number_by chosen parser line =
     offset_as_number (λ value. value.time.offset)
     (without_place (date_time_by_parser parser chosen line))
 
--- a column of date-times at the front of lines, where the parser is one of these: it reads the
--- microseconds since 1970-01-01T00:00:00 in UTC, and how many bytes the date-time takes
-abbrev pub front_call_by : Behavior → Bool → LineParser → Option (LineCall DateTimeFront)
-front_call_by behavior assumes_utc LineParser.Text = Some (record {
-  answer = front_number behavior assumes_utc;
-  place = front_place behavior;
+-- a column of what is read at the front of lines: the microseconds since 1970-01-01T00:00:00 in
+-- UTC, and how many bytes the date-time takes
+abbrev pub front_call_of : Bool → (List ℕ → Result (DateAndTime × ℕ) Refused)
+    → LineCall DateTimeFront
+front_call_of assumes_utc read = record {
+  answer = λ line. front_number assumes_utc (read line);
+  place = λ line. size_or_place (read line);
   kind = CallKind.DateTime;
-})
+}
+
+-- the same for date-times, where the parser is one of these
+abbrev pub front_call_by : Behavior → Bool → LineParser → Option (LineCall DateTimeFront)
+front_call_by behavior assumes_utc LineParser.Text =
+    Some (front_call_of assumes_utc (front_of_line false behavior))
+front_call_by behavior assumes_utc LineParser.Loose =
+    Some (front_call_of assumes_utc (front_of_line true behavior))
 front_call_by behavior assumes_utc LineParser.OrTimestamp = None
 front_call_by behavior assumes_utc LineParser.Strict = None
 
--- the same for a reader
+-- for a reader
 abbrev pub front_call : DateTimeFrontReader → LineCall DateTimeFront
 front_call reader = record {
   answer = date_time_front_number reader;
@@ -143,12 +155,14 @@ abbrev pub time_by_parser : LineParser → Choices → Option (List ℕ → Resu
 time_by_parser LineParser.Text chosen = Some (time_answer chosen.behavior)
 time_by_parser LineParser.OrTimestamp chosen = None
 time_by_parser LineParser.Strict chosen = Some (strict_time_answer chosen.behavior)
+time_by_parser LineParser.Loose chosen = None
 
 -- the kind of calls that parse times as a parser does
 abbrev pub time_kind : LineParser → CallKind
 time_kind LineParser.Text = CallKind.Time
 time_kind LineParser.OrTimestamp = CallKind.Time
 time_kind LineParser.Strict = CallKind.TimeStrict
+time_kind LineParser.Loose = CallKind.Time
 
 -- a column that reads times as numbers, where the parser is one of times; the place of a line is
 -- its end, where an offset is missing
@@ -170,18 +184,21 @@ number_of_time time = as_number (λ time. pos (microsecond_of_day time)) time
 abbrev pub number_of_offset : Result TimeOfDay ParseError → Result ℤ LineError
 number_of_offset time = offset_as_number (λ time. time.offset) time
 
--- the reader of a column of dates: each text of a date is one of RFC 3339
-abbrev pub date_reader : TimestampUnit → LineParser → DateReader
-date_reader unit LineParser.Text = DateReader.Text
+-- the reader of a column of dates, if the parser is one of dates: each text of a date is one of RFC
+-- 3339
+abbrev pub date_reader : TimestampUnit → LineParser → Option DateReader
+date_reader unit LineParser.Text = Some DateReader.Text
 date_reader unit LineParser.OrTimestamp =
-    DateReader.OrTimestamp (record { timestamp_unit = unit })
-date_reader unit LineParser.Strict = DateReader.Text
+    Some (DateReader.OrTimestamp (record { timestamp_unit = unit }))
+date_reader unit LineParser.Strict = Some DateReader.Text
+date_reader unit LineParser.Loose = None
 
 -- the kind of calls that parse dates as a parser does
 abbrev pub date_kind : LineParser → CallKind
 date_kind LineParser.Text = CallKind.Date
 date_kind LineParser.OrTimestamp = CallKind.DateOrTimestamp
 date_kind LineParser.Strict = CallKind.Date
+date_kind LineParser.Loose = CallKind.Date
 
 -- a column of dates: it reads the days since 1970-01-01
 abbrev pub date_call : LineParser → DateReader → LineCall ℤ
@@ -252,7 +269,7 @@ abbrev pub chosen_for_dates : SpeedateConfig → SpeedateColumnConfig
     → Option (ColumnChoices × LineCall ℤ)
 chosen_for_dates =
     chosen_by (λ chosen column.
-    Some (date_call column.parser (date_reader chosen.unit column.parser)))
+    option_map (date_call column.parser) (date_reader chosen.unit column.parser))
 
 -- for a column of times
 abbrev pub chosen_for_times : SpeedateConfig → SpeedateColumnConfig

@@ -11,7 +11,8 @@ use Rattle.speedate.specs.Form.{date_time_by_form}
 use Rattle.speedate.specs.declared.DateTimeForm.{DateTimeForm}
 use Rattle.speedate.specs.Offset.{is_offset}
 use Rattle.speedate.specs.Requirement.{result_and_then, result_map}
-use Rattle.speedate_c.specs.Code.{front_form, or_timestamp_form, strict_form, text_form}
+use Rattle.speedate_c.specs.Code.{front_form, loose_form, loose_front_form, or_timestamp_form}
+use Rattle.speedate_c.specs.Code.{strict_form, text_form}
 use Rattle.speedate_c.specs.Date.{date_of, shown_date}
 use Rattle.speedate_c.specs.Time.{attached_offset, time_of, shown_time}
 use Rattle.speedate_c.specs.Written.{Reading, reading}
@@ -48,7 +49,9 @@ date_time_form form =
     then Some (DateTimeForm.OrTimestamp, CallKind.DateTimeOrTimestamp)
     else (if int_eq form strict_form then Some (DateTimeForm.Strict, CallKind.DateTimeStrict)
     else (if int_eq form front_form then Some (DateTimeForm.Front, CallKind.DateTime)
-    else None)))
+    else (if int_eq form loose_form then Some (DateTimeForm.Loose, CallKind.DateTime)
+    else (if int_eq form loose_front_form then Some (DateTimeForm.LooseFront, CallKind.DateTime)
+    else None)))))
 
 -- how it reads a text
 abbrev pub date_time_reading : ℤ → Choices → List ℕ → Option (Reading DateAndTime)

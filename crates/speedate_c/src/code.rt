@@ -39,8 +39,14 @@ pub(crate) const OR_TIMESTAMP: i32 = 1;
 /// RFC 3339 and nothing else,
 pub(crate) const STRICT: i32 = 2;
 
-/// and the value with which a text begins.
-pub(crate) const FRONT: i32 = 3;
+/// a value with a zone as programs print it,
+pub(crate) const LOOSE: i32 = 3;
+
+/// the value with which a text begins,
+pub(crate) const FRONT: i32 = 4;
+
+/// and such a value with a zone as programs print it.
+pub(crate) const LOOSE_FRONT: i32 = 5;
 
 /// A list of errors by their names.
 macro_rules! faults {

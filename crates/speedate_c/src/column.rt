@@ -30,7 +30,7 @@ pub struct SpeedateColumnConfig {
     /// Whether a carriage return at the end of a line is dropped: 1, or 0 if it stays.
     pub drops_returns: u8,
     /// Which dates, times and date-times a line may be: 0 for no timestamps, 1 for timestamps too,
-    /// 2 for only times and date-times of RFC 3339.
+    /// 2 for only times and date-times of RFC 3339, 3 for date-times with zones as programs print them.
     pub parser: u8,
     /// Whether a date-time without an offset is taken to be in UTC: 1, or 0 if it is refused. Only columns
     /// of instants use it.
@@ -64,6 +64,8 @@ enum LineParser {
     OrTimestamp,
     /// Only times and date-times of RFC 3339.
     Strict,
+    /// Date-times with zones as programs print them.
+    Loose,
 }
 
 /// What a configuration of columns chooses.
@@ -105,6 +107,7 @@ fn parser(number: u8) -> Option<LineParser>
         0 => Some(LineParser::Text),
         1 => Some(LineParser::OrTimestamp),
         2 => Some(LineParser::Strict),
+        3 => Some(LineParser::Loose),
         _ => None,
     }
 }

@@ -12,6 +12,7 @@ pub mod FrontLemmas
 mod FullClockLemmas
 pub mod InstantOrderLemmas
 pub mod NoControlLemmas
+pub mod LooseLemmas
 mod MomentLemmas
 mod NumberTextLemmas
 mod OffsetLemmas

@@ -9,6 +9,7 @@ use Rattle.speedate_civil.specs.Calendar.{Ymd}
 use Rattle.speedate_civil.specs.Date.{date_answer, date_front, date_or_timestamp}
 use Rattle.speedate_civil.specs.DateTime.{DateAndTime, date_time_answer, date_time_front}
 use Rattle.speedate_civil.specs.DateTime.{date_time_or_timestamp}
+use Rattle.speedate_civil.specs.Loose.{loose_answer, loose_front}
 use Rattle.speedate_civil.specs.Strict.{strict_date_time_answer, strict_time_answer}
 use Rattle.speedate_civil.specs.Time.{TimeOfDay, time_answer, time_front}
 pub use Rattle.speedate_civil.specs.declared.form.DateForm.{DateForm}
@@ -38,6 +39,9 @@ date_time_by_form DateTimeForm.OrTimestamp chosen text =
 date_time_by_form DateTimeForm.Strict chosen text =
     with_length text (strict_date_time_answer chosen.behavior text)
 date_time_by_form DateTimeForm.Front chosen text = date_time_front chosen.behavior text
+date_time_by_form DateTimeForm.Loose chosen text =
+    with_length text (loose_answer chosen.behavior text)
+date_time_by_form DateTimeForm.LooseFront chosen text = loose_front chosen.behavior text
 
 -- how many bytes the value of a text takes, or the place of the text's error
 abbrev pub size_or_place : {A : Type 0} → Result (A × ℕ) Refused → ℕ

@@ -6,4 +6,5 @@ pub mod DateTime
 pub mod Time
 pub mod ParserParts
 pub mod Strict
+pub mod Loose
 pub mod Form

@@ -2,6 +2,7 @@
 
 mod error_place;
 mod full_clock;
+mod loose;
 mod now;
 mod order;
 mod parse;
@@ -12,6 +13,9 @@ mod timezone;
 use crate::date::Date;
 use crate::time::Time;
 pub use full_clock::{full_front, utc_front};
+pub use loose::{
+    accepted_loose_value, loose_front, loose_value_by_parts, loose_whole, usual_loose_value,
+};
 pub use now::Moment;
 pub use parse::{has_separator, require_standard_date_time};
 pub use timestamp::timestamp_instant;

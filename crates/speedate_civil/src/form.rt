@@ -40,4 +40,9 @@ pub enum DateTimeForm {
     Strict,
     /// The text begins with a date-time, whatever follows it. It is never a timestamp.
     Front,
+    /// The whole text is a date-time with [a zone as programs print it](docs/GRAMMAR.md#zones-that-programs-print):
+    /// `2026-11-22 06:10:00 +0100`, `.. UTC`, `..+01`. No number is a timestamp.
+    Loose,
+    /// The text begins with such a date-time, as a line of a log does, and neither a letter nor a digit follows it.
+    LooseFront,
 }

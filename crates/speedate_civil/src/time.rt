@@ -13,6 +13,7 @@ mod pure;
 mod text;
 mod timestamp;
 mod timezone;
+mod zone;
 
 pub use digits::FractionDigits;
 pub(crate) use offset::{offset_or_utc, unsigned_offset};
@@ -20,6 +21,8 @@ pub use offset::{end_fault, has_minus_sign, is_plus_or_minus, signed_offset, wit
 pub use pure::PureTime;
 use speedate_base::faults::ParseError;
 pub(crate) use timezone::clock_shift;
+pub(crate) use zone::late_zone;
+pub use zone::{is_boundary, is_half_day, zone_front};
 
 /// A time of day, to the microsecond, with an offset from UTC or without one.
 ///

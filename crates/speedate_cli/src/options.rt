@@ -24,7 +24,7 @@ use speedate_scan::print::Prefix;
 use speedate_scan::reading::{Place, Reader, assume, instant_of};
 use speedate_scan::scan::{BadLines, Offsets, UndatedLines};
 use speedate_scan::timestamp::fewest_digits;
-use speedate_scan::zone::zone_front;
+use speedate_civil::time::zone_front;
 use std::fmt;
 
 /// What the command line asks for that every command has.

@@ -7,7 +7,7 @@ use speedate::line_end;
 use speedate_scan::form::Form;
 use speedate_scan::reading::{Reader, Reading};
 use speedate_scan::scan::Scan;
-use speedate_scan::zone::is_boundary;
+use speedate_civil::time::is_boundary;
 
 /// How many bytes of a file are looked at.
 pub const LOOKED_AT: usize = 4096;

@@ -1,6 +1,5 @@
 mod ReadingLemmas
 mod WordLemmas
-mod ZoneLemmas
 mod FieldLemmas
 mod FractionLemmas
 pub mod SeenLemmas

@@ -3,7 +3,8 @@ use Rattle.std.proofs.Common.{◌≡◌, ◌≢◌, ◌≤◌, ℕ, ◌+◌, ◌
 use Rattle.std.proofs.lemmas.Bool.Decides.{nat_tests}
 use Rattle.speedate_base.specs.Digits.{eight_at, fit_length}
 use Rattle.speedate.specs.Base.{Behavior}
-use Rattle.speedate.specs.DateTime.{DateAndTime, date_time_front}
+use Rattle.speedate.specs.DateTime.{DateAndTime}
+use Rattle.speedate.specs.Loose.{loose_value}
 use Rattle.speedate.specs.Refused.{placed}
 use Rattle.speedate.specs.Requirement.{fault_alone, first_fault_or}
 use Rattle.speedate.specs.Strict.{strict_date_time}
@@ -40,10 +41,10 @@ no_mark_begins (byte ∷ bytes) bracket mark =
     rw (no_mark, no_bracket) refl
 
 -- a text that begins with a date-time claims to be one
-pub date_time_claims : (behavior : Behavior) (text : List ℕ) (front : DateAndTime × ℕ)
-    → date_time_front behavior text ≡ Ok front → claims_date text ≡ true
-unfolding claims_date
-date_time_claims behavior text front read = search rules
+pub loose_claims : (behavior : Behavior) (text : List ℕ) (front : DateAndTime × ℕ)
+    → loose_value behavior text ≡ Ok front → claims_date text ≡ true
+unfolding claims_date loose_value
+loose_claims behavior text front read = search rules
 
 -- the date-time that the library reads at the front is that of RFC 3339, where its own text is one
 pub strict_is_front : (behavior : Behavior) (text : List ℕ) (front : DateAndTime × ℕ)

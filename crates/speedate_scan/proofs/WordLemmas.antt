@@ -10,7 +10,7 @@ use Rattle.std.proofs.lemmas.Grind.{get_or_after_one}
 use Rattle.std.proofs.lemmas.Simd.{bit_mask_l}
 use Rattle.std.proofs.lemmas.Nat.Bits.{bit_at_and, bit_at-trailing_zeros, bit_at-zero}
 use Rattle.speedate_scan.specs.Reading.{Wanted, begins_claim, claim_after, moved_place}
-use Rattle.speedate_scan.specs.Zone.{begins_with}
+use Rattle.speedate.specs.Loose.{begins_with}
 
 -- no place before a byte of a text is the word's, so that what is found is found from there on
 pub record IsSearchedUpTo (wanted : Wanted) (word text : List ℕ) (place : ℕ) : Type 0 where

@@ -14,7 +14,7 @@ use Rattle.speedate_scan.specs.Reading.{Bad, Place, Reader, Reading, Wanted, Why
 use Rattle.speedate_scan.specs.Reading.{claim_after, fields_of, is_cut, not_within, part}
 use Rattle.speedate_scan.specs.Reading.{undated_field, without_field}
 use Rattle.speedate_scan.specs.Scan.{LineKind, Scan, is_stopped, judged}
-use Rattle.speedate_scan.specs.Zone.{is_boundary}
+use Rattle.speedate.specs.Loose.{is_boundary}
 
 -- Years and months, whose lengths differ.
 

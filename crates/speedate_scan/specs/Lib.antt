@@ -1,5 +1,4 @@
 pub mod Timestamp
-pub mod Zone
 pub mod Fraction
 pub mod Field
 pub mod Reading

@@ -5,24 +5,24 @@ use Rattle.std.specs.Char.{is_ascii_digit}
 use Rattle.speedate.specs.Base.{Behavior, ParseError, TimestampUnit}
 use Rattle.speedate.specs.Ascii.{capital_p, capital_t, colon, hyphen, small_t}
 use Rattle.speedate.specs.Requirement.{result_map, with_size, ◌>>=◌}
-use Rattle.speedate.specs.Refused.{alone_or, first_refused_or, from_byte, placed}
+use Rattle.speedate.specs.Refused.{alone_or, placed}
 use Rattle.speedate_base.specs.Numbers.{sign_size}
 use Rattle.speedate_base.specs.declared.refusal.Refused.{Refused}
 use Rattle.speedate.specs.Calendar.{Ymd}
 use Rattle.speedate.specs.Date.{date_answer, date_front}
 use Rattle.speedate.specs.DateTime.{DateAndTime}
 use Rattle.speedate_civil.specs.declared.datetime.DateTime.{DateTime}
-use Rattle.speedate.specs.DateTime.{date_time_front, date_time_with_offset, separator_table}
+use Rattle.speedate.specs.DateTime.{date_time_front, date_time_with_offset}
 use Rattle.speedate.specs.DateTime.{date_time_or_timestamp}
 use Rattle.speedate.specs.DateTime.{utc_microsecond}
 use Rattle.speedate.specs.Lines.{without_return}
 use Rattle.speedate.specs.Strict.{strict_date_time_answer}
-use Rattle.speedate.specs.Time.{Clock, clock_front, clock_with_offset, end_fault, minute_time}
+use Rattle.speedate.specs.Loose.{begins_with, is_boundary, is_half_day, loose_answer, loose_value}
+use Rattle.speedate.specs.Time.{end_fault, minute_time}
 use Rattle.speedate_stream.specs.Machine.{longest_line}
 use Rattle.speedate_scan.specs.Field.{Field, goes_on, mark_length, nth_field}
 use Rattle.speedate_scan.specs.Fraction.{value_past_microsecond}
 use Rattle.speedate_scan.specs.Timestamp.{fewest_digits, has_number, number_length, whole_digits}
-use Rattle.speedate_scan.specs.Zone.{begins_with, is_boundary, is_half_day, late_zone, zone_front}
 pub use Rattle.speedate_scan.specs.declared.claim.Wanted.{Wanted}
 pub use Rattle.speedate_scan.specs.declared.reading.Place.{Place}
 pub use Rattle.speedate_scan.specs.declared.form.Form.{Form}
@@ -34,39 +34,6 @@ pub use Rattle.speedate_scan.specs.declared.reading.Reading.{Reading}
 pub use Rattle.speedate_scan.specs.declared.glance.Glance.{Glance}
 
 -- Values at the front of a text.
-
--- a date, a separator and a clock at the front of a text, as the library reads them
-abbrev pub date_and_clock : Behavior → List ℕ → Result (Ymd × Clock) Refused
-date_and_clock behavior text = do
-  date ← date_front text
-  clock ← first_refused_or (separator_table text)
-      (from_byte 11 (clock_front behavior (drop 11 text)))
-  Ok (date.0, clock)
-
--- the date-time of a date, a clock and the zone after it, and how many bytes it takes
-abbrev pub zoned : Ymd → Clock → Option ℤ × ℕ → DateAndTime × ℕ
-zoned date clock zone =
-    (record { date = date; time = clock_with_offset clock zone.0 }, (11 + clock.size) + zone.1)
-
--- the date-time at the front of a text: a date, a separator and a clock, and then the zone
-unfoldable pub relaxed_front : Behavior → List ℕ → Result (DateAndTime × ℕ) Refused
-relaxed_front behavior text = do
-  front ← date_and_clock behavior text
-  zone ← zone_front (11 + front.1.size) (drop (11 + front.1.size) text)
-  Ok (zoned front.0 front.1 zone)
-
--- a date-time without an offset at the front of a text, with the zone that comes after its clock
-abbrev pub with_zone : DateAndTime × ℕ → Option (Option ℤ × ℕ) → Option (DateAndTime × ℕ)
-with_zone front None = None
-with_zone (value, size) (Some zone) =
-    Some (record value { time = record value.time { offset = zone.0 } }, size + zone.1)
-
--- a date-time that the library read at the front of a text, with the zone that may come after a
--- blank, or nothing if the half of the day does
-abbrev pub with_late_zone : List ℕ → DateAndTime × ℕ → Option (DateAndTime × ℕ)
-with_late_zone text (value, size) =
-    if is_some value.time.offset then Some (value, size)
-    else with_zone (value, size) (late_zone (drop size text))
 
 -- the date-time that the library reads at the front of a text, and how many bytes it takes
 unfoldable pub library_front : Behavior → List ℕ → Result (DateAndTime × ℕ) Refused
@@ -119,7 +86,7 @@ timestamp_front unit behavior text = do
 
 -- the value at the front of a text, and how many bytes it takes
 abbrev pub front_of : Form → Behavior → List ℕ → Result (DateAndTime × ℕ) Refused
-front_of Form.DateTime behavior text = relaxed_front behavior text
+front_of Form.DateTime behavior text = loose_value behavior text
 front_of Form.Strict behavior text = strict_front behavior text
 front_of Form.Date behavior text = midnight_front text
 front_of (Form.Timestamp unit) behavior text = timestamp_front unit behavior text
@@ -127,12 +94,6 @@ front_of (Form.Timestamp unit) behavior text = timestamp_front unit behavior tex
 -- the value at the front of a text, if nothing follows it
 abbrev pub whole_front : List ℕ → DateAndTime × ℕ → Result DateAndTime Refused
 whole_front text front = alone_or (λ read. end_fault read.time.offset) text front
-
--- the date-time that a text is
-unfoldable pub relaxed_whole : Behavior → List ℕ → Result DateAndTime Refused
-relaxed_whole behavior text = do
-  front ← relaxed_front behavior text
-  whole_front text front
 
 -- the date-time in UTC of the Unix timestamp that a text is, without a sign but a minus
 unfoldable pub timestamp_whole : TimestampUnit → Behavior → List ℕ → Result DateAndTime Refused
@@ -147,7 +108,7 @@ midnight_whole text =
 
 -- the value that a text is
 abbrev pub whole_of : Form → Behavior → List ℕ → Result DateAndTime Refused
-whole_of Form.DateTime behavior text = relaxed_whole behavior text
+whole_of Form.DateTime behavior text = loose_answer behavior text
 whole_of Form.Strict behavior text = strict_whole behavior text
 whole_of Form.Date behavior text = midnight_whole text
 whole_of (Form.Timestamp unit) behavior text = timestamp_whole unit behavior text

@@ -7,7 +7,7 @@ ghost use Rattle.speedate_scan.specs.Reading.{IsReadWithin, IsWithoutValue, afte
 ghost use Rattle.speedate_scan.specs.Reading.{claim_after, claims, claims_date, claims_duration};
 ghost use Rattle.speedate_scan.specs.Reading.{claims_wanted, field_claims, front_claim};
 ghost use Rattle.speedate_scan.specs.Reading.{Wanted, length_before_value, moved_place, seen, without_claim};
-ghost use Rattle.speedate_scan.specs.Zone.{begins_with};
+ghost use Rattle.speedate.specs.Loose.{begins_with};
 
 use crate::field::{BYTE_ORDER_MARK, mark_length};
 use crate::form::Form;

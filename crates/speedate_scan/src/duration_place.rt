@@ -9,8 +9,8 @@ ghost use Rattle.speedate_scan.specs.Reading.{fields_of};
 use crate::claim::{Wanted, claim_after};
 use crate::field::{Field, mark_length};
 use crate::reading::{Place, Reader, fields_of};
-use crate::zone::is_boundary;
 use speedate_base::numbers::{byte_at, sign};
+use speedate_civil::time::is_boundary;
 
 /// All of a line but a byte order mark, by its head, as a field.
 fn whole_line(head: &[u8]) -> Field

@@ -1,9 +1,7 @@
 //! What values are, and how a text is parsed as one.
 
 ghost use Rattle.std.specs.Prelude.{◌≡◌, ◌+◌, ◌≤◌, ℕ, Err, IfErr, IfOk, IfSome, List, Ok, Result, length, true};
-ghost use Rattle.std.specs.Option.{ForSome, option_map};
-ghost use Rattle.speedate_base.specs.Offset.{IsOffset};
-ghost use Rattle.speedate_civil.specs.Time.{clock_parts, clock_with_offset, end_fault};
+ghost use Rattle.speedate_civil.specs.Time.{end_fault};
 ghost use Rattle.speedate.specs.Base.{Behavior, IsoOrder};
 ghost use Rattle.speedate.specs.Config.{choices, time_choices};
 ghost use Rattle.speedate.specs.Requirement.{result_map, with_size};
@@ -11,20 +9,23 @@ ghost use Rattle.speedate.specs.Date.{ymd};
 ghost use Rattle.speedate.specs.DateTime.{DateAndTime, date_and_time};
 ghost use Rattle.speedate.specs.Form.{with_length};
 ghost use Rattle.speedate.specs.declared.Refused.{Refused};
-ghost use Rattle.speedate_scan.specs.Reading.{claims, claims_date, date_and_clock, front_of};
-ghost use Rattle.speedate_scan.specs.Reading.{library_front, midnight_front, midnight_of, midnight_whole};
-ghost use Rattle.speedate_scan.specs.Reading.{relaxed_front, relaxed_whole, strict_front, strict_whole};
-ghost use Rattle.speedate_scan.specs.Reading.{whole_front, whole_of, with_late_zone};
+ghost use Rattle.speedate.specs.Loose.{loose_value};
+ghost use Rattle.speedate_scan.specs.Reading.{claims, claims_date, front_of, library_front};
+ghost use Rattle.speedate_scan.specs.Reading.{midnight_front};
+ghost use Rattle.speedate_scan.specs.Reading.{midnight_of, midnight_whole, strict_front, strict_whole};
+ghost use Rattle.speedate_scan.specs.Reading.{whole_front, whole_of};
 
 use crate::timestamp::{timestamp_front, timestamp_whole};
-use crate::zone::{late_zone, zone_front};
 use speedate::{
     Date, DateConfig, DateForm, DateTime, DateTimeConfig, DateTimeForm, IsoOrder,
     MicrosecondsPrecisionOverflowBehavior, ParseError, Refused, Time, TimeConfig, TimestampUnit,
 };
 use speedate_base::numbers::byte_at;
-use speedate_civil::datetime::{full_front, has_separator, require_standard_date_time};
-use speedate_civil::time::{PureTime, end_fault};
+use speedate_civil::datetime::{
+    accepted_loose_value, full_front, loose_value_by_parts, loose_whole, require_standard_date_time,
+    usual_loose_value,
+};
+use speedate_civil::time::end_fault;
 
 /// What a value is.
 #[derive(Clone, Copy, Debug, PartialEq, Eq)]
@@ -69,7 +70,7 @@ impl Form {
         ensures size { IfSome result (λ front. front.1 ≤ length text.now) }
     {
         match self {
-            Form::DateTime => accepted_front(text, behavior),
+            Form::DateTime => accepted_loose_value(text, behavior),
             _ => self.front(text, behavior).ok(),
         }
     }
@@ -88,7 +89,7 @@ impl Form {
         ensures within { IfErr result (λ refused. refused.place ≤ length text.now) }
     {
         match self {
-            Form::DateTime => front_by_parts(text, behavior),
+            Form::DateTime => loose_value_by_parts(text, behavior),
             Form::Strict => strict_front(text, behavior),
             Form::Date => midnight_front(text),
             Form::Timestamp(unit) => timestamp_front(text, unit, behavior),
@@ -105,7 +106,7 @@ impl Form {
         ensures within { IfErr result (λ refused. refused.place ≤ length text.now) }
     {
         match self {
-            Form::DateTime => relaxed_whole(text, behavior),
+            Form::DateTime => loose_whole(text, behavior),
             Form::Strict => strict_whole(text, behavior),
             Form::Date => midnight_whole(text),
             Form::Timestamp(unit) => timestamp_whole(text, unit, behavior),
@@ -130,162 +131,13 @@ pub fn relaxed(behavior: MicrosecondsPrecisionOverflowBehavior) -> TimeConfig
 #[inline(always)]
 fn usual_front(text: &[u8]) -> Option<(DateTime, usize)>
     ensures front { (behavior : Behavior) → IfSome result (λ front.
-        relaxed_front behavior text.now ≡ Ok (with_size date_and_time front)) }
+        loose_value behavior text.now ≡ Ok (with_size date_and_time front)) }
     ensures claims { IfSome result (λ front. claims_date text.now ≡ true) }
     ensures within { IfSome result (λ front. front.1 ≤ length text.now) }
 {
-    match full_front(text) {
-        Some((value, size)) => match with_late_zone(value, size, text) {
-            Some(front) => Some(front),
-            None => None,
-        },
+    match usual_loose_value(text) {
+        Some((value, size)) => Some((value, size)),
         None => None,
-    }
-}
-
-/// A date-time that the library read at the front of a text, and how many bytes it takes, with the zone that may
-/// come after a blank. `None` if the half of the day does.
-#[inline(always)]
-fn with_late_zone(value: DateTime, size: usize, text: &[u8]) -> Option<(DateTime, usize)>
-    requires size { size ≤ length text.now }
-    ensures front { option_map (with_size date_and_time) result
-        ≡ with_late_zone text.now (date_and_time value, size) }
-    ensures within { IfSome result (λ front. front.1 ≤ length text.now) }
-{
-    if value.time.tz_offset.is_some() {
-        return Some((value, size));
-    }
-    let (offset, more) = match late_zone(&text[size..]) {
-        Some((offset, more)) => (offset, more),
-        None => return None,
-    };
-    let time = Time {
-        hour: value.time.hour,
-        minute: value.time.minute,
-        second: value.time.second,
-        microsecond: value.time.microsecond,
-        tz_offset: offset,
-    };
-    let date = value.date;
-    Some((DateTime { date, time }, size + more))
-}
-
-/// A date, a separator and a clock at the front of a text.
-#[tactic(auto, using(std::proofs::lemmas::List::take_rest))]
-fn date_and_clock(
-    text: &[u8],
-    behavior: MicrosecondsPrecisionOverflowBehavior,
-) -> Result<(Date, PureTime), Refused>
-    ensures front { result_map (λ front. (ymd front.0, clock_parts front.1)) result
-        ≡ date_and_clock behavior text.now }
-    ensures size { IfOk result (λ front. 11 + front.1.size ≤ length text.now) }
-    ensures within { IfErr result (λ refused. refused.place ≤ length text.now) }
-{
-    let date = match Date::parse_or_place(text, DateForm::Front, &DateConfig::default()) {
-        Ok((date, _)) => date,
-        Err(refused) => return Err(refused),
-    };
-    if !has_separator(text) {
-        return Err(Refused {
-            fault: ParseError::InvalidCharDateTimeSep,
-            place: 10,
-        });
-    }
-    match PureTime::front_at(&text[11..], 11, behavior) {
-        Ok(clock) => Ok((date, clock)),
-        Err(refused) => Err(refused),
-    }
-}
-
-/// The date-time at the front of a text, and how many bytes it takes.
-#[inline(always)]
-fn relaxed_front(
-    text: &[u8],
-    behavior: MicrosecondsPrecisionOverflowBehavior,
-) -> Result<(DateTime, usize), Refused>
-    ensures front { result_map (with_size date_and_time) result ≡ relaxed_front behavior text.now }
-    ensures size { IfOk result (λ front. front.1 ≤ length text.now) }
-    ensures within { IfErr result (λ refused. refused.place ≤ length text.now) }
-{
-    match accepted_front(text, behavior) {
-        Some((value, size)) => Ok((value, size)),
-        None => front_by_parts(text, behavior),
-    }
-}
-
-/// The same, if the library reads it at once: it refuses what begins as an offset and is none, such as `-app`.
-#[inline(always)]
-fn accepted_front(
-    text: &[u8],
-    behavior: MicrosecondsPrecisionOverflowBehavior,
-) -> Option<(DateTime, usize)>
-    ensures front { IfSome result (λ front.
-        relaxed_front behavior text.now ≡ Ok (with_size date_and_time front)) }
-    ensures within { IfSome result (λ front. front.1 ≤ length text.now) }
-{
-    match DateTime::parse_front(text, &relaxed(behavior)) {
-        Ok((value, size)) => match with_late_zone(value, size, text) {
-            Some(front) => Some(front),
-            None => None,
-        },
-        Err(_) => None,
-    }
-}
-
-/// The date-time at the front of a text, and how many bytes it takes, by its date, its clock and its zone one after the
-/// other.
-#[cold]
-#[inline(never)]
-#[tactic(auto, unfolding(crate::specs::Reading::relaxed_front))]
-fn front_by_parts(
-    text: &[u8],
-    behavior: MicrosecondsPrecisionOverflowBehavior,
-) -> Result<(DateTime, usize), Refused>
-    ensures front { result_map (with_size date_and_time) result ≡ relaxed_front behavior text.now }
-    ensures size { IfOk result (λ front. front.1 ≤ length text.now) }
-    ensures within { IfErr result (λ refused. refused.place ≤ length text.now) }
-{
-    let (date, clock) = match date_and_clock(text, behavior) {
-        Ok(front) => front,
-        Err(refused) => return Err(refused),
-    };
-    let end = 11 + clock.size;
-    match zone_front(&text[end..], end) {
-        Ok((offset, size)) => Ok((zoned(date, &clock, offset), end + size)),
-        Err(refused) => Err(refused),
-    }
-}
-
-/// The date-time of a date, a clock and an offset.
-fn zoned(date: Date, clock: &PureTime, offset: Option<i32>) -> DateTime
-    requires range { ForSome offset IsOffset }
-    ensures value { date_and_time result ≡ record {
-      date = ymd date;
-      time = clock_with_offset (clock_parts clock.now) offset;
-    } }
-{
-    let time = Time {
-        hour: clock.hour,
-        minute: clock.minute,
-        second: clock.second,
-        microsecond: clock.microsecond,
-        tz_offset: offset,
-    };
-    DateTime { date, time }
-}
-
-/// The date-time that a text is.
-#[tactic(auto, unfolding(crate::specs::Reading::relaxed_whole))]
-fn relaxed_whole(
-    text: &[u8],
-    behavior: MicrosecondsPrecisionOverflowBehavior,
-) -> Result<DateTime, Refused>
-    ensures whole { result_map date_and_time result ≡ relaxed_whole behavior text.now }
-    ensures within { IfErr result (λ refused. refused.place ≤ length text.now) }
-{
-    match relaxed_front(text, behavior) {
-        Ok((value, size)) => whole_front(text, value, size),
-        Err(refused) => Err(refused),
     }
 }
 

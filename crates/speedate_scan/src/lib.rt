@@ -1,5 +1,5 @@
 //! What the lines of a text are to the commands of the program `speedate`. [`reading`] says what the value of a
-//! line is, by [`claim`], [`form`], [`timestamp`], [`zone`], [`fraction`] and [`field`], and [`glance`] what is known of
+//! line is, by [`claim`], [`form`], [`timestamp`], [`fraction`] and [`field`], and [`glance`] what is known of
 //! it without parsing part by part; [`amount`] says what its duration is, by [`duration_place`], [`scan`] what a line is
 //! to a command, and [`print`] how names, numbers and bad values are printed.
 #![tactic(auto)]
@@ -15,4 +15,3 @@ pub mod print;
 pub mod reading;
 pub mod scan;
 pub mod timestamp;
-pub mod zone;

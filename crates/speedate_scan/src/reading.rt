@@ -20,10 +20,10 @@ use crate::field::{Field, NthField, first_bytes};
 use crate::form::Form;
 use crate::fraction::value_past_microsecond;
 use crate::glance::Glance;
-use crate::zone::{is_boundary, is_half_day};
 use speedate::{DateTime, MicrosecondsPrecisionOverflowBehavior, ParseError, Refused, Time};
 use speedate_base::config::require_offset;
 use speedate_base::numbers::byte_at;
+use speedate_civil::time::{is_boundary, is_half_day};
 use speedate_stream::SEEN_MAX;
 
 /// Where the value of a line begins.

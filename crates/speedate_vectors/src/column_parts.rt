@@ -121,6 +121,7 @@ fn parts_of_fronts(rt: HostRuntime) {
     let reader = DateTimeFrontReader {
         config: TimeConfig::default(),
         assumes_utc: false,
+        is_loose: false,
     };
     let none = DateTimeFront {
         microseconds: -7,

@@ -267,6 +267,20 @@ end '1970-01-01T00:00:01 GET /|1970-01-01_00:00 +01:00|1970-01-01T00:00+01:00' 3
 end '1970-01-01T00:00,|1970-01-01T00:00:00.1234567 x' 1 18 second_fraction_too_long 0:16
 end '1970-01-01T00:00:00.|5' 0 0 second_fraction_missing";
 
+/// The same with zones as programs print them.
+const LOOSE_FRONTS: &str = "\
+end '1970-01-01 00:00:01 UTC GET|1970-01-01 01:00:00+01 x|1970-01-01 00:00:00 -0100,' 3 79 - 1000000:23 0:22 3600000000:25
+end '1970-01-01T00:00:01Z|1970-01-01 00:00:01 x' 1 21 tz_required 1000000:20
+end '1970-01-01 00:00:01 PM' 0 0 extra_characters
+end '1970-01-01 00:00:01Zx' 0 0 extra_characters";
+
+/// Each row of date-times with zones as programs print them, and their microseconds.
+const LOOSE_DATE_TIMES: &str = "\
+end '1970-01-01 00:00:01 UTC|1970-01-01T01:00+01|1970-01-01 00:00:00 -0100|1970-01-01T00:00:02Z' 4 90 - 1000000 0 3600000000 2000000
+end '1970-01-01 00:00:01 UTC|1970-01-01 00:00:01 UTC x' 1 24 extra_characters 1000000
+end '1970-01-01 00:00:01' 0 0 tz_required
+end '1' 0 0 too_short";
+
 /// Each row of durations and their microseconds.
 const DURATIONS: &str = "\
 end 'PT1S|-1 day|-PT1.5S' 3 19 - 1000000 -86400000000 -1500000
@@ -316,6 +330,17 @@ fn date_times_without_an_offset_are_in_utc(rt: HostRuntime) {
 }
 
 #[test]
+fn loose_date_times_are_microseconds(rt: HostRuntime) {
+    let reader = DateTimeReader {
+        parser: DateTimeParser::Loose(MicrosecondsPrecisionOverflowBehavior::Error),
+        assumes_utc: false,
+    };
+    for row in LOOSE_DATE_TIMES.lines() {
+        expect_column(&rt, &reader, -7, &mut [-7; ROOM], row);
+    }
+}
+
+#[test]
 fn strict_date_times_are_microseconds(rt: HostRuntime) {
     let reader = DateTimeReader {
         parser: DateTimeParser::Strict(MicrosecondsPrecisionOverflowBehavior::Error),
@@ -342,13 +367,21 @@ fn fronts_are_microseconds_and_bytes(rt: HostRuntime) {
     let reader = DateTimeFrontReader {
         config: time_config(&rt, "truncate"),
         assumes_utc: false,
+        is_loose: false,
     };
     expect_fronts(&rt, &reader, FRONTS);
     let reader = DateTimeFrontReader {
         config: TimeConfig::default(),
         assumes_utc: true,
+        is_loose: false,
     };
     expect_fronts(&rt, &reader, NAIVE_FRONTS);
+    let reader = DateTimeFrontReader {
+        config: TimeConfig::default(),
+        assumes_utc: false,
+        is_loose: true,
+    };
+    expect_fronts(&rt, &reader, LOOSE_FRONTS);
 }
 
 #[test]

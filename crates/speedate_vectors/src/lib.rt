@@ -31,6 +31,8 @@ mod fractions;
 #[cfg(test)]
 mod laws;
 #[cfg(test)]
+mod loose;
+#[cfg(test)]
 mod numbers;
 #[cfg(test)]
 mod orders;

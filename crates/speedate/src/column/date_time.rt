@@ -6,7 +6,9 @@ ghost use Rattle.speedate_base.specs.Offset.{IsOffset};
 ghost use Rattle.speedate_base.specs.Timestamp.{IsInYears, first_second, instant_at, last_second};
 ghost use Rattle.speedate_base.specs.Timestamp.{unix_instant};
 ghost use Rattle.speedate_civil.specs.DateTime.{date_and_time, date_time_at, utc_microsecond};
-ghost use Rattle.speedate_civil.specs.DateTime.{utc_second};
+ghost use Rattle.speedate_civil.specs.DateTime.{utc_second, ◌gives◌};
+ghost use Rattle.speedate_civil.specs.Loose.{loose_answer};
+ghost use Rattle.speedate_base.specs.Refused.{without_place};
 ghost use Rattle.speedate_base.specs.Requirement.{result_map};
 ghost use Rattle.speedate.specs.Column.{as_number, with_offset};
 ghost use Rattle.speedate.specs.ColumnText.{IsShownLine, date_time_line};
@@ -19,7 +21,7 @@ use speedate_base::config::{
 use speedate_base::faults::ParseError;
 use speedate_base::util::UnixTime;
 use speedate_civil::datetime::{
-    DateTime, require_standard_date_time, timestamp_instant, utc_front,
+    DateTime, loose_whole, require_standard_date_time, timestamp_instant, utc_front,
 };
 use speedate_civil::form::DateTimeForm;
 
@@ -33,6 +35,9 @@ pub enum DateTimeParser {
     OrTimestamp(DateTimeConfig),
     /// Only texts of RFC 3339, as [`DateTime::parse_bytes_strict`].
     Strict(MicrosecondsPrecisionOverflowBehavior),
+    /// No timestamps, but the zones that programs print, as [`DateTime::parse_or_place`] with
+    /// [`DateTimeForm::Loose`].
+    Loose(MicrosecondsPrecisionOverflowBehavior),
 }
 
 impl DateTimeParser {
@@ -47,8 +52,12 @@ impl DateTimeParser {
     pub(super) fn parse(&self, line: &[u8]) -> Result<DateTime, ParseError>
         ensures answer { result gives without_place (date_time_of_line self.now line.now) }
     {
-        if let DateTimeParser::OrTimestamp(config) = self {
-            return DateTime::parse_bytes_with_config(line, config);
+        match self {
+            DateTimeParser::OrTimestamp(config) => {
+                return DateTime::parse_bytes_with_config(line, config);
+            }
+            DateTimeParser::Loose(behavior) => return parse_loose(line, *behavior),
+            DateTimeParser::Text(_) | DateTimeParser::Strict(_) => {}
         }
         let value = DateTime::parse_bytes_rfc3339_with_config(line, &self.text_config())?;
         match self.require(line) {
@@ -65,7 +74,7 @@ impl DateTimeParser {
         match self {
             DateTimeParser::Text(config) => *config,
             DateTimeParser::OrTimestamp(config) => config.time_config,
-            DateTimeParser::Strict(behavior) => TimeConfig {
+            DateTimeParser::Strict(behavior) | DateTimeParser::Loose(behavior) => TimeConfig {
                 microseconds_precision_overflow_behavior: *behavior,
                 unix_timestamp_offset: None,
                 iso_order: IsoOrder::Lax,
@@ -104,6 +113,7 @@ impl DateTimeParser {
             DateTimeParser::Strict(_) => {
                 DateTime::size_or_place(line, DateTimeForm::Strict, &config)
             }
+            DateTimeParser::Loose(_) => DateTime::size_or_place(line, DateTimeForm::Loose, &config),
         }
     }
 
@@ -148,7 +158,9 @@ impl DateTimeReader {
                 self.counted(DateTime::parse_bytes_rfc3339_with_config(line, config))
             }
             DateTimeParser::OrTimestamp(config) => self.number_or_timestamp::<COPY>(line, config),
-            DateTimeParser::Strict(_) => self.counted(self.parser.parse(line)),
+            DateTimeParser::Strict(_) | DateTimeParser::Loose(_) => {
+                self.counted(self.parser.parse(line))
+            }
         }
     }
 
@@ -231,6 +243,19 @@ impl LineReader for DateTimeReader {
 
     fn error_place(&self, line: &[u8]) -> usize {
         self.parser.error_place(line)
+    }
+}
+
+/// Parses a line as a date-time with a zone as programs print it.
+fn parse_loose(
+    line: &[u8],
+    behavior: MicrosecondsPrecisionOverflowBehavior,
+) -> Result<DateTime, ParseError>
+    ensures answer { result gives without_place (loose_answer behavior line.now) }
+{
+    match loose_whole(line, behavior) {
+        Ok(value) => Ok(value),
+        Err(refused) => Err(refused.fault),
     }
 }
 

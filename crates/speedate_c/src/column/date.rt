@@ -14,14 +14,15 @@ use crate::config::SpeedateConfig;
 use speedate::{CallKind, DateConfig, DatePrinter, DateReader};
 
 impl ColumnChoices {
-    /// The reader of dates. Each text of a date is one of RFC 3339.
+    /// The reader of dates, if the parser is one of dates. Each text of a date is one of RFC 3339.
     #[inline(always)]
-    pub(super) fn date_reader(&self, config: DateConfig) -> DateReader
+    pub(super) fn date_reader(&self, config: DateConfig) -> Option<DateReader>
         ensures reader { result ≡ date_reader config.timestamp_unit self.now.parser }
     {
         match self.parser {
-            LineParser::Text | LineParser::Strict => DateReader::Text,
-            LineParser::OrTimestamp => DateReader::OrTimestamp(config),
+            LineParser::Text | LineParser::Strict => Some(DateReader::Text),
+            LineParser::OrTimestamp => Some(DateReader::OrTimestamp(config)),
+            LineParser::Loose => None,
         }
     }
 }
@@ -33,7 +34,7 @@ impl LineParser {
     {
         match self {
             LineParser::OrTimestamp => CallKind::DateOrTimestamp,
-            LineParser::Text | LineParser::Strict => CallKind::Date,
+            LineParser::Text | LineParser::Strict | LineParser::Loose => CallKind::Date,
         }
     }
 }
@@ -41,7 +42,8 @@ impl LineParser {
 /// Reads the lines of a text as dates, and writes their days since 1970-01-01, as [`read_column`] does by
 /// a [`DateReader`]: 1 for `1970-01-02`.
 ///
-/// `CONFIG_OUT_OF_RANGE` and refused lines are as in [`speedate_datetime_lines`].
+/// `CONFIG_OUT_OF_RANGE` and refused lines are as in [`speedate_datetime_lines`]; the parser 3 is
+/// out of range.
 #[unsafe(no_mangle)]
 pub extern "C" fn speedate_date_lines(
     text: &[u8],
@@ -59,7 +61,7 @@ pub extern "C" fn speedate_date_lines(
 {
     let config = config_or_return!(config.to_date_config());
     let choices = config_or_return!(column.to_choices());
-    let reader = choices.date_reader(config);
+    let reader = config_or_return!(choices.date_reader(config));
     let kind = choices.parser.date_kind();
     write_column(
         text,

@@ -49,6 +49,9 @@ impl ColumnChoices {
             LineParser::Strict => {
                 DateTimeParser::Strict(time_config.microseconds_precision_overflow_behavior)
             }
+            LineParser::Loose => {
+                DateTimeParser::Loose(time_config.microseconds_precision_overflow_behavior)
+            }
         }
     }
 
@@ -73,7 +76,7 @@ impl LineParser {
         ensures kind { result ≡ date_time_kind self }
     {
         match self {
-            LineParser::Text => CallKind::DateTime,
+            LineParser::Text | LineParser::Loose => CallKind::DateTime,
             LineParser::OrTimestamp => CallKind::DateTimeOrTimestamp,
             LineParser::Strict => CallKind::DateTimeStrict,
         }

@@ -30,6 +30,12 @@ impl ColumnChoices {
             LineParser::Text => Some(DateTimeFrontReader {
                 config: config.time_config,
                 assumes_utc: self.assumes_utc,
+                is_loose: false,
+            }),
+            LineParser::Loose => Some(DateTimeFrontReader {
+                config: config.time_config,
+                assumes_utc: self.assumes_utc,
+                is_loose: true,
             }),
             LineParser::OrTimestamp | LineParser::Strict => None,
         }

@@ -100,7 +100,7 @@ pub extern "C" fn speedate_date_texts(
 {
     let config = config_or_return!(config.to_date_config());
     let choices = config_or_return!(column.to_choices());
-    let reader = choices.date_reader(config);
+    let reader = config_or_return!(choices.date_reader(config));
     let kind = choices.parser.date_kind();
     write_texts(
         bytes,
@@ -147,7 +147,7 @@ pub extern "C" fn speedate_datetime_texts(
 /// Reads texts as times, and writes the microseconds after midnight that their clocks show, whatever the
 /// offset, as [`read_texts`] does by a [`TimeReader`]: 43,994,500,000 for `12:13:14.5`.
 ///
-/// Errors are as in [`speedate_datetime_texts`]; the parser 1 is out of range.
+/// Errors are as in [`speedate_datetime_texts`]; the parsers 1 and 3 are out of range.
 #[unsafe(no_mangle)]
 pub extern "C" fn speedate_time_texts(
     bytes: &[u8],

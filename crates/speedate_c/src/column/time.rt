@@ -27,7 +27,7 @@ impl ColumnChoices {
         let time_config = config.time_config;
         match self.parser {
             LineParser::Text => Some(TimeParser::Text(time_config)),
-            LineParser::OrTimestamp => None,
+            LineParser::OrTimestamp | LineParser::Loose => None,
             LineParser::Strict => {
                 let behavior = time_config.microseconds_precision_overflow_behavior;
                 Some(TimeParser::Strict(behavior))
@@ -43,7 +43,7 @@ impl LineParser {
     {
         match self {
             LineParser::Strict => CallKind::TimeStrict,
-            LineParser::Text | LineParser::OrTimestamp => CallKind::Time,
+            LineParser::Text | LineParser::OrTimestamp | LineParser::Loose => CallKind::Time,
         }
     }
 }
@@ -51,7 +51,7 @@ impl LineParser {
 /// Reads the lines of a text as times, and writes the microseconds after midnight that their clocks show,
 /// whatever the offset, as [`read_column`] does by a [`TimeReader`]: 43,994,500,000 for `12:13:14.5`.
 ///
-/// `CONFIG_OUT_OF_RANGE` and refused lines are as in [`speedate_datetime_lines`]; the parser 1 is
+/// `CONFIG_OUT_OF_RANGE` and refused lines are as in [`speedate_datetime_lines`]; the parsers 1 and 3 are
 /// out of range.
 #[unsafe(no_mangle)]
 pub extern "C" fn speedate_time_lines(
@@ -89,7 +89,7 @@ pub extern "C" fn speedate_time_lines(
 /// [`TimeOffsetReader`]: 3,600 for `12:13+01:00`. A line without an offset is refused, with the code of
 /// `TzRequired`.
 ///
-/// `CONFIG_OUT_OF_RANGE` and refused lines are as in [`speedate_datetime_lines`]; the parser 1 is
+/// `CONFIG_OUT_OF_RANGE` and refused lines are as in [`speedate_datetime_lines`]; the parsers 1 and 3 are
 /// out of range.
 #[unsafe(no_mangle)]
 pub extern "C" fn speedate_time_offset_lines(

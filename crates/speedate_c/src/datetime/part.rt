@@ -11,7 +11,9 @@ ghost use Rattle.speedate_c.specs.Written.{no_part, part_beside, with_option};
 ghost use Rattle.speedate_c.specs.Written.{written_front, written_part};
 
 use super::SpeedateDateTime;
-use crate::code::{CONFIG_OUT_OF_RANGE, FRONT, OR_TIMESTAMP, STRICT, SUCCESS, TEXT};
+use crate::code::{
+    CONFIG_OUT_OF_RANGE, FRONT, LOOSE, LOOSE_FRONT, OR_TIMESTAMP, STRICT, SUCCESS, TEXT,
+};
 use crate::config::SpeedateConfig;
 use crate::part::{NO_PART, SpeedatePart, write_part};
 use speedate::{CallKind, DateTime, DateTimeConfig, DateTimeForm, Refused};
@@ -84,6 +86,8 @@ fn form_of(form: i32) -> Option<(DateTimeForm, CallKind)>
         OR_TIMESTAMP => Some((DateTimeForm::OrTimestamp, CallKind::DateTimeOrTimestamp)),
         STRICT => Some((DateTimeForm::Strict, CallKind::DateTimeStrict)),
         FRONT => Some((DateTimeForm::Front, CallKind::DateTime)),
+        LOOSE => Some((DateTimeForm::Loose, CallKind::DateTime)),
+        LOOSE_FRONT => Some((DateTimeForm::LooseFront, CallKind::DateTime)),
         _ => None,
     }
 }

@@ -1,16 +1,19 @@
 //! Where a text that is refused as a date-time has its error.
 
-ghost use Rattle.std.specs.Prelude.{◌≡◌, ◌≤◌, IfErr, IfOk, IfSome, length};
+ghost use Rattle.std.specs.Prelude.{◌≡◌, ◌≤◌, IfErr, IfOk, IfSome, Ok, length};
 ghost use Rattle.speedate_base.specs.Config.{choices, time_choices};
 ghost use Rattle.speedate_base.specs.Offset.{IsWholeMinutes};
 ghost use Rattle.speedate_base.specs.Refused.{refused_place};
-ghost use Rattle.speedate_civil.specs.DateTime.{date_time_answer};
+ghost use Rattle.speedate_civil.specs.DateTime.{DateAndTime, date_time_answer};
 ghost use Rattle.speedate_civil.specs.DateTime.{date_time_by_config};
 ghost use Rattle.speedate_civil.specs.DateTime.{date_time_front, ◌gives◌, ◌gives_front◌};
 ghost use Rattle.speedate_civil.specs.Form.{DateTimeForm, date_time_by_form, size_or_place};
+ghost use Rattle.speedate_civil.specs.Form.{with_length};
+ghost use Rattle.speedate_civil.specs.Loose.{loose_answer};
 ghost use Rattle.speedate_civil.specs.Strict.{strict_date_time_answer};
 
 use super::DateTime;
+use super::loose::{loose_front, loose_whole};
 use crate::form::DateTimeForm;
 use speedate_base::config::{DateTimeConfig, MicrosecondsPrecisionOverflowBehavior, TimeConfig};
 use speedate_base::refusal::Refused;
@@ -87,10 +90,19 @@ impl DateTime {
     /// `Front` that of [`DateTime::parse_bytes_with_config`], [`DateTime::parse_bytes_strict`] or
     /// [`DateTime::parse_front`]. Only timestamps need the unit and the offset of the configuration.
     ///
+    /// With `Loose` the value is the same, but its offset may also be
+    /// [a zone as programs print it](docs/GRAMMAR.md#zones-that-programs-print): whole hours after a sign, and after
+    /// one blank `UTC`, `GMT`, or a sign with hours and minutes. With `LooseFront` such a date-time begins the text:
+    /// 06:10 an hour east of UTC, and 25, from `b"2026-11-22 06:10:00 +0100 GET /"`.
+    ///
     /// # Errors
     ///
     /// Those of the same calls, each with [its place](docs/GRAMMAR.md#the-place-of-an-error):
-    /// `OutOfRangeSecond` and 17 for `b"2020-02-29T12:13:60"`.
+    /// `OutOfRangeSecond` and 17 for `b"2020-02-29T12:13:60"`. With `Loose` and `LooseFront` those of
+    /// [`DateTime::parse_bytes_rfc3339_with_config`], except `InvalidCharTzHour` and `InvalidCharTzMinute`, since what
+    /// is no zone ends the value. It then has `ExtraCharacters`, or `InvalidCharTzSign` if the value has no offset,
+    /// with `LooseFront` only if a letter or a digit follows, or what joins a digit to the value. `AM` and `PM` after a
+    /// blank have `ExtraCharacters`.
     #[inline(always)]
     pub fn parse_or_place(
         bytes: &[u8],
@@ -104,6 +116,9 @@ impl DateTime {
         ensures minutes { (form ≡ DateTimeForm.OrTimestamp
             → IsWholeMinutes (choices config.now).offset)
             → IfOk result (λ front. IsWholeMinutes front.0.time.tz_offset) }
+        ensures loosens { form ≡ DateTimeForm.Loose → (value : DateAndTime)
+            → date_time_answer (choices config.now).behavior bytes.now ≡ Ok value
+            → result gives_front Ok (value, length bytes.now) }
     {
         Self::in_form::<0>(bytes, form, config)
     }
@@ -141,18 +156,41 @@ impl DateTime {
             → IfOk result (λ front. IsWholeMinutes front.0.time.tz_offset) }
     {
         let behavior = config.time_config.microseconds_precision_overflow_behavior;
+        match form {
+            DateTimeForm::Loose => return loose_with_length(bytes, behavior),
+            DateTimeForm::LooseFront => return loose_front(bytes, behavior),
+            _ => {}
+        }
         let front = Self::front(bytes, behavior);
-        if form == DateTimeForm::Front {
+        if matches!(form, DateTimeForm::Front) {
             return front;
         }
         let value = match Self::alone(front, bytes) {
-            Ok(value) if form == DateTimeForm::Strict => Self::standard(value, bytes)?,
-            Ok(value) => value,
-            Err(refused) if form == DateTimeForm::OrTimestamp => {
-                Self::parse_timestamp(bytes, refused, config)?
-            }
-            Err(refused) => return Err(refused),
+            Ok(value) => match form {
+                DateTimeForm::Strict => Self::standard(value, bytes)?,
+                _ => value,
+            },
+            Err(refused) => match form {
+                DateTimeForm::OrTimestamp => Self::parse_timestamp(bytes, refused, config)?,
+                _ => return Err(refused),
+            },
         };
         Ok((value, bytes.len()))
+    }
+}
+
+/// The date-time that a text is with a zone as programs print it, and the size of the text.
+fn loose_with_length(
+    bytes: &[u8],
+    behavior: MicrosecondsPrecisionOverflowBehavior,
+) -> Result<(DateTime, usize), Refused>
+    ensures answer { result gives_front with_length bytes.now (loose_answer behavior bytes.now) }
+    ensures within { IfErr result (λ refused. refused.place ≤ length bytes.now) }
+    ensures size { IfOk result (λ front. front.1 ≤ length bytes.now) }
+    ensures minutes { IfOk result (λ front. IsWholeMinutes front.0.time.tz_offset) }
+{
+    match loose_whole(bytes, behavior) {
+        Ok(value) => Ok((value, bytes.len())),
+        Err(refused) => Err(refused),
     }
 }

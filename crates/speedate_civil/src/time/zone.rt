@@ -1,19 +1,20 @@
-//! The zone after the clock of a value, and where a value ends.
+//! The zones that programs print after a clock, and where a value ends in a line.
 
 ghost use Rattle.std.specs.Prelude.{◌≡◌, ◌+◌, ◌<◌, ◌≤◌, IfErr, IfOk, IfSome, IsTrue, None, Some, drop, length, slice_index, if◌then◌else◌};
 ghost use Rattle.std.specs.Option.{ForSome};
 ghost use Rattle.speedate_base.specs.Digits.{two_digit_value, two_digits_at};
-ghost use Rattle.speedate_base.specs.Offset.{IsOffset};
+ghost use Rattle.speedate_base.specs.Offset.{IsOffset, IsWholeMinutes};
 ghost use Rattle.speedate_civil.specs.Time.{has_minus_sign, is_plus_or_minus, is_utc};
 ghost use Rattle.speedate_civil.specs.Time.{offset_minute_place};
-ghost use Rattle.speedate_scan.specs.Zone.{apart, has_half_name, has_utc_name, is_boundary, joins};
-ghost use Rattle.speedate_scan.specs.Zone.{hour_and_minute, is_half_day, is_in_use, late_zone};
-ghost use Rattle.speedate_scan.specs.Zone.{minute_zone, signed_zone, zone_after_blank, zone_in_use};
-ghost use Rattle.speedate_scan.specs.Zone.{has_minute, hour_zone, may_begin_zone, zone_front};
+ghost use Rattle.speedate_civil.specs.Loose.{apart, has_half_name, has_utc_name, is_boundary, joins};
+ghost use Rattle.speedate_civil.specs.Loose.{hour_and_minute, is_half_day, is_in_use, late_zone};
+ghost use Rattle.speedate_civil.specs.Loose.{minute_zone, signed_zone, zone_after_blank, zone_in_use};
+ghost use Rattle.speedate_civil.specs.Loose.{has_minute, hour_zone, may_begin_zone, zone_front};
 
-use speedate::{ParseError, Refused};
+use super::offset::{has_minus_sign, is_plus_or_minus, is_utc, signed_offset, with_sign};
+use speedate_base::faults::ParseError;
 use speedate_base::numbers::byte_at;
-use speedate_civil::time::{has_minus_sign, is_plus_or_minus, signed_offset, with_sign};
+use speedate_base::refusal::Refused;
 
 /// Whether a byte joins a digit after it to what comes before it.
 #[inline(always)]
@@ -25,7 +26,7 @@ fn joins(byte: u8) -> bool
 
 /// Whether a value can end before a text: false for `b".5"` and `b"PM"`, true for `b". 5"` and `b""`.
 #[inline(always)]
-#[tactic(auto, unfolding(crate::specs::Zone::is_boundary))]
+#[tactic(auto, unfolding(crate::specs::Loose::is_boundary))]
 pub fn is_boundary(rest: &[u8]) -> bool
     ensures boundary { result ≡ is_boundary rest.now }
 {
@@ -39,7 +40,7 @@ pub fn is_boundary(rest: &[u8]) -> bool
 
 /// The same, by the first byte of the text, which is `+` or comes after it.
 #[inline(never)]
-#[tactic(auto, unfolding(crate::specs::Zone::is_boundary))]
+#[tactic(auto, unfolding(crate::specs::Loose::is_boundary))]
 fn is_boundary_byte(first: u8, rest: &[u8]) -> bool
     requires first { first ≡ slice_index rest.now 0 }
     ensures boundary { result ≡ is_boundary rest.now }
@@ -70,7 +71,7 @@ fn digits_at(text: &[u8], place: usize) -> Option<u8>
 
 /// The zone by the bytes after its sign, which takes the first `sign` bytes of a text that begins at `start` of the
 /// whole: `HH:MM`, `HHMM` or `HH`. It is 3,600, and three bytes, for `b"+01"` and 1, east of UTC.
-#[tactic(auto, unfolding(crate::specs::Zone::signed_zone))]
+#[tactic(auto, unfolding(crate::specs::Loose::signed_zone))]
 fn signed_zone(
     rest: &[u8],
     west: bool,
@@ -82,6 +83,7 @@ fn signed_zone(
     requires short { sign ≤ 3 }
     ensures zone { result ≡ signed_zone (start + sign) west sign (drop sign rest.now) }
     ensures range { IfOk result (λ zone. ForSome zone.0 IsOffset) }
+    ensures minutes { IfOk result (λ zone. IsWholeMinutes zone.0) }
     ensures size { IfOk result (λ zone. zone.1 ≤ length rest.now) }
     ensures place { IfErr result (λ refused. refused.place ≤ start + length rest.now) }
 {
@@ -105,6 +107,7 @@ fn hour_zone(
     requires short { sign ≤ 3 }
     ensures zone { result ≡ hour_zone start west sign hour }
     ensures range { IfOk result (λ zone. ForSome zone.0 IsOffset) }
+    ensures minutes { IfOk result (λ zone. IsWholeMinutes zone.0) }
     ensures size { IfOk result (λ zone. zone.1 ≡ sign + 2) }
     ensures place { IfErr result (λ refused. refused.place ≡ start) }
 {
@@ -138,6 +141,7 @@ fn zone_in_use(hour: u8, minute: u8, place: usize, west: bool) -> (Option<i32>, 
     requires short { place ≤ 3 }
     ensures zone { result ≡ zone_in_use west place (Some (hour, minute)) }
     ensures range { ForSome result.0 IsOffset }
+    ensures minutes { IsWholeMinutes result.0 }
     ensures size { IfSome result.0 (λ offset. result.1 ≡ 3 + place) }
 {
     if !is_in_use(hour, minute) {
@@ -152,6 +156,7 @@ fn minute_zone(text: &[u8], west: bool) -> (Option<i32>, usize)
     requires sign { 1 ≤ length text.now }
     ensures zone { result ≡ minute_zone west (drop 1 text.now) }
     ensures range { ForSome result.0 IsOffset }
+    ensures minutes { IsWholeMinutes result.0 }
     ensures size { IfSome result.0 (λ offset. result.1 ≤ length text.now) }
 {
     match hour_and_minute(&text[1..]) {
@@ -194,6 +199,7 @@ fn has_minute(numbers: &[u8]) -> bool
 fn apart(text: &[u8]) -> (Option<i32>, usize)
     ensures zone { result ≡ apart text.now }
     ensures range { ForSome result.0 IsOffset }
+    ensures minutes { IsWholeMinutes result.0 }
     ensures size { IfSome result.0 (λ offset. result.1 ≤ length text.now) }
 {
     if has_utc_name(text) {
@@ -207,7 +213,7 @@ fn apart(text: &[u8]) -> (Option<i32>, usize)
 }
 
 /// Whether the half of the day stands before a text: true for `b"PM"` and `b"am [1]"`, false for `b"PM2"`.
-#[tactic(auto, unfolding(crate::specs::Zone::is_half_day))]
+#[tactic(auto, unfolding(crate::specs::Loose::is_half_day))]
 pub fn is_half_day(text: &[u8]) -> bool
     ensures half { result ≡ is_half_day text.now }
 {
@@ -239,6 +245,7 @@ fn may_begin_zone(byte: u8) -> bool
 fn zone_after_blank(text: &[u8]) -> Option<(Option<i32>, usize)>
     ensures zone { result ≡ zone_after_blank text.now }
     ensures range { IfSome result (λ zone. ForSome zone.0 IsOffset) }
+    ensures minutes { IfSome result (λ zone. IsWholeMinutes zone.0) }
     ensures size { IfSome result (λ zone. zone.1 ≤ 1 + length text.now) }
 {
     // Most values are followed by a blank and a word.
@@ -251,10 +258,11 @@ fn zone_after_blank(text: &[u8]) -> Option<(Option<i32>, usize)>
 
 /// The same, for a text that may begin with one.
 #[inline(never)]
-#[tactic(auto, unfolding(crate::specs::Zone::zone_after_blank))]
+#[tactic(auto, unfolding(crate::specs::Loose::zone_after_blank))]
 fn begun_zone(text: &[u8]) -> Option<(Option<i32>, usize)>
     ensures zone { result ≡ zone_after_blank text.now }
     ensures range { IfSome result (λ zone. ForSome zone.0 IsOffset) }
+    ensures minutes { IfSome result (λ zone. IsWholeMinutes zone.0) }
     ensures size { IfSome result (λ zone. zone.1 ≤ 1 + length text.now) }
 {
     if is_half_day(text) {
@@ -271,10 +279,11 @@ fn begun_zone(text: &[u8]) -> Option<(Option<i32>, usize)>
 /// The zone of a clock that no offset follows, by the bytes after it, and how many bytes it takes. `None` if the half of
 /// the day follows after a blank.
 #[inline(always)]
-#[tactic(auto, unfolding(crate::specs::Zone::late_zone))]
-pub fn late_zone(rest: &[u8]) -> Option<(Option<i32>, usize)>
+#[tactic(auto, unfolding(crate::specs::Loose::late_zone))]
+pub(crate) fn late_zone(rest: &[u8]) -> Option<(Option<i32>, usize)>
     ensures zone { result ≡ late_zone rest.now }
     ensures range { IfSome result (λ zone. ForSome zone.0 IsOffset) }
+    ensures minutes { IfSome result (λ zone. IsWholeMinutes zone.0) }
     ensures size { IfSome result (λ zone. zone.1 ≤ length rest.now) }
     ensures there { result ≡ None → 1 ≤ length rest.now }
 {
@@ -286,16 +295,17 @@ pub fn late_zone(rest: &[u8]) -> Option<(Option<i32>, usize)>
 
 /// The zone after a clock, by the bytes after it, which begin at `start` of the whole text, and how many bytes
 /// it takes.
-#[tactic(auto, unfolding(crate::specs::Zone::zone_front))]
+#[tactic(auto, unfolding(crate::specs::Loose::zone_front))]
 pub fn zone_front(rest: &[u8], start: usize) -> Result<(Option<i32>, usize), Refused>
     requires start { start + 12 ≤ usize.MAX }
     ensures zone { result ≡ zone_front start rest.now }
     ensures range { IfOk result (λ zone. ForSome zone.0 IsOffset) }
+    ensures minutes { IfOk result (λ zone. IsWholeMinutes zone.0) }
     ensures size { IfOk result (λ zone. zone.1 ≤ length rest.now) }
     ensures place { IfErr result (λ refused. refused.place ≤ start + length rest.now) }
 {
     let first = byte_at(rest, 0);
-    if first == b'Z' || first == b'z' {
+    if is_utc(first) {
         return Ok((Some(0), 1));
     }
     if is_plus_or_minus(first) {

@@ -1,14 +1,19 @@
--- The zone after the clock of a value, and where a value ends.
+-- Date-times as programs print them: beside the offsets of a text, the zones that they write after a
+-- clock, and the byte of a line at which a value can end.
 use Rattle.std.specs.Prelude.{ℕ, ◌+◌, ◌*◌, ◌==◌, ◌&&◌, ◌||◌, not, Bool, true, List, [], ◌∷◌, codes, drop, slice_index, nat_eq, nat_le, Option, Some, None, is_some, Result, Ok, Err, ℤ, pos, if◌then◌else◌}
 use Rattle.std.specs.Char.{is_ascii_alphanumeric, is_ascii_digit}
 use Rattle.std.specs.List.{starts_with}
 use Rattle.speedate_base.specs.Ascii.{capital_p, colon, full_stop, hyphen, plus_sign, space}
 use Rattle.speedate_base.specs.Digits.{two_digit_value, two_digits_at}
 use Rattle.speedate_base.specs.Numbers.{with_sign}
-use Rattle.speedate_base.specs.Requirement.{◌at_byte◌, ◌else_fault◌}
+use Rattle.speedate_base.specs.Refused.{alone_or, first_refused_or, from_byte, placed}
+use Rattle.speedate_base.specs.Requirement.{◌at_byte◌, ◌else_fault◌, ◌>>=◌}
 use Rattle.speedate_base.specs.declared.refusal.Refused.{Refused}
-use Rattle.speedate.specs.Base.{ParseError}
-use Rattle.speedate.specs.Refused.{first_refused_or, from_byte, placed}
+use Rattle.speedate_civil.specs.Base.{Behavior, ParseError}
+use Rattle.speedate_civil.specs.Calendar.{Ymd}
+use Rattle.speedate_civil.specs.Date.{date_front}
+use Rattle.speedate_civil.specs.DateTime.{DateAndTime, separator_table}
+use Rattle.speedate_civil.specs.Time.{Clock, clock_front, clock_with_offset, end_fault}
 use Rattle.speedate_civil.specs.Time.{has_minus_sign, is_plus_or_minus, is_utc, offset_minute}
 use Rattle.speedate_civil.specs.Time.{offset_minute_place, signed_front}
 
@@ -161,3 +166,59 @@ zone_front start rest =
     else if is_utc (slice_index rest 0) then Ok (utc_zone 1)
     else if has_minus_sign rest then signed_zone (start + 3) true 3 (drop 3 rest)
     else or_half_day start (late_zone rest)
+
+-- Date-times with such a zone.
+
+-- a date, a separator and a clock at the front of a text
+abbrev pub date_and_clock : Behavior → List ℕ → Result (Ymd × Clock) Refused
+date_and_clock behavior text = do
+  date ← date_front text
+  clock ← first_refused_or (separator_table text)
+      (from_byte 11 (clock_front behavior (drop 11 text)))
+  Ok (date.0, clock)
+
+-- the date-time of a date, a clock and the zone after it, and how many bytes it takes
+abbrev pub zoned : Ymd → Clock → Option ℤ × ℕ → DateAndTime × ℕ
+zoned date clock zone =
+    (record { date = date; time = clock_with_offset clock zone.0 }, (11 + clock.size) + zone.1)
+
+-- the date-time at the front of a text, a date, a separator, a clock, and then the zone, and how
+-- many bytes it takes, whatever follows it; or the text's fault and its place
+unfoldable pub loose_value : Behavior → List ℕ → Result (DateAndTime × ℕ) Refused
+loose_value behavior text = do
+  front ← date_and_clock behavior text
+  zone ← zone_front (11 + front.1.size) (drop (11 + front.1.size) text)
+  Ok (zoned front.0 front.1 zone)
+
+-- a date-time without an offset at the front of a text, with the zone that comes after its clock
+abbrev pub with_zone : DateAndTime × ℕ → Option (Option ℤ × ℕ) → Option (DateAndTime × ℕ)
+with_zone front None = None
+with_zone (value, size) (Some zone) =
+    Some (record value { time = record value.time { offset = zone.0 } }, size + zone.1)
+
+-- a date-time at the front of a text, by the parts that every form has, with the zone that may come
+-- after a blank, or nothing if the half of the day does
+abbrev pub with_late_zone : List ℕ → DateAndTime × ℕ → Option (DateAndTime × ℕ)
+with_late_zone text (value, size) =
+    if is_some value.time.offset then Some (value, size)
+    else with_zone (value, size) (late_zone (drop size text))
+
+-- the fault of a date-time that ends where a value cannot, and its place
+abbrev pub end_refused : DateAndTime × ℕ → Refused
+end_refused front = placed (end_fault front.0.time.offset) front.1
+
+-- a date-time that has to end at a boundary
+abbrev pub bounded : List ℕ → DateAndTime × ℕ → Result (DateAndTime × ℕ) Refused
+bounded text front =
+    if is_boundary (drop front.1 text) then Ok front else Err (end_refused front)
+
+-- the date-time at the front of a text, which ends at a boundary, and how many bytes it takes, or
+-- the text's fault and its place
+abbrev pub loose_front : Behavior → List ℕ → Result (DateAndTime × ℕ) Refused
+loose_front behavior text = loose_value behavior text >>= bounded text
+
+-- the date-time that a text is, or the text's fault and its place
+abbrev pub loose_answer : Behavior → List ℕ → Result DateAndTime Refused
+loose_answer behavior text = do
+  value ← loose_value behavior text
+  alone_or (λ read. end_fault read.time.offset) text value

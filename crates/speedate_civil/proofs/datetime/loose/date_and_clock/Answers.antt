@@ -1,6 +1,6 @@
 use Rattle.std.proofs.Common.{◌∙◌, refl, sym}
 use Rattle.std.proofs.lemmas.List.{take_rest}
-use Rattle.speedate_scan.proofs.form.date_and_clock.Goals as goal
+use Rattle.speedate_civil.proofs.datetime.loose.date_and_clock.Goals as goal
 
 pub returns-in-Ok-front_at-clause-front : goal.returns-in-Ok-front_at-clause-front
 returns-in-Ok-front_at-clause-front c =

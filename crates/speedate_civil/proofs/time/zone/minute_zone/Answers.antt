@@ -1,8 +1,8 @@
 use Rattle.std.proofs.Common.{◌∙◌, ap, sym, drop}
 use Rattle.std.proofs.lemmas.List.{take_rest}
 use Rattle.speedate_civil.specs.Time.{offset_minute_place}
-use Rattle.speedate_scan.specs.Zone.{zone_in_use}
-use Rattle.speedate_scan.proofs.zone.minute_zone.Goals as goal
+use Rattle.speedate_civil.specs.Loose.{zone_in_use}
+use Rattle.speedate_civil.proofs.time.zone.minute_zone.Goals as goal
 
 pub returns-in-None-clause-zone : goal.returns-in-None-clause-zone
 returns-in-None-clause-zone c =

@@ -1,23 +1,27 @@
--- A date-time that the library reads, as the one of a line: its zone may come after a blank.
-use Rattle.std.proofs.Common.{◌≡◌, ◌∙◌, ap, sym, refl, rules, arith, codes, ℕ, ℤ, pos, ◌+◌, ◌==◌, ◌||◌, Bool, true, false, List, [], ◌∷◌, drop, slice_index, Option, Some, None, is_some, Result, Ok, Err, if◌then◌else◌}
-use Rattle.speedate.specs.Base.{Behavior, ParseError}
-use Rattle.speedate.specs.Calendar.{Ymd}
-use Rattle.speedate.specs.Date.{date_front}
-use Rattle.speedate.specs.DateTime.{DateAndTime, date_time_front, is_separator}
-use Rattle.speedate.specs.Refused.{from_byte, placed}
+-- A date-time whose text has an offset or none, with the zone that may come after a blank.
+use Rattle.std.proofs.Common.{◌≡◌, ◌∙◌, ap, sym, refl, rules, arith, codes, ℕ, ℤ, pos, ◌+◌, ◌==◌, ◌||◌, Bool, true, false, List, [], ◌∷◌, drop, length, slice_index, Option, Some, None, is_some, Result, Ok, Err, if◌then◌else◌}
+use Rattle.speedate_civil.specs.Base.{Behavior, ParseError}
+use Rattle.speedate_civil.specs.Calendar.{Ymd}
+use Rattle.speedate_civil.specs.Date.{date_front}
+use Rattle.speedate_civil.specs.DateTime.{DateAndTime, date_time_answer, date_time_front}
+use Rattle.speedate_civil.specs.DateTime.{is_separator}
+use Rattle.speedate_base.specs.Refused.{from_byte, placed}
 use Rattle.std.proofs.lemmas.Bool.{or_parts}
 use Rattle.std.proofs.lemmas.Bool.Decides.{nat_tests}
+use Rattle.std.proofs.Math.Seq.{drop-length}
 use Rattle.std.proofs.lemmas.List.{drop-drop}
-use Rattle.speedate.specs.Requirement.{result_and_then, shifted}
-use Rattle.speedate.specs.Time.{Clock, TimeOfDay, clock_front, clock_with_offset, has_minus_sign}
-use Rattle.speedate.specs.Time.{is_plus_or_minus, is_utc, offset_front, signed_front}
-use Rattle.speedate.specs.Ascii.{capital_p, hyphen}
+use Rattle.speedate_base.proofs.RequirementLemmas.{with_no_more-iff}
+use Rattle.speedate_base.specs.Requirement.{result_and_then, shifted}
+use Rattle.speedate_civil.specs.Time.{Clock, TimeOfDay, clock_front, clock_with_offset, end_fault}
+use Rattle.speedate_civil.specs.Time.{has_minus_sign, is_plus_or_minus, is_utc, offset_front}
+use Rattle.speedate_civil.specs.Time.{signed_front}
+use Rattle.speedate_base.specs.Ascii.{capital_p, hyphen}
 use Rattle.speedate_base.specs.declared.refusal.Refused.{Refused}
-use Rattle.speedate_scan.specs.Reading.{relaxed_front, with_late_zone, with_zone, zoned}
+use Rattle.speedate_civil.specs.Loose.{loose_answer, loose_value, with_late_zone, with_zone, zoned}
 use Rattle.speedate_base.proofs.RefusalLemmas.{seen-read}
-use Rattle.speedate_scan.specs.Zone.{begins_with, capital_a, capital_g, capital_u, is_half_day}
-use Rattle.speedate_scan.specs.Zone.{late_zone, may_begin_zone, no_zone, or_half_day, signed_zone}
-use Rattle.speedate_scan.specs.Zone.{small_a, small_p, utc_zone, zone_after_blank, zone_front}
+use Rattle.speedate_civil.specs.Loose.{begins_with, capital_a, capital_g, capital_u, is_half_day}
+use Rattle.speedate_civil.specs.Loose.{late_zone, may_begin_zone, no_zone, or_half_day, signed_zone}
+use Rattle.speedate_civil.specs.Loose.{small_a, small_p, utc_zone, zone_after_blank, zone_front}
 
 -- an offset that the library reads after a sign is the zone there
 signed_read : (start sign : ℕ) (west : Bool) (numbers : List ℕ) (zone : Option ℤ × ℕ)
@@ -221,12 +225,12 @@ chained text (Err refused) separated at_clock front found read is = cc
 
 -- a date-time that the library reads at the front of a text is the one of a line, but for a zone
 -- after a blank
-pub library_is_zoned : (behavior : Behavior) (text : List ℕ) (front found : DateAndTime × ℕ)
+pub text_is_loose : (behavior : Behavior) (text : List ℕ) (front found : DateAndTime × ℕ)
     → date_time_front behavior text ≡ Ok front
     → with_late_zone text front ≡ Some found
-    → relaxed_front behavior text ≡ Ok found
-unfolding relaxed_front
-library_is_zoned behavior text front found read is =
+    → loose_value behavior text ≡ Ok found
+unfolding loose_value
+text_is_loose behavior text front found read is =
     chained text (date_front text) (is_separator (slice_index text 10))
     (clock_front behavior (drop 11 text)) front found read is
 
@@ -260,3 +264,22 @@ no_zone_begins (byte ∷ bytes) other =
     let first_small = other_word byte small_a bytes (drop 1 (codes "am")) with_a.1 in
     let second_small = other_word byte small_p bytes (drop 1 (codes "pm")) with_p.1 in
     rw (first_half, second_half, first_small, second_small, utc, gmt, with_g.0) refl
+
+-- what a text is without a zone after a blank, it is with one
+
+at_end : (text : List ℕ) → late_zone (drop (length text) text) ≡ Some no_zone
+unfolding late_zone
+at_end text = rw (drop-length text) refl
+
+ended : (text : List ℕ) (value : DateAndTime)
+    → with_late_zone text (value, length text) ≡ Some (value, length text)
+ended text value = search (rules, at_end)
+
+pub text_loosens : (behavior : Behavior) (text : List ℕ) (value : DateAndTime)
+    → date_time_answer behavior text ≡ Ok value → loose_answer behavior text ≡ Ok value
+text_loosens behavior text value read =
+    let fault : DateAndTime → ParseError = λ read. end_fault read.time.offset in
+    let front = (with_no_more-iff placed fault text (date_time_front behavior text) value).0 read in
+    let loose = text_is_loose behavior text (value, length text) (value, length text) front
+    (ended text value) in
+    (with_no_more-iff placed fault text (loose_value behavior text) value).1 loose
