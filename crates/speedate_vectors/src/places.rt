@@ -467,12 +467,9 @@ fn durations_or_places(rt: HostRuntime) {
 fn dates(rt: HostRuntime) {
     for row in DATES.lines() {
         let (_, text, wants) = quoted(&rt, row);
-        let [alone, relaxed, front, ..] = words(wants);
-        let text = text.as_bytes();
-        expect_place(&rt, Date::error_place_rfc3339(text), alone, row);
-        let place = Date::error_place(text, &DateConfig::default());
+        let [_, relaxed, ..] = words(wants);
+        let place = Date::error_place(text.as_bytes(), &DateConfig::default());
         expect_place(&rt, place, relaxed, row);
-        expect_place(&rt, Date::error_place_front(text), front, row);
     }
 }
 
@@ -489,12 +486,9 @@ fn dates_of_a_unit(rt: HostRuntime) {
 fn times(rt: HostRuntime) {
     for row in TIMES.lines() {
         let (behavior, text, wants) = quoted(&rt, row);
-        let [relaxed, strict, front, ..] = words(wants);
+        let [relaxed, ..] = words(wants);
         let (text, config) = (text.as_bytes(), time_config(&rt, behavior));
         expect_place(&rt, Time::error_place(text, &config), relaxed, row);
-        let place = Time::error_place_strict(text, value(&rt, behavior));
-        expect_place(&rt, place, strict, row);
-        expect_place(&rt, Time::error_place_front(text, &config), front, row);
     }
 }
 
@@ -502,14 +496,9 @@ fn times(rt: HostRuntime) {
 fn date_times(rt: HostRuntime) {
     for row in DATE_TIMES.lines() {
         let (behavior, text, wants) = quoted(&rt, row);
-        let [relaxed, strict, front, ..] = words(wants);
-        let (text, config) = (text.as_bytes(), time_config(&rt, behavior));
-        let place = DateTime::error_place_rfc3339(text, &config);
-        expect_place(&rt, place, relaxed, row);
-        let place = DateTime::error_place_strict(text, value(&rt, behavior));
+        let [_, strict, ..] = words(wants);
+        let place = DateTime::error_place_strict(text.as_bytes(), value(&rt, behavior));
         expect_place(&rt, place, strict, row);
-        let place = DateTime::error_place_front(text, &config);
-        expect_place(&rt, place, front, row);
     }
 }
 

@@ -3,8 +3,7 @@
 ghost use Rattle.std.specs.Prelude.{◌≡◌, ◌≤◌, IfErr, IfOk, IfSome, length};
 ghost use Rattle.speedate_base.specs.Refused.{refused_place};
 ghost use Rattle.speedate_civil.specs.Form.{date_by_form};
-ghost use Rattle.speedate_civil.specs.Date.{◌gives◌, ◌gives_front◌, date_answer, date_front};
-ghost use Rattle.speedate_civil.specs.Date.{date_or_timestamp};
+ghost use Rattle.speedate_civil.specs.Date.{date_or_timestamp, ◌gives◌, ◌gives_front◌};
 
 use super::Date;
 use crate::form::DateForm;
@@ -24,30 +23,6 @@ impl Date {
         ensures within { IfSome result (λ place. place ≤ length bytes.now) }
     {
         Refused::place_of(Self::whole_or_timestamp(bytes, config))
-    }
-
-    /// The byte at which the error lies for which [`Date::parse_bytes_rfc3339`] refuses a text, and
-    /// `None` for a text that it accepts: 10, where the date ends, for `b"2020-01-01T12:13"`.
-    ///
-    /// It is the place in [the row](docs/GRAMMAR.md#date) that names the error.
-    #[tactic(auto, using(speedate_base::proofs::RefusalLemmas::place_rules))]
-    pub fn error_place_rfc3339(bytes: &[u8]) -> Option<usize>
-        ensures place { result ≡ refused_place (date_answer bytes.now) }
-        ensures within { IfSome result (λ place. place ≤ length bytes.now) }
-    {
-        Refused::place_of(Self::whole(bytes))
-    }
-
-    /// The byte at which the error lies for which [`Date::parse_front`] refuses a text, and `None` for a
-    /// text that begins with a date: 9, the text's end, for `b"2026-11-2"`.
-    ///
-    /// It is the place in [the row](docs/GRAMMAR.md#date) that names the error.
-    #[tactic(auto, using(speedate_base::proofs::RefusalLemmas::place_rules))]
-    pub fn error_place_front(bytes: &[u8]) -> Option<usize>
-        ensures place { result ≡ refused_place (date_front bytes.now) }
-        ensures within { IfSome result (λ place. place ≤ length bytes.now) }
-    {
-        Refused::place_of(Self::front(bytes))
     }
 
     /// Parses a date in a form, and gives how many bytes it takes; or the error with the place at which it lies:

@@ -1,12 +1,12 @@
 //! Where a text that is refused as a date-time has its error.
 
 ghost use Rattle.std.specs.Prelude.{◌≡◌, ◌≤◌, IfErr, IfOk, IfSome, Ok, length};
-ghost use Rattle.speedate_base.specs.Config.{choices, time_choices};
+ghost use Rattle.speedate_base.specs.Config.{choices};
 ghost use Rattle.speedate_base.specs.Offset.{IsWholeMinutes};
 ghost use Rattle.speedate_base.specs.Refused.{refused_place};
 ghost use Rattle.speedate_civil.specs.DateTime.{DateAndTime, date_time_answer};
 ghost use Rattle.speedate_civil.specs.DateTime.{date_time_by_config};
-ghost use Rattle.speedate_civil.specs.DateTime.{date_time_front, ◌gives◌, ◌gives_front◌};
+ghost use Rattle.speedate_civil.specs.DateTime.{◌gives◌, ◌gives_front◌};
 ghost use Rattle.speedate_civil.specs.Form.{DateTimeForm, date_time_by_form, size_or_place};
 ghost use Rattle.speedate_civil.specs.Form.{with_length};
 ghost use Rattle.speedate_civil.specs.Loose.{loose_answer};
@@ -15,7 +15,7 @@ ghost use Rattle.speedate_civil.specs.Strict.{strict_date_time_answer};
 use super::DateTime;
 use super::loose::{loose_front, loose_whole};
 use crate::form::DateTimeForm;
-use speedate_base::config::{DateTimeConfig, MicrosecondsPrecisionOverflowBehavior, TimeConfig};
+use speedate_base::config::{DateTimeConfig, MicrosecondsPrecisionOverflowBehavior};
 use speedate_base::refusal::Refused;
 
 impl DateTime {
@@ -35,21 +35,6 @@ impl DateTime {
         Refused::place_of(Self::whole_or_timestamp(bytes, config))
     }
 
-    /// The byte at which the error lies for which [`DateTime::parse_bytes_rfc3339_with_config`] refuses
-    /// a text, and `None` for a text that it accepts: 10, the separator's, for `b"2020-02-29"`.
-    ///
-    /// It is the place in the row that names the error, of [a date](docs/GRAMMAR.md#date), the
-    /// separator, or [a time](docs/GRAMMAR.md#time), which begins at byte 11.
-    #[tactic(auto, using(speedate_base::proofs::RefusalLemmas::place_rules))]
-    pub fn error_place_rfc3339(bytes: &[u8], config: &TimeConfig) -> Option<usize>
-        ensures place { result
-            ≡ refused_place (date_time_answer (time_choices config.now).behavior bytes.now) }
-        ensures within { IfSome result (λ place. place ≤ length bytes.now) }
-    {
-        let behavior = config.microseconds_precision_overflow_behavior;
-        Refused::place_of(Self::parse_whole(bytes, behavior))
-    }
-
     /// The byte at which the error lies for which [`DateTime::parse_bytes_strict`] refuses a text, and
     /// `None` for a text that it accepts: 19, the text's end, where an offset is missing, for
     /// `b"2020-02-29T12:13:14"`.
@@ -65,22 +50,6 @@ impl DateTime {
         ensures within { IfSome result (λ place. place ≤ length bytes.now) }
     {
         Refused::place_of(Self::strict(bytes, behavior))
-    }
-
-    /// The byte at which the error lies for which [`DateTime::parse_front`] refuses a text, and `None`
-    /// for a text that begins with a date-time: 20, after the sign, for
-    /// `b"2026-11-22T12:00:00-ERROR"`.
-    ///
-    /// It is the place in the row that names the error, of [a date](docs/GRAMMAR.md#date), the
-    /// separator, or [a time](docs/GRAMMAR.md#time), which begins at byte 11.
-    #[tactic(auto, using(speedate_base::proofs::RefusalLemmas::place_rules))]
-    pub fn error_place_front(bytes: &[u8], config: &TimeConfig) -> Option<usize>
-        ensures place { result
-            ≡ refused_place (date_time_front (time_choices config.now).behavior bytes.now) }
-        ensures within { IfSome result (λ place. place ≤ length bytes.now) }
-    {
-        let behavior = config.microseconds_precision_overflow_behavior;
-        Refused::place_of(Self::front(bytes, behavior))
     }
 
     /// Parses a date-time in a form, and gives how many bytes it takes; or the error with the place at which it

@@ -5,12 +5,11 @@ ghost use Rattle.speedate_base.specs.Config.{time_choices};
 ghost use Rattle.speedate_base.specs.Offset.{IsWholeMinutes};
 ghost use Rattle.speedate_base.specs.Refused.{refused_place};
 ghost use Rattle.speedate_civil.specs.Form.{time_by_form};
-ghost use Rattle.speedate_civil.specs.Strict.{strict_time_answer};
-ghost use Rattle.speedate_civil.specs.Time.{time_answer, time_front, ◌gives◌, ◌gives_front◌};
+ghost use Rattle.speedate_civil.specs.Time.{time_answer, ◌gives◌, ◌gives_front◌};
 
 use super::Time;
 use crate::form::TimeForm;
-use speedate_base::config::{MicrosecondsPrecisionOverflowBehavior, TimeConfig};
+use speedate_base::config::TimeConfig;
 use speedate_base::refusal::Refused;
 
 impl Time {
@@ -26,36 +25,6 @@ impl Time {
     {
         let behavior = config.microseconds_precision_overflow_behavior;
         Refused::place_of(Self::parse_whole(bytes, behavior))
-    }
-
-    /// The byte at which the error lies for which [`Time::parse_bytes_strict`] refuses a text, and `None`
-    /// for a text that it accepts: 5, the text's end, where a second is missing, for `b"12:13"`.
-    ///
-    /// It is the place in [the row](docs/GRAMMAR.md#rfc-3339-alone) that names the error.
-    #[tactic(auto, using(speedate_base::proofs::RefusalLemmas::place_rules))]
-    pub fn error_place_strict(
-        bytes: &[u8],
-        behavior: MicrosecondsPrecisionOverflowBehavior,
-    ) -> Option<usize>
-        ensures place { result
-            ≡ refused_place (strict_time_answer behavior bytes.now) }
-        ensures within { IfSome result (λ place. place ≤ length bytes.now) }
-    {
-        Refused::place_of(Self::strict(bytes, behavior))
-    }
-
-    /// The byte at which the error lies for which [`Time::parse_front`] refuses a text, and `None` for a
-    /// text that begins with a time: 9, after the sign, for `b"12:00:00-ERROR"`.
-    ///
-    /// It is the place in [the row](docs/GRAMMAR.md#time) that names the error.
-    #[tactic(auto, using(speedate_base::proofs::RefusalLemmas::place_rules))]
-    pub fn error_place_front(bytes: &[u8], config: &TimeConfig) -> Option<usize>
-        ensures place { result
-            ≡ refused_place (time_front (time_choices config.now).behavior bytes.now) }
-        ensures within { IfSome result (λ place. place ≤ length bytes.now) }
-    {
-        let behavior = config.microseconds_precision_overflow_behavior;
-        Refused::place_of(Self::front(bytes, behavior))
     }
 
     /// Parses a time in a form, and gives how many bytes it takes; or the error with the place at which it lies:
