@@ -1,10 +1,16 @@
 //! Columns of dates.
 
+ghost use Rattle.std.specs.Prelude.{◌≡◌};
+ghost use Rattle.speedate_base.specs.Refused.{refused_place};
+ghost use Rattle.speedate_civil.specs.Date.{date_answer};
+
 use super::{LINE_MAX, LineError, LinePrinter, LineReader};
 use arrayvec::ArrayString;
 use speedate_base::config::DateConfig;
 use speedate_base::faults::ParseError;
+use speedate_base::refusal::Refused;
 use speedate_civil::date::Date;
+use speedate_civil::form::DateForm;
 
 /// Reads a line as a date, and counts its days from 1970-01-01: 1 for `1970-01-02`, and -1 for
 /// `1969-12-31`.
@@ -54,11 +60,18 @@ impl LineReader for DateReader {
 
     fn error_place(&self, line: &[u8]) -> usize {
         let place = match self {
-            DateReader::Text => Date::error_place_rfc3339(line),
+            DateReader::Text => text_place(line),
             DateReader::OrTimestamp(config) => Date::error_place(line, config),
         };
         place.unwrap_or(line.len())
     }
+}
+
+/// The byte at which the error of a line lies that is to be a date, and no timestamp.
+fn text_place(line: &[u8]) -> Option<usize>
+    ensures place { result ≡ refused_place (date_answer line.now) }
+{
+    Refused::place_of(Date::parse_or_place(line, DateForm::Text, &DateConfig::default()))
 }
 
 /// Prints days since 1970-01-01 as dates, for [`print_column`](crate::print_column): 1 as `1970-01-02`.

@@ -1,13 +1,17 @@
 //! Columns of times of day, and of their offsets.
 
 ghost use Rattle.std.specs.Prelude.{◌≡◌, pos};
+ghost use Rattle.speedate_base.specs.Refused.{refused_place};
+ghost use Rattle.speedate_civil.specs.Strict.{strict_time_answer};
 ghost use Rattle.speedate_civil.specs.Time.{microsecond_of_day, time_of_day};
 
 use super::clock::offset_number;
 use super::{LINE_MAX, LineError, LinePrinter, LineReader};
 use arrayvec::ArrayString;
-use speedate_base::config::{MicrosecondsPrecisionOverflowBehavior, TimeConfig};
+use speedate_base::config::{IsoOrder, MicrosecondsPrecisionOverflowBehavior, TimeConfig};
 use speedate_base::faults::ParseError;
+use speedate_base::refusal::Refused;
+use speedate_civil::form::TimeForm;
 use speedate_civil::time::Time;
 
 /// The microseconds of a day.
@@ -46,10 +50,22 @@ impl TimeParser {
     {
         let place = match self {
             TimeParser::Text(config) => Time::error_place(line, config),
-            TimeParser::Strict(behavior) => Time::error_place_strict(line, *behavior),
+            TimeParser::Strict(behavior) => strict_place(line, *behavior),
         };
         place.unwrap_or(line.len())
     }
+}
+
+/// The byte at which the error of a line lies that is to be a time of RFC 3339 alone.
+fn strict_place(line: &[u8], behavior: MicrosecondsPrecisionOverflowBehavior) -> Option<usize>
+    ensures place { result ≡ refused_place (strict_time_answer behavior line.now) }
+{
+    let config = TimeConfig {
+        microseconds_precision_overflow_behavior: behavior,
+        unix_timestamp_offset: None,
+        iso_order: IsoOrder::Lax,
+    };
+    Refused::place_of(Time::parse_or_place(line, TimeForm::Strict, &config))
 }
 
 /// Reads a line as a time, and counts the microseconds after midnight that its clock shows, whatever the
