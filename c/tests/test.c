@@ -1,6 +1,7 @@
-/* Runs the rows of a table, standard input, through every function of speedate.h, and of speedate_packages.h.
+/* Runs rows, standard input, through every function of speedate.h, and of speedate_packages.h: those of the second reading,
+ * which tests/rows.py describes, through the parsers, and those of rows.txt through the rest.
  *
- * A row is a call, some of which have the name of a form too, its arguments, the name of its code and what it writes,
+ * A row of rows.txt is a call, some of which have the name of a form too, its arguments, the name of its code and what it writes,
  * with `|` between them. A value is its numbers in the order of its fields, a configuration `default` or its numbers,
  * and a text stands as it is, which for a row of an empty one is an empty field.
  *
@@ -278,8 +279,8 @@ static void say_progress(SpeedateProgress it) {
         return 1;                                                                                                      \
     }
 
-/* A parser in a form, which ends the name of the call. The row has the part of a text that is refused, and the size of a
- * value at a front. The part of a value ends with it, and without a part the call does the same. */
+/* A parser in a form, which ends the name of the call. It answers the part of a text that is refused, and the size of a value
+ * at a front. The part of a value ends with it, and without a part the call does the same. */
 #define PARSE(TYPE, SAY, NAME, ENDING, FORM, CONFIG)                                                                   \
     if (is_call(#NAME "_parse" #ENDING)) {                                                                             \
         const SpeedateConfig *it = CONFIG;                                                                             \
@@ -502,9 +503,9 @@ static int run_text(const char *text, size_t size) {
     if (is_call("int_parse"))
         WRITES(int64_t, say_number, speedate_int_parse(text, size, out))
     PARSE(SpeedateDate, say_date, date, , SPEEDATE_OR_TIMESTAMP, config_or_null())
-    /* Both forms of dates do the same: each reads the text from another place. */
-    PARSE(SpeedateDate, say_date, date, _text, (text == first_page ? SPEEDATE_STRICT : SPEEDATE_TEXT), NULL)
-    PARSE(SpeedateDate, say_date, date, _front, SPEEDATE_FRONT, NULL)
+    PARSE(SpeedateDate, say_date, date, _text, SPEEDATE_TEXT, config_or_null())
+    PARSE(SpeedateDate, say_date, date, _strict, SPEEDATE_STRICT, config_or_null())
+    PARSE(SpeedateDate, say_date, date, _front, SPEEDATE_FRONT, config_or_null())
     PARSE(SpeedateTime, say_time, time, , SPEEDATE_TEXT, config_or_null())
     PARSE(SpeedateTime, say_time, time, _strict, SPEEDATE_STRICT, config_or_null())
     PARSE(SpeedateTime, say_time, time, _front, SPEEDATE_FRONT, config_or_null())
@@ -630,11 +631,11 @@ static void compare(const char *row, const char *wanted) {
 }
 
 /* Cuts a row at its marks, and counts its fields. */
-static int cut(char *row) {
+static int cut(char *row, int at_mark) {
     int count = 0;
     memset(fields, 0, sizeof fields);
     for (char *at = row; count < FIELDS; count++) {
-        char *mark = strchr(at, '|');
+        char *mark = strchr(at, at_mark);
         fields[count] = at;
         if (!mark)
             return count + 1;
@@ -722,11 +723,29 @@ static void put_line_ends(char *text) {
     *to = 0;
 }
 
+/* Tries a call of a text, which it gets from each of the places, and whether there is such a call. */
+static int try_text(const char *row, const char *text, size_t size, const char *wanted) {
+    char *block = malloc(size ? size : 1);
+    char *places[] = {block, first_page, first_page + page - size, NULL};
+    int is_there = 1;
+    for (int i = 0; i < 4 && is_there; i++) {
+        if (places[i])
+            memcpy(places[i], text, size);
+        if (places[i] || size == 0) {
+            is_there = run_text(places[i], size);
+            if (is_there)
+                compare(row, wanted);
+        }
+    }
+    free(block);
+    return is_there;
+}
+
 static void run(const char *row) {
     char copy[ROW_SIZE], wanted[ROW_SIZE] = "";
     int arguments = 1;
     snprintf(copy, sizeof copy, "%s", row);
-    int count = cut(copy);
+    int count = cut(copy, '|');
     while (arguments < count && !is_code(fields[arguments]))
         arguments++;
     for (int i = arguments; i < count; i++) {
@@ -736,22 +755,63 @@ static void run(const char *row) {
     char *text = fields[arguments - 1];
     if (strstr(fields[0], "_column") || strstr(fields[0], "_texts"))
         put_line_ends(text);
-    size_t size = strlen(text);
-    char *block = malloc(size ? size : 1);
-    char *places[] = {block, first_page, first_page + page - size, NULL};
-    for (int i = 0; i < 4; i++) {
-        if (places[i])
-            memcpy(places[i], text, size);
-        if ((places[i] || size == 0) && run_text(places[i], size))
-            compare(row, wanted);
-        else if (i == 0) {
-            if (arguments == count || !run_value())
-                snprintf(answer, sizeof answer, "nothing: there is no such call, or no such code");
-            compare(row, wanted);
-            break;
-        }
+    if (!try_text(row, text, strlen(text), wanted)) {
+        if (arguments == count || !run_value())
+            snprintf(answer, sizeof answer, "nothing: there is no such call, or no such code");
+        compare(row, wanted);
     }
-    free(block);
+}
+
+/* Puts the bytes of a text in place that are written as \xHH, and counts them all. */
+static size_t unescaped(char *text) {
+    char *to = text;
+    for (char *from = text; *from; to++)
+        if (*from == '\\') {
+            char digits[3] = {from[2], from[3], 0};
+            *to = (char)strtol(digits, NULL, 16);
+            from += 4;
+        } else {
+            *to = *from++;
+        }
+    return (size_t)(to - text);
+}
+
+/* A row of the second reading, in each of its forms, as calls with the endings of PARSE. */
+static void run_reading(const char *row) {
+    /* A form, the ending of a call that reads dates or date-times in it, and how much later its kind is. */
+    static const struct { const char *name, *ending; int later; } forms[] = {
+        {"text", "_text", 0}, {"or_timestamp", "", 1}, {"strict", "_strict", 2}, {"front", "_front", 0}};
+    static const struct { const char *name; int kind, strict; } types[] = {
+        {"date", SPEEDATE_KIND_DATE, 0}, {"time", SPEEDATE_KIND_TIME, 1}, {"datetime", SPEEDATE_KIND_DATETIME, 2},
+        {"duration", SPEEDATE_KIND_DURATION, 0}};
+    char copy[ROW_SIZE], call[32], wanted[ROW_SIZE], *parts[8], *form;
+    snprintf(copy, sizeof copy, "%s", row);
+    if (cut(copy, '\t') != 8) {
+        FAIL("no row: %s\n", row);
+        return;
+    }
+    memcpy(parts, fields, sizeof parts);
+    size_t size = unescaped(parts[3]);
+    int type = 0, tried = 0;
+    while (type < 3 && strcmp(types[type].name, parts[0]) != 0)
+        type++;
+    for (form = strtok(parts[1], " "); form; form = strtok(NULL, " "))
+        for (int i = 0; i < 4; i++)
+            if (strcmp(forms[i].name, form) == 0) {
+                int kind = types[type].kind + (forms[i].later == 2 ? types[type].strict : forms[i].later);
+                snprintf(call, sizeof call, "%s_parse%s", parts[0], type % 2 && i == 0 ? "" : forms[i].ending);
+                if (strcmp(parts[4], "ok") != 0)
+                    snprintf(wanted, sizeof wanted, "%s|%s %s %d", parts[4], parts[6], parts[7], kind);
+                else if (i == SPEEDATE_FRONT)
+                    snprintf(wanted, sizeof wanted, "ok|%s|%s", parts[5], parts[7]);
+                else
+                    snprintf(wanted, sizeof wanted, "ok|%s", parts[5]);
+                fields[0] = call;
+                fields[1] = strcmp(parts[2], "0 0 0 0 0") == 0 ? "default" : parts[2];
+                tried += try_text(row, parts[3], size, wanted);
+            }
+    if (!tried)
+        FAIL("no form: %s\n", row);
 }
 
 int main(void) {
@@ -774,7 +834,7 @@ int main(void) {
         if (row[0] == 0 || row[0] == '#')
             continue;
         rows++;
-        run(row);
+        (strchr(row, '\t') ? run_reading : run)(row);
     }
     printf("%d rows, %d failures\n", rows, failures);
     return failures != 0 || rows == 0;

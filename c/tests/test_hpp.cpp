@@ -1,4 +1,5 @@
-// Tries every call of speedate.hpp: that it is the call of speedate.h that it says, with its arguments in their order.
+// Tries every call of speedate.hpp: that it is the call of speedate.h that it says, with its arguments in their order. Its
+// parsers have the answers of the rows of the second reading, standard input, which tests/rows.py describes.
 #include "speedate.hpp"
 
 #include <algorithm>
@@ -29,10 +30,6 @@ template <class T> static std::string said(const Result<T> &result) {
         to << result.error();
     return to.str();
 }
-// The same with the size of the value.
-template <class T> static std::string front(const Result<T> &result) {
-    return result ? said(result) + " " + std::to_string(result.size()) : said(result);
-}
 // The part that a text is refused for, and what it was read as: "none" for any other answer.
 template <class T> static std::string part_of(const Result<T> &result) {
     const Error &it = result.error();
@@ -53,6 +50,66 @@ static Config with(Unit unit, Overflow overflow, Order order, std::optional<std:
     config.overflow = overflow;
     config.iso_order = order;
     return config;
+}
+
+// The numbers of a value as a row has them.
+static std::string numbers_of(const SpeedateDate &it) {
+    return std::to_string(it.year) + " " + std::to_string(it.month) + " " + std::to_string(it.day);
+}
+static std::string numbers_of(const SpeedateTime &it) {
+    std::ostringstream to;
+    to << +it.hour << ' ' << +it.minute << ' ' << +it.second << ' ' << +it.has_offset << ' ' << it.microsecond << ' ' << it.offset;
+    return to.str();
+}
+static std::string numbers_of(const SpeedateDateTime &it) { return numbers_of(it.date) + " " + numbers_of(it.time); }
+static std::string numbers_of(const SpeedateDuration &it) {
+    std::ostringstream to;
+    to << it.negative << ' ' << it.day << ' ' << it.second << ' ' << it.microsecond;
+    return to.str();
+}
+// The last four fields of a row.
+template <class T> static std::string fields_of(const Result<T> &result) {
+    if (result)
+        return "ok\t" + numbers_of(result->c()) + "\t0\t" + std::to_string(result.size());
+    const Error &it = result.error();
+    return it.name() + std::string("\t\t") + std::to_string(it.start()) + "\t" + std::to_string(it.end());
+}
+
+static void rows() {
+    const std::array<std::pair<std::string, Form>, 4> forms = {
+        {{"text", Form::Text}, {"or_timestamp", Form::OrTimestamp}, {"strict", Form::Strict}, {"front", Form::Front}}};
+    int tried = 0;
+    for (std::string row, it; std::getline(std::cin, row);) {
+        std::istringstream fields(row);
+        std::array<std::string, 4> before;
+        for (std::string &field : before)
+            std::getline(fields, field, '\t');
+        std::string text, wanted((std::istreambuf_iterator<char>(fields)), std::istreambuf_iterator<char>());
+        for (std::size_t i = 0; i < before[3].size(); i++) {
+            const bool is_escaped = before[3][i] == '\\';
+            text += is_escaped ? static_cast<char>(std::stoi(before[3].substr(i + 2, 2), nullptr, 16)) : before[3][i];
+            i += is_escaped ? 3 : 0;
+        }
+        std::int32_t offset;
+        int has_offset, unit, overflow, order;
+        std::istringstream(before[2]) >> offset >> has_offset >> unit >> overflow >> order;
+        const Config config = with(static_cast<Unit>(unit), static_cast<Overflow>(overflow), static_cast<Order>(order),
+                                   has_offset ? std::optional<std::int32_t>(offset) : std::nullopt);
+        for (const auto &[name, form] : forms) {
+            if ((" " + before[1] + " ").find(" " + name + " ") == std::string::npos)
+                continue;
+            const std::string told = before[0] == "date"       ? fields_of(Date::parse(text, form, config))
+                                     : before[0] == "time"     ? fields_of(Time::parse(text, form, config))
+                                     : before[0] == "datetime" ? fields_of(DateTime::parse(text, form, config))
+                                                               : fields_of(Duration::parse(text, form, config));
+            tried++;
+            if (told != wanted) {
+                std::cerr << row << "\n    answered " << told << '\n';
+                failures++;
+            }
+        }
+    }
+    CHECK(tried > 2000);
 }
 
 // No integer wraps on its way into a value: numbers that are wider than a field, and than 64 bits, are refused as others are.
@@ -106,15 +163,9 @@ static void results() {
 }
 
 static void dates() {
-    const Config microseconds = with(Unit::Microsecond, Overflow::Error, Order::Lax);
     CHECK(said(Date::of(2020, 2, 29)) == "2020-02-29" && said(Date::of(2021, 2, 29)) == "out_of_range_day");
     CHECK(said(Date::of(SpeedateDate{10000, 13, 1})) == "date_too_large");
     CHECK(date("2020-02-29").year() == 2020 && date("2020-02-29").month() == 2 && date("2020-02-29").day() == 29);
-    CHECK(said(Date::parse("86400000000", Form::OrTimestamp, microseconds)) == "1970-01-02" && said(Date::parse("")) == "too_short");
-    CHECK(said(Date::parse("2020-02-29")) == "2020-02-29" && !Date::parse("1582934400") && !Date::parse("20200229"));
-    CHECK(front(Date::parse("2020-02-29 opening balance", Form::Front)) == "2020-02-29 10");
-    CHECK(front(Date::parse("86400", Form::OrTimestamp)) == "1970-01-02 5");
-    CHECK(said(Date::parse("2020-02-29", Form::Strict)) == "2020-02-29" && !Date::parse("86400", Form::Strict));
     CHECK(part_of(Date::parse("2020-13-01", Form::OrTimestamp)) == "5 7 2" && part_of(Date::parse("86400", Form::OrTimestamp)) == "none");
     CHECK(part_of(Date::parse("x", Form::Text, with(Unit::Infer, Overflow::Error, Order::Lax, 86400))) == "none");
     CHECK(said(Date::of(2020, -1, 1)) == "out_of_range_month" && said(Date::of(2020, 1, -1)) == "out_of_range_day");
@@ -131,19 +182,12 @@ static void dates() {
 }
 
 static void times() {
-    const Config cut = with(Unit::Infer, Overflow::Truncate, Order::Lax);
     const Time time = time_of("12:13:14.5+01:30");
     CHECK(time == Time::of(12, 13, 14, 500000, 5400).value() && time != Time::of(12, 13, 14, 500000).value());
     CHECK(time.hour() == 12 && time.minute() == 13 && time.second() == 14 && time.microsecond() == 500000);
     CHECK(time.offset() == 5400 && !time_of("12:13").offset());
     CHECK(said(Time::of(12, 60)) == "out_of_range_minute" && said(Time::of(12, 0, 0, 0, 86400)) == "out_of_range_tz");
     CHECK(Time::of(SpeedateTime{12, 13, 0, 0, 0, 7}).value() == time_of("12:13"));
-    CHECK(said(Time::parse("12:13:14.1234567", Form::Text, cut)) == "12:13:14.123456" &&
-          said(Time::parse("24:00")) == "out_of_range_hour");
-    CHECK(said(Time::parse("12:13:14Z", Form::Strict)) == "12:13:14Z" &&
-          said(Time::parse("12:13:14", Form::Strict)) == "tz_required");
-    CHECK(said(Time::parse("12:13:14.1234567Z", Form::Strict, cut)) == "12:13:14.123456Z");
-    CHECK(front(Time::parse("12:13:14.1234567Z GET /", Form::Front, cut)) == "12:13:14.123456Z 17");
     CHECK(said(Time::parse("12:13", Form::OrTimestamp)) == "config_out_of_range");
     CHECK(part_of(Time::parse("12:13+01:00", Form::Strict)) == "5 6 4");
     CHECK(said(Time::of(0, 0, -1)) == "out_of_range_second" && said(Time::of(0, 0, 0, 0, -60)) == "00:00:00-00:01");
@@ -160,14 +204,6 @@ static void date_times() {
           time_of("12:13").to_text(FractionDigits::Three) == "12:13:00.000");
     CHECK(DateTime::of(value.c()).value() == value && said(DateTime::of(SpeedateDateTime{})) == "out_of_range_month");
     CHECK(DateTime::of(SpeedateDateTime{{2020, 2, 29}, {12, 13, 0, 0, 0, 7}}).value() == moment("2020-02-29T12:13"));
-    CHECK(said(DateTime::parse("20000000001", Form::OrTimestamp, unix_time)) == "2603-10-11T11:33:21Z");
-    CHECK(said(DateTime::parse("2020-02-29 12:13")) == "2020-02-29T12:13:00" && !DateTime::parse("1"));
-    CHECK(said(DateTime::parse("2020-02-29 12:13:14.1234567", Form::Text, unix_time)) == "2020-02-29T12:13:14.123456");
-    CHECK(said(DateTime::parse("2020-02-29T12:13:14.1234567Z", Form::Strict, unix_time)) == "2020-02-29T12:13:14.123456Z");
-    CHECK(said(DateTime::parse("2020-02-29 12:13:14Z", Form::Strict)) == "invalid_char_date_time_sep");
-    CHECK(front(DateTime::parse("2026-11-22T12:13:14.1234567Z GET /", Form::Front, unix_time)) ==
-          "2026-11-22T12:13:14.123456Z 28");
-    CHECK(front(DateTime::parse("2026-11-01 08:00:00 -0500", Form::Front)) == "2026-11-01T08:00:00 19");
     CHECK(part_of(DateTime::parse("2026-11-22T12:00:00-ERROR", Form::Front)) == "20 22 5");
     CHECK(said(DateTime::from_timestamp(1, 2)) == "1970-01-01T00:00:01.000002");
     CHECK(said(DateTime::from_timestamp(20000000001, 0, unix_time)) == "2603-10-11T11:33:21Z");
@@ -192,9 +228,6 @@ static void durations() {
     CHECK(Duration::of(duration.c()).value() == duration);
     CHECK(said(Duration::of(SpeedateDuration{0, 0, 86400, 0})) == "duration_value_too_large");
     CHECK(said(Duration::parse("P1D1Y")) == "P1Y1D" && part_of(Duration::parse("P1D1Q")) == "4 5 8");
-    const Config strict = with(Unit::Infer, Overflow::Error, Order::Strict);
-    CHECK(said(Duration::parse("P1D1Y", Form::Text, strict)) == "duration_unit_order" &&
-          part_of(Duration::parse("P1D1Y", Form::Text, strict)) == "4 5 8");
     CHECK(said(Duration::parse("P1D", Form::Strict)) == "config_out_of_range");
     CHECK(duration.microseconds().value() == std::chrono::microseconds(-86402000003));
     CHECK(length("P999999999D").microseconds().error() == Error(SPEEDATE_NUMBER_TOO_LARGE));
@@ -430,6 +463,7 @@ static void keys() {
 }
 
 int main() {
+    rows();
     wide_numbers<int>();
     wide_numbers<unsigned>();
     wide_numbers<std::int64_t>();
