@@ -464,6 +464,7 @@ const STEPS = [
 async function readAll() {
   Object.assign(globalThis, await import("./shim.mjs"));
   await import("./rows.mjs");
+  await import("./readings.mjs");
   if (typeof Temporal !== "undefined") await import("./examples.js");
   const { readDrawn } = await import("./drawn.mjs");
   /** What a page shows in a frame. */
@@ -523,8 +524,8 @@ const FORM = [
 // ---- The pages, in the engine ----
 
 const files = {
-  ...Object.fromEntries(["rows.mjs", "helpers.mjs", "shim.mjs", "drawn.mjs"].map((it) => [it, readFileSync(it)])),
-  "speedate.js": source("out/js/speedate.js"), "columns.js": source("out/js/columns.js"), "rows.txt": source("c/tests/rows.txt"),
+  ...Object.fromEntries(["rows.mjs", "readings.mjs", "helpers.mjs", "shim.mjs", "drawn.mjs"].map((it) => [it, readFileSync(it)])),
+  "speedate.js": source("out/js/speedate.js"), "columns.js": source("out/js/columns.js"), "rows.txt": source("c/tests/rows.txt"), "readings.txt": source("tests/rows.txt"),
   "examples.js": scriptOf(source("docs/JAVASCRIPT.md"), "ts", "Temporal"), "form.js": scriptOf(source("docs/JAVASCRIPT.md"), "ts", "createElement"),
   "speedate.bare.js": source("out/js/speedate.bare.js"), "speedate.wasm": readFileSync(`${root}/out/js/speedate.wasm`),
   "page.html": source("out/try.html"), "without.html": source("out/try.html").replace("<title>", "<script>delete globalThis.WebAssembly</script>$&"),

@@ -1,6 +1,7 @@
-// Stands in for what rows.mjs and the examples take of Node, in an engine that has none of it.
-const rows = await (await fetch("rows.txt")).text();
-export const readFileSync = () => rows;
+// Stands in for what rows.mjs, readings.mjs and the examples take of Node, in an engine that has none of it.
+const NAMES = ["rows.txt", "readings.txt"];
+const files = Object.fromEntries(await Promise.all(NAMES.map(async (it) => [it, await (await fetch(it)).text()])));
+export const readFileSync = (name) => files[name];
 Object.assign(globalThis, { process: { argv: [] }, Buffer: { from: (text) => new TextEncoder().encode(text) } });
 
 const text = (it) => JSON.stringify(it, (_, it) => (typeof it === "bigint" ? `${it}n` : it));
