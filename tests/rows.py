@@ -75,7 +75,7 @@ def kept(loose):
 
 
 def drawn(draw, loose):
-    """A drawn row: a text of a family, or of parts, with up to three pieces changed, and a configuration."""
+    """A drawn row: a text of a family, or of parts, with other digits and up to three pieces changed, and a configuration."""
     kind = "datetime" if loose else draw.choice(list(FORMS))
     form = draw.choice(forms_of(kind, loose))
     if kind != "duration" and form != "or_timestamp" and draw.random() < 0.5:
@@ -86,7 +86,9 @@ def drawn(draw, loose):
     if loose and draw.random() < 0.5:
         text = f"2020-02-29 12:13:14{draw.choice(texts.ZONES)}{draw.choice(texts.ZONES)}"
     data = text.encode()
-    for _ in range(draw.choice([0, 0, 1, 1, 2, 3])):
+    if draw.random() < 0.5:
+        data = bytes(draw.choice(b"0123456789") if 48 <= it <= 57 and draw.random() < 0.25 else it for it in data)
+    for _ in range(draw.choice([0, 0, 0, 1, 2, 3])):
         at = draw.randrange(len(data) + 1)
         piece = draw.choice(BROKEN) if draw.random() < 0.05 else draw.choice(PIECES).encode()
         data = data[:at] + piece + data[at + draw.randrange(2):]

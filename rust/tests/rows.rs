@@ -1,4 +1,4 @@
-//! The rows of `c/tests/rows.txt` whose call, value and configuration the API has.
+//! The rows of `c/tests/rows.txt` whose call, value and configuration the API has. `readings.rs` has those of the parsers.
 
 use std::fmt::Debug;
 use std::panic::{catch_unwind, set_hook, take_hook};
@@ -7,7 +7,7 @@ use std::str::FromStr;
 use speedate::{
     duration_microseconds, int_parse_str, print_column, read_column, read_texts, Date, DateConfig, DatePrinter,
     DateReader, DateTime, DateTimeClockPrinter, DateTimeClockReader, DateTimeConfig, DateTimeOffsetReader,
-    DateTimeParser, DateTimePrinter, DateTimeReader, Duration, DurationPrinter, DurationReader, Form, LineConfig,
+    DateTimeParser, DateTimePrinter, DateTimeReader, Duration, DurationPrinter, DurationReader, LineConfig,
     LinePrinter, LineReader, MicrosecondsPrecisionOverflowBehavior, ParseError, Progress, Refused, TextReader, Time,
     TimeConfig, TimeOffsetReader, TimeParser, TimePrinter, TimeReader, TimestampUnit,
 };
@@ -27,8 +27,6 @@ fn rows() {
     assert!(columns > 70, "only {columns} rows of columns");
     let texts = tried.iter().filter(|(row, _)| row.contains("_texts|")).count();
     assert!(texts > 40, "only {texts} rows of columns of texts");
-    let parsers = tried.iter().filter(|(row, _)| row.contains("_parse")).count();
-    assert!(parsers > 140, "only {parsers} rows of parsers");
 }
 
 /// Whether a row tells what its call answers, if the API has the call. One that panics has a value out of range.
@@ -44,13 +42,8 @@ impl Row<'_> {
     fn is_right(&self) -> Option<bool> {
         let config = |place| self.get::<DateTimeConfig>(place);
         let time_config = |place| Some(config(place)?.time_config);
-        let behavior = |place| Some(time_config(place)?.microseconds_precision_overflow_behavior);
-        let text = |place: usize| self.0[place].as_bytes();
-        let is_right = match self.0[0] {
+        Some(match self.0[0] {
             "int_parse" => self.has(2, int_parse_str(self.0[1]).ok_or("invalid_integer")),
-            "date_parse" => self.has(3, Date::parse_bytes_with_config(text(2), &self.get(1)?)),
-            "date_parse_text" => self.has(2, Date::parse_bytes_rfc3339(text(1))),
-            "date_parse_front" => self.has_front(2, Date::parse_front(text(1))),
             "date_to_text" => self.has_text(2, self.get::<Date>(1)?),
             "date_from_timestamp" => {
                 let is_exact = *[false, true].get(self.get::<i64>(2)? as usize)?;
@@ -64,9 +57,6 @@ impl Row<'_> {
                 date => self.get(4) == date,
             },
             "date_days_between" => self.get(4) == Some(self.get::<Date>(2)?.days_since(&self.get(1)?)),
-            "time_parse" => self.has(3, Time::parse_bytes_with_config(text(2), &time_config(1)?)),
-            "time_parse_strict" => self.has(3, Time::parse_bytes_strict(text(2), behavior(1)?)),
-            "time_parse_front" => self.has_front(3, Time::parse_front(text(2), &time_config(1)?)),
             "time_to_text" => self.has_text(2, self.get::<Time>(1)?),
             "time_to_text_with_digits" => self.has_text(3, format!("{:.*}", self.digits()?, self.get::<Time>(1)?)),
             "time_compare" => self.has_order::<Time>()?,
@@ -76,10 +66,6 @@ impl Row<'_> {
             "time_total_seconds" => self.has_total(self.get::<Time>(1)?.total_seconds()),
             "time_total_ms" => self.has_total(self.get::<Time>(1)?.total_ms()),
             "time_in_timezone" => self.has(3, self.get::<Time>(1)?.in_timezone(self.get(2)?)),
-            "datetime_parse" => self.has(3, DateTime::parse_bytes_with_config(text(2), &config(1)?)),
-            "datetime_parse_text" => self.has(3, DateTime::parse_bytes_rfc3339_with_config(text(2), &time_config(1)?)),
-            "datetime_parse_strict" => self.has(3, DateTime::parse_bytes_strict(text(2), behavior(1)?)),
-            "datetime_parse_front" => self.has_front(3, DateTime::parse_front(text(2), &time_config(1)?)),
             "datetime_to_text" => self.has_text(2, self.get::<DateTime>(1)?),
             "datetime_to_text_with_digits" => {
                 self.has_text(3, format!("{:.*}", self.digits()?, self.get::<DateTime>(1)?))
@@ -94,7 +80,6 @@ impl Row<'_> {
             "datetime_unix_milliseconds" => self.has_total(self.get::<DateTime>(1)?.timestamp_tz_ms()),
             "datetime_unix_microseconds" => self.has_total(self.get::<DateTime>(1)?.timestamp_tz_us()),
             "datetime_in_timezone" => self.has(3, self.get::<DateTime>(1)?.in_timezone(self.get(2)?)),
-            "duration_parse" => self.has(3, Duration::parse_bytes_with_config(text(2), &time_config(1)?)),
             "duration_normalize" => {
                 let Duration { positive, day, second, microsecond } = self.get(1)?;
                 self.has(2, Duration::new(positive, day, second, microsecond))
@@ -145,32 +130,6 @@ impl Row<'_> {
             "time_print_column" => self.has_lines(&TimePrinter),
             "duration_print_column" => self.has_lines(&DurationPrinter),
             _ => return None,
-        };
-        Some(is_right && self.has_part()?)
-    }
-
-    /// Whether the parser that gives the part too has this answer, if the call is a parser. Its form ends the name of the call.
-    fn has_part(&self) -> Option<bool> {
-        let Some((kind @ ("date" | "time" | "datetime" | "duration"), form)) = self.0[0].split_once("_parse") else {
-            return Some(true);
-        };
-        let form = match (kind, form) {
-            ("date" | "datetime", "") => Form::OrTimestamp,
-            (_, "" | "_text") => Form::Text,
-            (_, "_strict") => Form::Strict,
-            (_, "_front") => Form::Front,
-            _ => panic!("{kind} in the form {form}"),
-        };
-        let config = || self.get::<DateTimeConfig>(1);
-        let text = self.0[2].as_bytes();
-        Some(match (kind, form) {
-            ("date", Form::OrTimestamp) => self.has_or_part(3, Date::parse_or_place(text, form, &self.get(1)?)),
-            ("date", _) => {
-                self.has_or_part(2, Date::parse_or_place(self.0[1].as_bytes(), form, &DateConfig::default()))
-            }
-            ("time", _) => self.has_or_part(3, Time::parse_or_place(text, form, &config()?.time_config)),
-            ("datetime", _) => self.has_or_part(3, DateTime::parse_or_place(text, form, &config()?)),
-            _ => self.has_or_part(3, Duration::parse_or_place(text, form, &config()?.time_config)),
         })
     }
 
@@ -262,26 +221,6 @@ impl Row<'_> {
             "value_out_of_range" => self.0[1..place].iter().find_map(|value| checked(value)).unwrap_or_default(),
             "config_out_of_range" => "out_of_range_tz",
             code => code,
-        }
-    }
-
-    fn has_front<T: Field + PartialEq>(&self, place: usize, answer: Result<(T, usize), ParseError>) -> bool {
-        let size = answer.as_ref().map_or(0, |front| front.1);
-        self.has(place, answer.map(|front| front.0)) && self.get::<i64>(place + 2).unwrap_or(0) == size as i64
-    }
-
-    /// Whether a value has this size, which only a row of fronts names, or a refusal this part, and what was expected there.
-    fn has_or_part<T: Field + PartialEq>(&self, place: usize, answer: Result<(T, usize), Refused>) -> bool {
-        match answer {
-            Ok((value, size)) => {
-                self.has(place, Ok::<_, ParseError>(value))
-                    && self.get(place + 2).unwrap_or(self.0[place - 1].len()) == size
-            }
-            Err(refused) => {
-                let part = format!("{} {} ", refused.start, refused.end);
-                let kind = self.0.get(place + 1).unwrap_or(&"0 0 0").strip_prefix(&part);
-                self.0[place] == refused.fault.to_string() && kind.is_some_and(|kind| is_expected(&refused, kind))
-            }
         }
     }
 
