@@ -1,5 +1,5 @@
-"""Tests of the extension, beside the module over ctypes of oracle.py: drawn calls, wrong types, tampered configurations,
-references, interpreters and threads. An argument is how many calls are drawn."""
+"""Tests of the extension: columns in each kind of input, printing beside `datetime`, wrong types, tampered configurations,
+references, interpreters and threads. An argument is how many calls are drawn. test_readings.py has what texts are read as."""
 import array
 import collections
 import copy
@@ -19,13 +19,10 @@ import types
 import unittest
 import weakref
 
-sys.path.insert(0, str(pathlib.Path(__file__).resolve().parent))
-import oracle
 import speedate
-from speedate import _speedate
+from speedate import _speedate, _types
 
 COUNT = 100_000
-SIDES = (speedate, oracle)
 CALLS = speedate.__all__
 DAY = datetime.date(2020, 2, 29)
 KINDS = ["date", "time", "datetime", "datetime_clock", "duration"]
@@ -168,6 +165,18 @@ def drawn_numbers(draw, name):
         lambda: memoryview(array.array("q", [*numbers, *numbers]))[::2], lambda: array.array("Q", map(abs, numbers)), lambda: array.array("h", [it % 2**15 for it in numbers])])
 
 
+# What a signature has between its name and the options that all columns have.
+OF_COLUMNS = "refused='stop', empty='error', lines=False)"
+SIGNATURES = {
+    "date": "(value, *, config=None, timestamps=False)", "time": "(value, *, config=None, strict=False)",
+    "datetime": "(value, *, config=None, timestamps=False, strict=False)", "duration": "(value, *, config=None)",
+    "date_front": "(value)", "time_front": "(value, *, config=None)", "datetime_front": "(value, *, config=None)",
+    "datetime_column": f"(value, *, config=None, timestamps=False, strict=False, missing_offset='error', {OF_COLUMNS}",
+    **dict.fromkeys(["datetime_clock_column", "datetime_offset_column", "date_column"], f"(value, *, config=None, timestamps=False, strict=False, {OF_COLUMNS}"),
+    "time_column": f"(value, *, config=None, strict=False, {OF_COLUMNS}", "duration_column": f"(value, *, config=None, {OF_COLUMNS}",
+    "text_column": "(value, *, kind=None)", "text": "(value, *, digits=None)"}
+
+
 def array_of(numpy, items):
     """An array of objects, whatever these are."""
     made = numpy.empty(len(items), object)
@@ -200,6 +209,8 @@ def mapped(lines):
     return made
 
 
+TEXTS = str, bytes, bytearray, memoryview
+CHOICES = {"missing_offset": ("error", "utc"), "refused": ("stop", "number", "collect"), "empty": ("error", "nat")}
 # The drawn values of a parameter.
 DRAWN = {
     **dict.fromkeys(["timestamps", "strict", "lines"], lambda draw, name: draw.random() < 0.5),
@@ -311,6 +322,75 @@ def wrong_calls():
         yield name, (), {}
 
 
+def wrong_argument(name, parameter, it):
+    """The error of an argument by its type and its value, or nothing if it may be right, or if its items decide."""
+    try:
+        if parameter == "config":
+            if it is not None and type(it) is not speedate.Config:
+                raise _types._wrong("config", it, speedate.Config)
+        elif parameter in ("timestamps", "strict", "lines"):
+            if type(it) is not bool:
+                raise _types._wrong(parameter, it, bool)
+        elif parameter in CHOICES:
+            _types._choice(parameter, it, *CHOICES[parameter])
+        elif parameter == "digits":
+            if it is not None and _types._integer("digits", it, 0, 6) % 3:
+                raise ValueError("digits has to be 0 or 3 or 6")
+            if it is not None:
+                raise TypeError(f"value has to be datetime or time if there are digits, not date")
+        elif parameter == "value" and name == "text":
+            _types._plain(it)
+        elif parameter == "value" and name.endswith("_front"):
+            if not isinstance(it, TEXTS):
+                raise _types._wrong("value", it, *TEXTS)
+        elif parameter == "value" and not name.endswith("_column"):
+            if not isinstance(it, TEXTS):
+                raise _types._wrong_text(-1, it, "timestamps" in [other.name for other in PARAMETERS[name]])
+        elif parameter == "value" and name != "text_column" and not isinstance(it, (bytes, bytearray, memoryview, array.array)):
+            iter(_types._items(it)[0])
+    except Exception as error:
+        return error
+
+
+# ---- Printing ----
+
+
+def printed(value, digits=None):
+    """The text of a value by what `datetime` prints of it, or nothing if its zone has no offset of whole minutes, or it is not equal
+    to itself."""
+    if isinstance(value, Size):
+        return None
+    if isinstance(value, datetime.timedelta):
+        size = abs(value)
+        days, (minutes, second) = [size.days // 365, size.days % 365], divmod(size.seconds, 60)
+        second = f"{second}.{size.microseconds:06}".rstrip("0") if size.microseconds else second
+        before, after = ["".join(f"{it}{unit}" for it, unit in zip(some, units) if it) for some, units in ((days, "YD"), ([minutes // 60, minutes % 60, second], "HMS"))]
+        return f"{'-' if value.days < 0 else ''}P{before}{'T' if after or not before else ''}{after or '0S' * (not before)}"
+    if not isinstance(value, (datetime.time, datetime.datetime)):
+        return value.isoformat()
+    offset = value.utcoffset()
+    if offset is None and value.tzinfo is not None or offset is not None and offset % datetime.timedelta(minutes=1):
+        return None
+    spans = {0: "seconds", 3: "milliseconds", 6: "microseconds", None: "microseconds" if value.microsecond else "seconds"}
+    text = value.isoformat(timespec=spans[digits])
+    return text if offset != datetime.timedelta(0) else text[:-6] + "Z"
+
+
+# The bounds of the numbers of columns, without the year 0.
+DAYS = datetime.date(1970, 1, 1).toordinal()
+MOMENTS = (1 - DAYS) * 86_400 * 10**6, (datetime.date.max.toordinal() + 1 - DAYS) * 86_400 * 10**6 - 1
+BOUNDS = {"date": (1 - DAYS, datetime.date.max.toordinal() - DAYS), "datetime": MOMENTS, "datetime_clock": MOMENTS, "time": (0, 86_400 * 10**6 - 1), "duration": (1 - 2**63, 2**63 - 1)}
+
+
+def line_of(kind, number):
+    """The text of a number of a column."""
+    if kind == "date":
+        return datetime.date.fromordinal(DAYS + number).isoformat()
+    size = datetime.timedelta(microseconds=number)
+    moment = datetime.datetime(1970, 1, 1) + size if kind != "duration" else None
+    return printed({"time": lambda: moment.time(), "duration": lambda: size}.get(kind, lambda: moment)()) + "Z" * (kind == "datetime")
+
+
 # ---- References ----
 
 
@@ -418,18 +498,38 @@ def in_threads(call, count=8):
 class Extension(unittest.TestCase):
     maxDiff = None
 
-    def test_drawn_calls(self):
-        draw, kinds = random.Random(COUNT), collections.Counter()
-        for _ in range(COUNT):
-            call = drawn_call(draw)
-            wanted, told = outcome(oracle, *call), outcome(speedate, *call)
-            if told != wanted:
-                self.fail(f"{call[0]} {[it(speedate) for it in call[1]]} { {word: it(speedate) for word, it in call[2].items()} } answers {told}, and not {wanted}")
-            kinds[wanted[0]] += 1
-        print(dict(kinds.most_common()))
+    def test_printing(self):
+        draw, refused = random.Random(COUNT), 0
+        for _ in range(COUNT // 4):
+            value, digits = drawn_value(draw, "text"), draw.choice([None, None, 0, 3, 6])
+            digits = digits if isinstance(value, (datetime.time, datetime.datetime)) else None
+            wanted = printed(value, digits)
+            refused += wanted is None
+            if wanted is None:
+                with self.assertRaises(ValueError):
+                    speedate.text(value, digits=digits)
+            else:
+                self.assertEqual(speedate.text(value, digits=digits), wanted)
+        self.assertTrue(COUNT // 40 < refused < COUNT // 8, refused)
+
+    def test_printed_columns(self):
+        draw = random.Random(COUNT)
+        for kind, (least, most) in BOUNDS.items():
+            read = getattr(speedate, f"{kind}_column")
+            numbers = [least, most, 0, *(draw.randrange(least, most + 1) for _ in range(COUNT // 50)), *(draw.randrange(-10**6, 10**6) % most for _ in range(COUNT // 50))]
+            wanted = "".join(f"{line_of(kind, it)}\n" for it in numbers).encode()
+            column = array.array("q", numbers)
+            for it in (numbers, tuple(numbers), iter(numbers), column, memoryview(column), memoryview(array.array("q", [it for it in numbers for _ in "12"]))[::2], speedate.Column(kind, column)):
+                self.assertEqual(speedate.text_column(it, kind=kind), wanted)
+            for it in (wanted, wanted.splitlines(), io.BytesIO(wanted)):
+                self.assertEqual(list(read(it)), numbers)
+            self.assertEqual(speedate.text_column([-(2**63), None], kind=kind), b"\n\n")
+            for it in (least - 1 - 366 * {"date": 1, "time": 0}.get(kind, 86_400 * 10**6), most + 1, 2**63, -(2**63) - 1):
+                with self.assertRaises((speedate.ParseError, OverflowError)):
+                    speedate.text_column([0, it], kind=kind)
 
     def test_drawn_columns(self):
-        """Columns of many texts and lines, in each kind of input, beside as many calls of one text."""
+        """Columns of many texts and lines have the same numbers and errors in each kind of input."""
         draw, numbers = random.Random(COUNT), collections.Counter()
         for name in [*COLUMNS] * 4:
             texts = [drawn_text(draw, name) for _ in range(min(COUNT // 10, 2_000))]
@@ -440,19 +540,25 @@ class Extension(unittest.TestCase):
             for refused in ("number", "collect"):
                 for kinds in (kinds_of_items(texts), kinds_of_lines(lines)):
                     first, *others = [(name, [anew(make)], {**options, "refused": same(refused)}) for make in kinds]
-                    wanted = outcome(oracle, *first)
-                    for call in (first, *others):
+                    wanted = outcome(speedate, *first)
+                    for call in others:
                         self.assertTrue(outcome(speedate, *call) == wanted, (name, type(call[1][0](speedate))))
             numbers[name] += sum(it != -(2**63) for it in getattr(speedate, name)(texts, refused="number"))
         for name in COLUMNS:
             self.assertGreater(numbers[name], 4 * min(COUNT // 10, 2_000) // 20, name)
 
     def test_wrong_types(self):
-        configs = [("Config", (), {field: wrong}) for field in speedate.Config.__match_args__ for wrong in ODD]
-        for name, positional, named in [*wrong_calls(), *configs]:
-            wanted, told = (outcome(side, name, positional, named) for side in SIDES)
-            with self.subTest(name, named={word: it(speedate) for word, it in named.items()}):
-                self.assertEqual(told, wanted)
+        for name in CALLS:
+            for it in PARAMETERS[name]:
+                for make in ODD:
+                    wrong = make(speedate)
+                    with self.subTest(name, **{it.name: wrong}):
+                        wanted = wrong_argument(name, it.name, wrong)
+                        if wanted is not None:
+                            told = outcome(speedate, name, (), {"value": same(right(name)), it.name: same(wrong)})
+                            self.assertEqual(told[:2], (type(wanted).__name__, str(wanted)))
+            for positional, named in ((), {"value": same(right(name)), "other": same(1)}), ([same("12:13")], {"value": same("12:13")}), ((), {}):
+                self.assertEqual(outcome(speedate, name, positional, named)[0], "TypeError")
 
     def test_drawn_wrong_types(self):
         draw = random.Random(1)
@@ -500,8 +606,7 @@ class Extension(unittest.TestCase):
             call = getattr(speedate, name)
             self.assertIs(copy.deepcopy(call), call)
             self.assertEqual((call.__module__, call.__qualname__, call.__name__), ("speedate", name, name))
-            wanted = inspect.signature(getattr(oracle, name))
-            self.assertEqual(str(inspect.signature(call)), str(wanted))
+            self.assertEqual(str(inspect.signature(call)), SIGNATURES[name])
 
     def test_references(self):
         text, odd, config = "2020-02-29T12:13:14.5+05:53", "2020-02-29T12:13\u221200:30", speedate.Config()

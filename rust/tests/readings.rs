@@ -16,7 +16,7 @@ const ROWS_OF_C: &str = include_str!("../../c/tests/rows.txt");
 fn rows() {
     assert!(try_rows(KEPT) > 3_000);
     if let Some(file) = std::env::var_os("SPEEDATE_ROWS") {
-        assert!(try_rows(&std::fs::read_to_string(file).unwrap()) > 4_000);
+        assert!(try_rows(&std::fs::read_to_string(file).unwrap()) > 3_000);
     }
 }
 
