@@ -15,14 +15,9 @@ COLUMN.text = COLUMN.errors + LINES_AT_ONCE;
 
 // ---- Options ----
 
-const STOP = 0;
-const COLLECT = 2;
-Object.assign(CHOICES, { unit: ["ms", "us"], refused: ["stop", "number", "collect"] });
-function sizeOption(value, name) {
-  if (Number.isInteger(value) && value >= 0) return value;
-  throw new TypeError(`${name} has to be an integer, and not negative`);
-}
-Object.assign(CHECKED, { maxRefusals: sizeOption, maxLineBytes: sizeOption });
+const UNIT = { ms: 0x40000, us: 0x80000 };
+const REFUSED = { stop: 0x100000, number: 0x200000, collect: 0x400000 };
+Object.assign(BITS, { unit: UNIT, refused: REFUSED });
 
 // ---- Columns ----
 
@@ -66,17 +61,16 @@ const asFronts = (numbers) => ({
 });
 
 /** The kinds of columns: the call in C, the options, and the kind of the call for a line. */
-const OF_COLUMNS = ["refused", "maxRefusals", "maxLineBytes"];
-const optionsOf = ({ forms, names }, ...more) => ({ forms, names: [...names, ...more, ...OF_COLUMNS] });
-const PARTS = { ...OPTIONS_OF.dateTime, names: ["timestampUnit", "overflow"] };
+const IN_UNITS = bitsOf(UNIT);
+const PARTS = OPTIONS_OF.dateTime & ~bitsOf(MISSING);
 const COLUMNS = {
-  date: { call: "date_lines", options: optionsOf(OPTIONS_OF.date), kinds: KINDS.date },
-  dateTime: { call: "datetime_lines", options: optionsOf({ ...OPTIONS_OF.dateTime, forms: Object.keys(FORM) }, "unit"), kinds: KINDS.instant },
-  dateTimeClock: { call: "datetime_clock_column", options: optionsOf(PARTS, "unit"), kinds: KINDS.dateTime },
-  dateTimeOffset: { call: "datetime_offset_lines", options: optionsOf(PARTS), kinds: KINDS.instant },
-  time: { call: "time_lines", options: optionsOf(OPTIONS_OF.time, "unit"), kinds: KINDS.time },
-  timeOffset: { call: "time_offset_lines", options: optionsOf(OPTIONS_OF.time), kinds: KINDS.offset },
-  duration: { call: "duration_lines", options: optionsOf(OPTIONS_OF.duration, "unit"), kinds: KINDS.duration },
+  date: { call: "date_lines", options: OPTIONS_OF.date, kinds: KINDS.date },
+  dateTime: { call: "datetime_lines", options: OPTIONS_OF.dateTime | FORMS.front | IN_UNITS, kinds: KINDS.instant },
+  dateTimeClock: { call: "datetime_clock_column", options: PARTS | IN_UNITS, kinds: KINDS.dateTime },
+  dateTimeOffset: { call: "datetime_offset_lines", options: PARTS, kinds: KINDS.instant },
+  time: { call: "time_lines", options: OPTIONS_OF.time | IN_UNITS, kinds: KINDS.time },
+  timeOffset: { call: "time_offset_lines", options: OPTIONS_OF.time, kinds: KINDS.offset },
+  duration: { call: "duration_lines", options: OPTIONS_OF.duration | IN_UNITS, kinds: KINDS.duration },
 };
 
 /** A column that comes in pieces. The first `size` bytes of `unfinished` are a line that has not ended, and `half` is half a pair that
@@ -84,16 +78,20 @@ const COLUMNS = {
 function newColumn(name, options) {
   choiceOf(name, Object.keys(COLUMNS), "kind");
   const { call, options: its, kinds: usual } = COLUMNS[name];
-  const numbers = numbersOf(options, its);
-  const { form, missingOffset, unit = 0, refused = STOP } = numbers;
-  if (numbers.maxRefusals !== undefined && refused !== COLLECT) throw new TypeError("maxRefusals has to be given with refused: collect");
+  const sizes = { maxRefusals: undefined, maxLineBytes: undefined };
+  const numbers = numbersOf(options, its | bitsOf(REFUSED), sizes);
+  const refused = numbers & bitsOf(REFUSED);
+  if (sizes.maxRefusals !== undefined && refused !== REFUSED.collect) throw new TypeError("maxRefusals has to be given with refused: collect");
   start();
+  const form = formOf(numbers);
   const isFront = form === FORM.front;
-  const kinds = missingOffset === MISSING.utc ? KINDS.dateTime : usual;
-  const returned = its.names.includes("unit") ? UNITS_OF_COLUMNS[unit] : INTEGERS;
+  const parser = isFront ? FORM.text : form;
+  const kinds = numbers & MISSING.utc ? KINDS.dateTime : usual;
+  const returned = its & IN_UNITS ? UNITS_OF_COLUMNS[numbers & UNIT.us ? 1 : 0] : INTEGERS;
   return {
-    call: isFront ? "datetime_front_lines" : call, kind: kinds[isFront ? FORM.text : form], ...(isFront ? asFronts : asNumbers)(returned),
-    numbers, refused, parser: isFront ? FORM.text : form, lines: 0, refusedCount: 0, unfinished: new Uint8Array(0), size: 0, half: "", hasBegun: false, hasEnded: false,
+    call: isFront ? "datetime_front_lines" : call, kind: kinds[parser], ...(isFront ? asFronts : asNumbers)(returned), ...sizes,
+    numbers, parser, isStopped: (refused || REFUSED.stop) === REFUSED.stop, isCollected: refused === REFUSED.collect,
+    lines: 0, refusedCount: 0, unfinished: new Uint8Array(0), size: 0, half: "", hasBegun: false, hasEnded: false,
   };
 }
 
@@ -136,11 +134,11 @@ function bytesOfPiece(column, text, isEnd) {
 }
 
 /** Writes the configuration of a column, and returns its address. Returns at the ends of lines are dropped. */
-function putColumnConfig({ start, view }, { parser, numbers: { missingOffset = MISSING.error } }, isEnd) {
+function putColumnConfig({ start, view }, { parser, numbers }, isEnd) {
   view.setUint8(COLUMN.config, isEnd ? 1 : 0);
   view.setUint8(COLUMN.config + 1, 1);
   view.setUint8(COLUMN.config + 2, parser);
-  view.setUint8(COLUMN.config + 3, missingOffset);
+  view.setUint8(COLUMN.config + 3, numbers & MISSING.utc ? 1 : 0);
   view.setUint8(COLUMN.config + 4, 0);
   return BigInt(start + COLUMN.config);
 }
@@ -159,7 +157,7 @@ function putUnfinished({ unfinished, size }) {
 function readLines(column, isEnd, parts, refusals) {
   const { library, end } = putUnfinished(column);
   const { start, bytes, view } = library;
-  const { maxRefusals = Infinity } = column.numbers;
+  const { maxRefusals = Infinity } = column;
   const config = putConfig(library, column.numbers);
   const columnConfig = putColumnConfig(library, column, isEnd);
   const call = library.calls[`speedate_${column.call}`];
@@ -172,7 +170,7 @@ function readLines(column, isEnd, parts, refusals) {
   };
   for (;;) {
     // With errors each line gets a number, otherwise the first one that is refused ends the call.
-    const hasErrors = column.refused !== STOP && (column.refused !== COLLECT || column.refusedCount >= maxRefusals);
+    const hasErrors = !column.isStopped && (!column.isCollected || column.refusedCount >= maxRefusals);
     const room = BigInt(LINES_AT_ONCE - lines);
     const out = BigInt(start + COLUMN.numbers + lines * column.width);
     accept(call(BigInt(start + at), BigInt(end - at), config, columnConfig, out, room, hasErrors ? errors : 0n, hasErrors ? room : 0n, progress));
@@ -190,7 +188,7 @@ function readLines(column, isEnd, parts, refusals) {
       const text = bytes.slice(at, lineEnd > at && bytes[lineEnd - 1] === RETURN ? lineEnd - 1 : lineEnd);
       const part = COLUMN.progress + 24;
       const refusal = { index: column.lines + lines, code, expected, text, start: view.getUint32(part, true), end: view.getUint32(part + 8, true) };
-      if (column.refused === STOP) throw Object.assign(new SpeedateError(refusal, text, refusal), { index: refusal.index });
+      if (column.isStopped) throw Object.assign(new SpeedateError(refusal, text, refusal), { index: refusal.index });
       refusals.push(refusal);
       column.putRefused(view, COLUMN.numbers + lines * column.width);
       column.refusedCount++;
@@ -237,7 +235,7 @@ function readPiece(column, text, isEnd) {
 
 /** Throws if a line is longer than `maxLineBytes`, wherever its pieces were cut. The lines before it are read first. */
 function checkLines(column, isEnd, parts, refusals) {
-  const { unfinished, size, numbers: { maxLineBytes } } = column;
+  const { unfinished, size, maxLineBytes } = column;
   if (maxLineBytes === undefined) return;
   for (let at = 0; at < size; ) {
     const feed = unfinished.indexOf(LINE_FEED, at);

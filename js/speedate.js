@@ -30,7 +30,6 @@ const INVALID_TYPE = -1;
 const NO_ROOM = -2;
 /** The forms of texts, with their numbers in C, which has its own calls for fronts. */
 const FORM = { text: 0, orTimestamp: 1, strict: 2, front: 3 };
-const MISSING = { error: 0, utc: 1 };
 /** C's numbers for the kinds of calls, by the forms of texts. The phrase for what is expected depends on the kind. */
 const NONE = 0;
 const KINDS = {
@@ -52,23 +51,28 @@ export class SpeedateError extends RangeError {
     return true;
   }
 
-  name = "SpeedateError";
-  code;
-  expected;
-  constructor({ code, expected }, text, part) {
-    super(`expected ${expected}`);
-    this.code = code;
-    this.expected = expected;
-    if (part === undefined) return;
-    this.text = text;
-    this.start = part.start;
-    this.end = part.end;
+  constructor(reason, text, part) {
+    super(`expected ${reason.expected}`);
+    fill(this, reason, text, part);
   }
 
   toJSON() {
     const { text, ...others } = this;
     return { message: this.message, ...others };
   }
+}
+// Where RangeError is frozen, its name could not be hidden by an assignment.
+Object.defineProperty(SpeedateError.prototype, "name", { value: "SpeedateError", writable: true });
+
+/** Gives an error its fields. */
+function fill(error, { code, expected }, text, part) {
+  error.name = "SpeedateError";
+  error.code = code;
+  error.expected = expected;
+  if (part === undefined) return;
+  error.text = text;
+  error.start = part.start;
+  error.end = part.end;
 }
 
 // ---- The module ----
@@ -237,7 +241,7 @@ function largeLibrary(size) {
 function read(text, isFront, numbers, call) {
   start();
   const short = putShort(text);
-  const form = isFront ? FORM.front : numbers.form;
+  const form = isFront ? FORM.front : formOf(numbers);
   if (short !== undefined) return call(kept, short, numbers, form);
   const bytes = typeof text === "string" ? encoded(text) : text;
   if (!isBytes(bytes)) return INVALID_TYPE;
@@ -271,15 +275,19 @@ function integer64(value, name) {
   return it;
 }
 
-const UNITS = ["infer", "s", "ms", "us"];
-/** The values of options. The index of a value is its number in C. */
-const CHOICES = { timestampUnit: UNITS, overflow: ["error", "truncate"], isoOrder: ["lax", "strict"], missingOffset: Object.keys(MISSING) };
-/** The options of a call without any. Each name is here, since a prototype might have it. */
-const noNumbers = () => ({
-  form: FORM.text, timestampUnit: undefined, overflow: 0, isoOrder: 0, missingOffset: undefined, digits: undefined,
-  unit: undefined, refused: undefined, maxRefusals: undefined, maxLineBytes: undefined,
-});
-const NO_OPTIONS = noNumbers();
+/** The options of a call are one number, which is 0 without any. Each value has its bits there. From the second byte on they are also those of
+ * a configuration in C, where CONFIG_BITS have a meaning. */
+const FORMS = { text: 1, orTimestamp: 2, strict: 4, front: 8 };
+const IN_UNIT = { infer: 0x400, s: 0x500, ms: 0x600, us: 0x700 };
+const OVERFLOW = { error: 0x20000, truncate: 0x30000 };
+const ISO_ORDER = { lax: 0x2000000, strict: 0x3000000 };
+const MISSING = { error: 0x800, utc: 0x1000 };
+const DIGITS = { 0: 0x2000, 3: 0x4000, 6: 0x8000 };
+const BITS = { __proto__: null, form: FORMS, timestampUnit: IN_UNIT, overflow: OVERFLOW, isoOrder: ISO_ORDER, missingOffset: MISSING, digits: DIGITS };
+const CONFIG_BITS = 0x1010300;
+/** No call takes this. */
+const WRONG = 0x20000000;
+const formOf = (numbers) => 31 - Math.clz32((numbers & 15) | 1);
 
 function choiceOf(value, choices, name) {
   const number = choices.indexOf(value);
@@ -287,60 +295,66 @@ function choiceOf(value, choices, name) {
   return number;
 }
 
-function digitsOption(value) {
-  if ([0, 3, 6].includes(value)) return value;
-  throw new TypeError("digits has to be one of 0, 3, 6");
-}
-/** What checks the value of an option that is not one of CHOICES. */
-const CHECKED = { __proto__: null };
-
-function isPlain(it) {
+/** Throws unless options are a plain object, also of another realm. */
+function requirePlain(it) {
   const parent = typeof it === "object" && it !== null && Object.getPrototypeOf(it);
-  return parent === Object.prototype || parent === null || (parent !== false && Object.getPrototypeOf(parent) === null);
+  if (parent === false || (parent !== null && Object.getPrototypeOf(parent) !== null)) throw new TypeError("options has to be a plain object");
 }
 
-/** Checks the options of a call that has these forms and names, and returns each as a number of C. This has to be quick, so that an
- * option costs little beside its call. */
-function numbersOf(options, { forms, names }) {
-  if (options === undefined) return NO_OPTIONS;
-  if (!isPlain(options)) throw new TypeError("options has to be a plain object");
-  const numbers = noNumbers();
+const hasOwn = Object.prototype.hasOwnProperty;
+/** The last options: mostly a call has the same object as the one before. */
+let plain;
+/** Checks the options of a call that takes these bits, and returns theirs. Sizes go into an object. This has to be quick, so that an option costs
+ * little beside its call: an engine takes longer to find a prototype than for all else here, and longer for a table than to compare strings. */
+function numbersOf(options, its, sizes) {
+  if (options === undefined) return 0;
+  if (options !== plain) {
+    if (options === null || options.constructor !== Object) requirePlain(options);
+    plain = options;
+  }
+  let numbers = 0;
   let isEmpty = true;
   for (const name in options) {
-    if (!Object.hasOwn(options, name)) continue;
+    if (!hasOwn.call(options, name)) {
+      requirePlain(options);
+      continue;
+    }
     isEmpty = false;
     const value = options[name];
     if (value === undefined) continue;
-    if (name === "form" ? forms === undefined : !names.includes(name)) throw new TypeError(`${name} is no option of this call`);
-    if (name === "form") numbers.form = formNumber(value, forms);
-    else if (name === "overflow") numbers.overflow = choiceOf(value, CHOICES.overflow, name);
-    else if (name === "timestampUnit") numbers.timestampUnit = choiceOf(value, UNITS, name);
-    else if (name === "isoOrder") numbers.isoOrder = choiceOf(value, CHOICES.isoOrder, name);
-    else if (name === "digits") numbers.digits = digitsOption(value);
-    else numbers[name] = CHECKED[name] === undefined ? choiceOf(value, CHOICES[name], name) : CHECKED[name](value, name);
+    let bits = WRONG;
+    if (name === "overflow") bits = value === "truncate" ? OVERFLOW.truncate : WRONG;
+    else if (name === "form") bits = value === "strict" ? FORMS.strict : value === "orTimestamp" ? FORMS.orTimestamp : value === "text" ? FORMS.text : WRONG;
+    else if (name === "missingOffset") bits = value === "utc" ? MISSING.utc : value === "error" ? MISSING.error : WRONG;
+    else if (name === "timestampUnit") bits = value === "s" ? IN_UNIT.s : value === "ms" ? IN_UNIT.ms : WRONG;
+    else if (name === "isoOrder") bits = value === "strict" ? ISO_ORDER.strict : WRONG;
+    else if (name === "digits") bits = value === 3 ? DIGITS[3] : value === 0 ? DIGITS[0] : WRONG;
+    numbers |= (bits & ~its) === 0 ? bits : otherBits(name, value, its, sizes);
   }
-  if (isEmpty && Reflect.ownKeys(options).length > 0) throw new TypeError("a symbol or a hidden property is no option");
-  if ((numbers.form === FORM.orTimestamp) !== (numbers.timestampUnit !== undefined)) {
-    throw new TypeError("timestampUnit has to be given with the form orTimestamp, and with no other");
-  }
+  if (isEmpty) requireEmpty(options);
+  if (((numbers >> 1) ^ (numbers >> 10)) & 1) throw new TypeError("timestampUnit has to be given with the form orTimestamp, and with no other");
   return numbers;
 }
 
-function formNumber(value, forms) {
-  choiceOf(value, forms, "form");
-  return FORM[value];
+/** The same of an option that is rare, or wrong. */
+function otherBits(name, value, its, sizes) {
+  const choices = Object.entries(BITS[name] ?? {}).filter(([, bits]) => (bits & ~its) === 0).map(([it]) => (name === "digits" ? Number(it) : it));
+  if (choices.length > 0) return BITS[name][choices[choiceOf(value, choices, name)]];
+  if (sizes === undefined || !hasOwn.call(sizes, name)) throw new TypeError(`${name} is no option of this call`);
+  if (!Number.isInteger(value) || value < 0) throw new TypeError(`${name} has to be an integer, and not negative`);
+  sizes[name] = value;
+  return 0;
 }
 
-/** Writes a configuration into the memory of a library, and returns its address. */
+function requireEmpty(options) {
+  requirePlain(options);
+  if (Reflect.ownKeys(options).length > 0) throw new TypeError("a symbol or a hidden property is no option");
+}
+
+/** Writes a configuration into the memory of a library, and returns its address. Before it a timestamp has the offset of UTC. */
 function putConfig({ view }, numbers) {
-  if (numbers === NO_OPTIONS) return address.defaultConfig;
-  const { form, timestampUnit, overflow, isoOrder } = numbers;
-  // A timestamp is in UTC.
-  view.setInt32(PLACE.config, 0, true);
-  view.setUint8(PLACE.config + 4, form === FORM.orTimestamp ? 1 : 0);
-  view.setUint8(PLACE.config + 5, timestampUnit ?? 0);
-  view.setUint8(PLACE.config + 6, overflow);
-  view.setUint8(PLACE.config + 7, isoOrder);
+  if (numbers === 0) return address.defaultConfig;
+  view.setUint32(PLACE.config + 4, (numbers & CONFIG_BITS) | ((numbers >> 1) & 1), true);
   return address.config;
 }
 
@@ -550,41 +564,41 @@ function check(it, place) {
 // Each reader has its own function, with a short way for a short string. An engine compiles a function for the calls that it has
 // seen there, and here it sees only one.
 
+const bitsOf = (all) => Object.values(all).reduce((one, it) => one | it, 0);
 const OPTIONS_OF = {
-  date: { forms: ["text", "orTimestamp"], names: ["timestampUnit"] }, time: { forms: ["text", "strict"], names: ["overflow"] },
-  dateTime: { forms: ["text", "orTimestamp", "strict"], names: ["timestampUnit", "overflow", "missingOffset"] },
-  duration: { forms: undefined, names: ["overflow", "isoOrder"] }, dateFront: { forms: undefined, names: [] }, front: { forms: undefined, names: ["overflow"] },
-  format: { forms: undefined, names: ["digits"] },
+  date: FORMS.text | FORMS.orTimestamp | bitsOf(IN_UNIT), time: FORMS.text | FORMS.strict | bitsOf(OVERFLOW),
+  dateTime: FORMS.text | FORMS.orTimestamp | FORMS.strict | bitsOf(IN_UNIT) | bitsOf(OVERFLOW) | bitsOf(MISSING),
+  duration: bitsOf(OVERFLOW) | bitsOf(ISO_ORDER), dateFront: 0, front: bitsOf(OVERFLOW), format: bitsOf(DIGITS),
 };
 
 // Each writes the value, or the part for which the text is refused.
-function callDate(library, size, it, form = it.form) {
-  return library.calls.speedate_date_parse_or_part(address.text, size, form, putConfig(library, it), address.out, address.part);
+function callDate(library, size, numbers, form = formOf(numbers)) {
+  return library.calls.speedate_date_parse_or_part(address.text, size, form, putConfig(library, numbers), address.out, address.part);
 }
-function callTime(library, size, it, form = it.form) {
-  return library.calls.speedate_time_parse_or_part(address.text, size, form, putConfig(library, it), address.out, address.part);
+function callTime(library, size, numbers, form = formOf(numbers)) {
+  return library.calls.speedate_time_parse_or_part(address.text, size, form, putConfig(library, numbers), address.out, address.part);
 }
-function callDateTime(library, size, it, form = it.form) {
-  const code = library.calls.speedate_datetime_parse_or_part(address.text, size, form, putConfig(library, it), address.out, address.part);
-  if (it.missingOffset === undefined) return code;
-  if (it.missingOffset === MISSING.error) library.view.setInt32(PART.kind, KINDS.instant[form], true);
-  return code === 0 ? offsetOrUtc(library, size, it) : code;
+function callDateTime(library, size, numbers, form = formOf(numbers)) {
+  const code = library.calls.speedate_datetime_parse_or_part(address.text, size, form, putConfig(library, numbers), address.out, address.part);
+  const isOffsetMissing = (numbers & (MISSING.error | MISSING.utc)) !== 0 && (code !== 0 || offsetOf(library.view, PLACE.out + 4) === null);
+  return isOffsetMissing ? missingOffset(library, size, numbers, code) : code;
 }
-/** The code of an accepted date-time. If it lacks an offset, it gets the offset of UTC, or is refused at its end. */
-function offsetOrUtc({ view }, size, { missingOffset }) {
-  const at = PLACE.out + 4;
-  if (offsetOf(view, at) !== null) return 0;
-  if (missingOffset === MISSING.error) {
+/** The code of a date-time that is refused, or that lacks an offset: then it gets the offset of UTC, or is refused at its end. */
+function missingOffset({ view }, size, numbers, code) {
+  const isRefused = (numbers & MISSING.error) !== 0;
+  if (isRefused) view.setInt32(PART.kind, KINDS.instant[formOf(numbers)], true);
+  if (code !== 0) return code;
+  if (isRefused) {
     view.setBigUint64(PART.start, size, true);
     view.setBigUint64(PART.end, size, true);
     return CODE.tzRequired;
   }
-  view.setUint8(at + 3, 1);
-  view.setInt32(at + 8, 0, true);
+  view.setUint8(PLACE.out + 7, 1);
+  view.setInt32(PLACE.out + 12, 0, true);
   return 0;
 }
-const callDuration = (library, size, it) =>
-  library.calls.speedate_duration_parse_or_part(address.text, size, FORM.text, putConfig(library, it), address.out, address.part);
+const callDuration = (library, size, numbers) =>
+  library.calls.speedate_duration_parse_or_part(address.text, size, FORM.text, putConfig(library, numbers), address.out, address.part);
 
 // Options come first, since a getter among them may call this too.
 function codeOfDate(text, options) {
@@ -625,11 +639,15 @@ function refusal(number, seen) {
   const { start, end } = partOf(seen);
   return { ok: false, code, expected, start, end };
 }
-function errorOf(number, text, seen = text) {
-  if (number === INVALID_TYPE) return noText();
-  if (number === NO_ROOM) return new RangeError("text has to be shorter");
-  return new SpeedateError(lastReason(number), keptText(text), partOf(seen));
+// An engine takes long for each function that is on the stack when an error is made, and for a constructor of its own. So a call makes
+// a RangeError, which then becomes a SpeedateError.
+const lastMessage = (number) => `expected ${lastReason(number).expected}`;
+function refused(error, number, text, seen = text) {
+  Object.setPrototypeOf(error, SpeedateError.prototype);
+  fill(error, lastReason(number), keptText(text), partOf(seen));
+  return error;
 }
+const wrongText = (number) => (number === NO_ROOM ? new RangeError("text has to be shorter") : noText());
 
 /** The part for which the last text was refused, in units of a string, otherwise in bytes. */
 function partOf(text) {
@@ -653,22 +671,22 @@ function unitsBefore(text, size) {
 
 export function parseDate(text, options) {
   const code = codeOfDate(text, options);
-  if (code !== 0) throw errorOf(code, text);
+  if (code !== 0) throw code < 0 ? wrongText(code) : refused(new RangeError(lastMessage(code)), code, text);
   return DATE.read(kept);
 }
 export function parseTime(text, options) {
   const code = codeOfTime(text, options);
-  if (code !== 0) throw errorOf(code, text);
+  if (code !== 0) throw code < 0 ? wrongText(code) : refused(new RangeError(lastMessage(code)), code, text);
   return TIME.read(kept);
 }
 export function parseDateTime(text, options) {
   const code = codeOfDateTime(text, options);
-  if (code !== 0) throw errorOf(code, text);
+  if (code !== 0) throw code < 0 ? wrongText(code) : refused(new RangeError(lastMessage(code)), code, text);
   return DATE_TIME.read(kept);
 }
 export function parseDuration(text, options) {
   const code = codeOfDuration(text, options);
-  if (code !== 0) throw errorOf(code, text);
+  if (code !== 0) throw code < 0 ? wrongText(code) : refused(new RangeError(lastMessage(code)), code, text);
   return DURATION.read(kept);
 }
 export function safeParseDate(text, options) {
@@ -702,17 +720,17 @@ function unitsOf(text, size) {
 
 export function parseDateFront(text, options) {
   const code = codeOfDateFront(text, options);
-  if (code !== 0) throw errorOf(code, seenOf(text), frontOf(text));
+  if (code !== 0) throw code < 0 ? wrongText(code) : refused(new RangeError(lastMessage(code)), code, seenOf(text), frontOf(text));
   return frontAnswer(DATE.read(kept), text);
 }
 export function parseTimeFront(text, options) {
   const code = codeOfTimeFront(text, options);
-  if (code !== 0) throw errorOf(code, seenOf(text), frontOf(text));
+  if (code !== 0) throw code < 0 ? wrongText(code) : refused(new RangeError(lastMessage(code)), code, seenOf(text), frontOf(text));
   return frontAnswer(TIME.read(kept), text);
 }
 export function parseDateTimeFront(text, options) {
   const code = codeOfDateTimeFront(text, options);
-  if (code !== 0) throw errorOf(code, seenOf(text), frontOf(text));
+  if (code !== 0) throw code < 0 ? wrongText(code) : refused(new RangeError(lastMessage(code)), code, seenOf(text), frontOf(text));
   return frontAnswer(DATE_TIME.read(kept), text);
 }
 export function safeParseDateFront(text, options) {
@@ -750,10 +768,10 @@ export function schema(kind, options) {
 // ---- Timestamps ----
 
 export function dateTimeFromTimestamp(timestamp, unit) {
-  const timestampUnit = choiceOf(unit, UNITS, "unit");
+  choiceOf(unit, Object.keys(IN_UNIT), "unit");
   const number = integer64(timestamp, "timestamp");
   start();
-  const config = putConfig(kept, { form: FORM.orTimestamp, timestampUnit, overflow: 0, isoOrder: 0 });
+  const config = putConfig(kept, FORMS.orTimestamp | IN_UNIT[unit]);
   accept(calls.speedate_datetime_of_timestamp(number, 0, config, address.out));
   return DATE_TIME.read(kept);
 }
@@ -797,11 +815,11 @@ export function timeOf(value) {
 // ---- Printing and arithmetic ----
 
 export function format(value, options) {
-  const { digits } = numbersOf(options, OPTIONS_OF.format);
-  const it = given(value, "value", digits === undefined ? ALL_KINDS : HAS_OFFSET);
+  const digits = numbersOf(options, OPTIONS_OF.format);
+  const it = given(value, "value", digits === 0 ? ALL_KINDS : HAS_OFFSET);
   const { print } = it.kind.calls;
   // C counts -1 as no choice of digits.
-  if (HAS_OFFSET.includes(it.kind)) acceptOf(print(putFirst(it), digits ?? -1, address.buffer, BUFFER_SIZE, address.taken), it);
+  if (HAS_OFFSET.includes(it.kind)) acceptOf(print(putFirst(it), digits === DIGITS[6] ? 6 : digits === DIGITS[3] ? 3 : digits === 0 ? -1 : 0, address.buffer, BUFFER_SIZE, address.taken), it);
   else acceptOf(print(putFirst(it), address.buffer, BUFFER_SIZE, address.taken), it);
   if (it.offsetSeconds % 60) throw new RangeError("offsetSeconds has to be whole minutes in print");
   return printed();
