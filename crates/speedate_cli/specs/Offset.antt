@@ -2,7 +2,7 @@
 use Rattle.std.specs.Prelude.{ℕ, ℤ, pos, ◌==◌, ◌||◌, Bool, List, codes, length, slice_index, Option, Some, None, Result, Ok, Err, if◌then◌else◌}
 use Rattle.speedate.specs.Ascii.{space}
 use Rattle.speedate_base.specs.declared.refusal.Refused.{Refused}
-use Rattle.speedate_scan.specs.Zone.{zone_front}
+use Rattle.speedate.specs.Loose.{zone_front}
 use Rattle.speedate_cli.specs.Word.{is_word}
 
 -- the offset of a zone that takes so many bytes
