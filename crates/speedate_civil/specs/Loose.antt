@@ -1,5 +1,5 @@
--- Date-times as programs print them: beside the offsets of a text, the zones that they write after a
--- clock, and the byte of a line at which a value can end.
+-- Date-times as programs print them: beside the offsets of a text, the zones that they write after
+-- a clock, and the byte of a line at which a value can end.
 use Rattle.std.specs.Prelude.{ℕ, ◌+◌, ◌*◌, ◌==◌, ◌&&◌, ◌||◌, not, Bool, true, List, [], ◌∷◌, codes, drop, slice_index, nat_eq, nat_le, Option, Some, None, is_some, Result, Ok, Err, ℤ, pos, if◌then◌else◌}
 use Rattle.std.specs.Char.{is_ascii_alphanumeric, is_ascii_digit}
 use Rattle.std.specs.List.{starts_with}
