@@ -4,7 +4,7 @@ use clap::{Arg, ArgAction, Command};
 use std::alloc::{AllocError, Global};
 
 /// Whether a command prints lines of its input.
-#[derive(Clone, Copy, PartialEq, Eq)]
+#[derive(Clone, Copy)]
 enum Prints {
     /// It prints none.
     Nothing,
@@ -14,71 +14,226 @@ enum Prints {
     NumberedLines,
 }
 
+/// What is given with an argument.
+#[derive(Clone, Copy)]
+enum Given {
+    /// Nothing.
+    Alone,
+    /// A value of this name.
+    Value(&'static str),
+    /// A value of this name, which may begin with a hyphen.
+    AnyValue(&'static str),
+}
+
+/// An argument: its name, what is given with it, and its help.
+type Row = (&'static str, Given, &'static str);
+
+/// What `between` has before what every command has.
+const BETWEEN: [Row; 1] = [(
+    "in-order",
+    Given::Alone,
+    "The values of each file never fall: search for FROM and TO",
+)];
+
+/// What `check` has before what every command has.
+const CHECK: [Row; 3] = [
+    (
+        "order",
+        Given::Alone,
+        "Also report each value that is earlier than the one before",
+    ),
+    (
+        "gap",
+        Given::AnyValue("DURATION"),
+        "Also report each value that comes more than this after the one before",
+    ),
+    (
+        "digits",
+        Given::Value("6"),
+        "Also report values with digits past the microsecond",
+    ),
+];
+
+/// What `convert` has before what every command has.
+const CONVERT: [Row; 2] = [
+    (
+        "to",
+        Given::AnyValue("WHAT"),
+        "How a value is written: text, utc, or an offset +HH:MM [default: text]",
+    ),
+    (
+        "fraction",
+        Given::Value("N"),
+        "Exactly 0, 3, 6 or 9 digits of a second, rounded down [default: as many as the value has]",
+    ),
+];
+
+/// How the total of `sum` is written.
+const TOTAL: [Row; 1] = [(
+    "to",
+    Given::Value("WHAT"),
+    "How the total is written: text, or hours [default: text]",
+)];
+
+/// Where the value of a line begins.
+const PLACE: [Row; 3] = [
+    (
+        "after",
+        Given::AnyValue("TEXT"),
+        "The value comes after the first TEXT of a line that a value follows",
+    ),
+    (
+        "field",
+        Given::Value("N"),
+        "The value is all of field N, which may be quoted as in CSV",
+    ),
+    (
+        "separator",
+        Given::AnyValue("C"),
+        "What separates fields; \\t is a tab [default: a comma]",
+    ),
+];
+
+/// How date-times are read.
+const VALUES: [Row; 3] = [
+    (
+        "kind",
+        Given::Value("KIND"),
+        "datetime, date, seconds, milliseconds or microseconds [default: datetime]",
+    ),
+    ("strict", Given::Alone, "Accept only RFC 3339"),
+    (
+        "offset",
+        Given::AnyValue("OFFSET"),
+        "The offset of what has none: utc, or +HH:MM",
+    ),
+];
+
+/// What is done with lines that have no good value, if none is printed.
+const REPORTED: [Row; 2] = [
+    (
+        "undated",
+        Given::Value("WHAT"),
+        "Only bad: lines without a value are bad; with --field also join or drop: they are not",
+    ),
+    (
+        "bad",
+        Given::Value("WHAT"),
+        "Only stop: end at the first bad value",
+    ),
+];
+
+/// What is done with lines that have no good value, if lines are printed.
+const PRINTED: [Row; 2] = [
+    (
+        "undated",
+        Given::Value("WHAT"),
+        "Lines without a value: join, drop or bad [default: join, with --field bad]",
+    ),
+    (
+        "bad",
+        Given::Value("WHAT"),
+        "Lines with a bad value: keep or stop [default: keep]",
+    ),
+];
+
+/// Whether a file has a header.
+const HEADER: [Row; 1] = [(
+    "header",
+    Given::Alone,
+    "The first line of each file has no value",
+)];
+
+/// The commands.
+#[derive(Clone, Copy)]
+enum Name {
+    /// `between`.
+    Between,
+    /// `check`.
+    Check,
+    /// `convert`.
+    Convert,
+    /// `merge`.
+    Merge,
+    /// `sort`.
+    Sort,
+    /// `sum`.
+    Sum,
+    /// `summary`.
+    Summary,
+}
+
+/// Each command, as the help has them.
+const NAMES: [Name; 7] = [
+    Name::Between,
+    Name::Check,
+    Name::Convert,
+    Name::Merge,
+    Name::Sort,
+    Name::Sum,
+    Name::Summary,
+];
+
 /// The program's command line.
 pub fn program<'a>(alloc: Global) -> Result<Command<'a>, AllocError> {
-    Command::new(alloc, "speedate")
-        .version("1.0.0")
-        .bin_name("speedate")?
-        .about(
-            "Selects, sorts, merges, converts, checks and sums up lines by their date-times, and adds up durations",
-        )
-        .subcommand_required(true)
-        .arg_required_else_help(true)
-        .subcommand(between(alloc)?)?
-        .subcommand(check(alloc)?)?
-        .subcommand(convert(alloc)?)?
-        .subcommand(merge(alloc)?)?
-        .subcommand(sort(alloc)?)?
-        .subcommand(sum(alloc)?)?
-        .subcommand(summary(alloc)?)
+    let mut program = without_commands(alloc)?;
+    for name in NAMES {
+        program = program.subcommand(command(alloc, name)?)?;
+    }
+    Ok(program)
+}
+
+/// The program's command line without its commands.
+fn without_commands<'a>(alloc: Global) -> Result<Command<'a>, AllocError> {
+    Ok(
+        Command::new(alloc, "speedate")
+            .version("1.0.0")
+            .bin_name("speedate")?
+            .about(
+                "Selects, sorts, merges, converts, checks and sums up lines by their date-times, and adds up durations",
+            )
+            .subcommand_required(true)
+            .arg_required_else_help(true),
+    )
+}
+
+/// A command by its name.
+fn command<'a>(alloc: Global, name: Name) -> Result<Command<'a>, AllocError> {
+    match name {
+        Name::Between => between(alloc),
+        Name::Check => check(alloc),
+        Name::Convert => convert(alloc),
+        Name::Merge => merge(alloc),
+        Name::Sort => sort(alloc),
+        Name::Sum => sum(alloc),
+        Name::Summary => summary(alloc),
+    }
 }
 
 /// The command `between`.
 fn between<'a>(alloc: Global) -> Result<Command<'a>, AllocError> {
     let command = Command::new(alloc, "between")
         .about("Print entries between two times")
-        .after_help("Prints the entries with FROM <= instant < TO; a bound of .. is open")
-        .arg(bound(alloc, "FROM"))?
-        .arg(bound(alloc, "TO"))?
-        .arg(flag(alloc, "in-order").help(
-            "The values of each file never fall: search for FROM and TO",
-        ))?;
-    with_common(alloc, command, Prints::NumberedLines)
+        .after_help("Prints the entries with FROM <= instant < TO; a bound of .. is open");
+    let command = with_bound(alloc, command, "FROM")?;
+    let command = with_bound(alloc, command, "TO")?;
+    with_common(alloc, command, &BETWEEN, Prints::NumberedLines)
 }
 
 /// The command `check`.
 fn check<'a>(alloc: Global) -> Result<Command<'a>, AllocError> {
     let command = Command::new(alloc, "check")
         .about("Report bad values, and late ones and gaps")
-        .after_help("Prints FILE:LINE:COLUMN: expected .. for each bad value")
-        .arg(flag(alloc, "order").help(
-            "Also report each value that is earlier than the one before",
-        ))?
-        .arg(
-            valued(alloc, "gap", "DURATION")
-                .allow_hyphen_values(true)
-                .help("Also report each value that comes more than this after the one before"),
-        )?
-        .arg(valued(alloc, "digits", "6").help(
-            "Also report values with digits past the microsecond",
-        ))?;
-    with_common(alloc, command, Prints::Nothing)
+        .after_help("Prints FILE:LINE:COLUMN: expected .. for each bad value");
+    with_common(alloc, command, &CHECK, Prints::Nothing)
 }
 
 /// The command `convert`.
 fn convert<'a>(alloc: Global) -> Result<Command<'a>, AllocError> {
     let command = Command::new(alloc, "convert")
         .about("Rewrite each value in one form")
-        .after_help("Prints each line with its value written anew, the other bytes as they are")
-        .arg(
-            valued(alloc, "to", "WHAT").allow_hyphen_values(true).help(
-                "How a value is written: text, utc, or an offset +HH:MM [default: text]",
-            ),
-        )?
-        .arg(valued(alloc, "fraction", "N").help(
-            "Exactly 0, 3, 6 or 9 digits of a second, rounded down [default: as many as the value has]",
-        ))?;
-    with_common(alloc, command, Prints::NumberedLines)
+        .after_help("Prints each line with its value written anew, the other bytes as they are");
+    with_common(alloc, command, &CONVERT, Prints::NumberedLines)
 }
 
 /// The command `merge`.
@@ -88,7 +243,7 @@ fn merge<'a>(alloc: Global) -> Result<Command<'a>, AllocError> {
         .after_help(
             "Prints the entries of all files in the order of their values; each file is in order",
         );
-    with_common(alloc, command, Prints::Lines)
+    with_common(alloc, command, &[], Prints::Lines)
 }
 
 /// The command `sum`.
@@ -98,9 +253,8 @@ fn sum<'a>(alloc: Global) -> Result<Command<'a>, AllocError> {
         .after_help(
             "Prints the exact total of durations, one in each line; years and months are bad",
         );
-    let command = with_place(alloc, command)?.arg(valued(alloc, "to", "WHAT").help(
-        "How the total is written: text, or hours [default: text]",
-    ))?;
+    let command = with_rows(alloc, command, &PLACE)?;
+    let command = with_rows(alloc, command, &TOTAL)?;
     with_lines_and_files(alloc, command, Prints::Nothing)
 }
 
@@ -111,7 +265,7 @@ fn sort<'a>(alloc: Global) -> Result<Command<'a>, AllocError> {
         .after_help(
             "Prints the entries of all files in the order of their values; reads them into memory",
         );
-    with_common(alloc, command, Prints::Lines)
+    with_common(alloc, command, &[], Prints::Lines)
 }
 
 /// The command `summary`.
@@ -121,30 +275,20 @@ fn summary<'a>(alloc: Global) -> Result<Command<'a>, AllocError> {
         .after_help(
             "Prints how many lines and values there are, the earliest, the latest and the longest gap",
         );
-    with_common(alloc, command, Prints::Nothing)
+    with_common(alloc, command, &[], Prints::Nothing)
 }
 
-/// A command with what every command about date-times has.
+/// A command with these arguments, and with what every command about date-times has.
 fn with_common<'a>(
     alloc: Global,
     command: Command<'a>,
+    rows: &[Row],
     prints: Prints,
 ) -> Result<Command<'a>, AllocError> {
-    let command = with_values(alloc, command)?.arg(
-        valued(alloc, "offset", "OFFSET")
-            .allow_hyphen_values(true)
-            .help("The offset of what has none: utc, or +HH:MM"),
-    )?;
+    let command = with_rows(alloc, command, rows)?;
+    let command = with_rows(alloc, command, &PLACE)?;
+    let command = with_rows(alloc, command, &VALUES)?;
     with_lines_and_files(alloc, command, prints)
-}
-
-/// A command with how its date-times are read.
-fn with_values<'a>(alloc: Global, command: Command<'a>) -> Result<Command<'a>, AllocError> {
-    with_place(alloc, command)?
-        .arg(valued(alloc, "kind", "KIND").help(
-            "datetime, date, seconds, milliseconds or microseconds [default: datetime]",
-        ))?
-        .arg(flag(alloc, "strict").help("Accept only RFC 3339"))
 }
 
 /// A command with what is done with lines, and its files.
@@ -154,12 +298,8 @@ fn with_lines_and_files<'a>(
     prints: Prints,
 ) -> Result<Command<'a>, AllocError> {
     let command = with_lines(alloc, command, prints)?;
-    let command = match prints {
-        Prints::NumberedLines => with_name(alloc, with_number(alloc, command)?)?,
-        Prints::Lines => with_name(alloc, command)?,
-        Prints::Nothing => command,
-    };
-    with_files(alloc, command)
+    let command = with_rows(alloc, command, &HEADER)?;
+    with_files(alloc, with_prefix(alloc, command, prints)?)
 }
 
 /// A command with what is done with lines that have no good value.
@@ -168,20 +308,46 @@ fn with_lines<'a>(
     command: Command<'a>,
     prints: Prints,
 ) -> Result<Command<'a>, AllocError> {
-    let (undated, bad) = match prints {
-        Prints::Nothing => (
-            "Only bad: lines without a value are bad; with --field also join or drop: they are not",
-            "Only stop: end at the first bad value",
-        ),
-        Prints::Lines | Prints::NumberedLines => (
-            "Lines without a value: join, drop or bad [default: join, with --field bad]",
-            "Lines with a bad value: keep or stop [default: keep]",
-        ),
-    };
-    command
-        .arg(valued(alloc, "undated", "WHAT").help(undated))?
-        .arg(valued(alloc, "bad", "WHAT").help(bad))?
-        .arg(flag(alloc, "header").help("The first line of each file has no value"))
+    match prints {
+        Prints::Nothing => with_rows(alloc, command, &REPORTED),
+        Prints::Lines | Prints::NumberedLines => with_rows(alloc, command, &PRINTED),
+    }
+}
+
+/// A command that prints the number and the name of a line before it, if that is asked for.
+fn with_prefix<'a>(
+    alloc: Global,
+    command: Command<'a>,
+    prints: Prints,
+) -> Result<Command<'a>, AllocError> {
+    match prints {
+        Prints::NumberedLines => with_name(alloc, with_number(alloc, command)?),
+        Prints::Lines => with_name(alloc, command),
+        Prints::Nothing => Ok(command),
+    }
+}
+
+/// A command with these arguments.
+fn with_rows<'a>(
+    alloc: Global,
+    command: Command<'a>,
+    rows: &[Row],
+) -> Result<Command<'a>, AllocError> {
+    let mut command = command;
+    for row in rows {
+        command = command.arg(argument(alloc, *row))?;
+    }
+    Ok(command)
+}
+
+/// An argument by its row.
+fn argument<'a>(alloc: Global, row: Row) -> Arg<'a> {
+    let (name, given, help) = row;
+    match given {
+        Given::Alone => flag(alloc, name).help(help),
+        Given::Value(value) => valued(alloc, name, value).help(help),
+        Given::AnyValue(value) => any_valued(alloc, name, value).help(help),
+    }
 }
 
 /// A command with its files.
@@ -192,29 +358,6 @@ fn with_files<'a>(alloc: Global, command: Command<'a>) -> Result<Command<'a>, Al
             .num_args(0..)
             .help("The files; none, or -, is standard input"),
     )
-}
-
-/// A command with where the value of a line begins.
-fn with_place<'a>(alloc: Global, command: Command<'a>) -> Result<Command<'a>, AllocError> {
-    let command = command.arg(
-        valued(alloc, "after", "TEXT")
-            .allow_hyphen_values(true)
-            .help("The value comes after the first TEXT of a line that a value follows"),
-    )?;
-    with_field(alloc, command)
-}
-
-/// A command with the field that is the value of a line.
-fn with_field<'a>(alloc: Global, command: Command<'a>) -> Result<Command<'a>, AllocError> {
-    command
-        .arg(valued(alloc, "field", "N").help(
-            "The value is all of field N, which may be quoted as in CSV",
-        ))?
-        .arg(
-            valued(alloc, "separator", "C")
-                .allow_hyphen_values(true)
-                .help("What separates fields; \\t is a tab [default: a comma]"),
-        )
 }
 
 /// A command that prints the number of a line before it, if that is asked for.
@@ -248,11 +391,22 @@ fn valued<'a>(alloc: Global, name: &'a str, value: &'a str) -> Arg<'a> {
         .action(ArgAction::Set)
 }
 
-/// A bound of `between`.
-fn bound<'a>(alloc: Global, name: &'a str) -> Arg<'a> {
-    Arg::new(alloc, name)
-        .required(true)
-        .action(ArgAction::Set)
-        .allow_negative_numbers(true)
-        .help("A date-time, a date, which is its midnight, a number if values are, or ..")
+/// An option with a value that may begin with a hyphen.
+fn any_valued<'a>(alloc: Global, name: &'a str, value: &'a str) -> Arg<'a> {
+    valued(alloc, name, value).allow_hyphen_values(true)
+}
+
+/// A command with a bound of this name.
+fn with_bound<'a>(
+    alloc: Global,
+    command: Command<'a>,
+    name: &'a str,
+) -> Result<Command<'a>, AllocError> {
+    command.arg(
+        Arg::new(alloc, name)
+            .required(true)
+            .action(ArgAction::Set)
+            .allow_negative_numbers(true)
+            .help("A date-time, a date, which is its midnight, a number if values are, or .."),
+    )
 }
