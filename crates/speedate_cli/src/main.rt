@@ -41,19 +41,28 @@ fn main(rt: HostRuntime) -> anyhow::Result<ExitCode> {
         }
         Err(error) => return Err(error.into()),
     };
-    let program = program::program(alloc)?;
-    let matches = match program.try_get_matches_from(words.as_slice()) {
-        Ok(matches) => matches,
-        Err(error) => return Ok(ExitCode::from(tell(&rt, &error))),
-    };
+    Ok(ExitCode::from(run_words(&rt, words.as_slice())?))
+}
+
+/// Runs what a command line asks for, and returns the exit status.
+fn run_words(rt: &HostRuntime, words: &[String]) -> Result<u8, AllocError> {
+    let program = program::program(rt.alloc())?;
+    match program.try_get_matches_from(words) {
+        Ok(matches) => Ok(run_matches(rt, &matches)),
+        Err(error) => Ok(tell(rt, &error)),
+    }
+}
+
+/// Runs the command that was given, and returns the exit status.
+fn run_matches(rt: &HostRuntime, matches: &ArgMatches<'_>) -> u8 {
     let Some((name, given)) = matches.subcommand() else {
-        return Ok(ExitCode::from(USAGE));
+        return USAGE;
     };
-    match run(&rt, name, given) {
-        Ok(status) => Ok(ExitCode::from(status)),
+    match run(rt, name, given) {
+        Ok(status) => status,
         Err(refusal) => {
             let _ = eprintln!(rt; "error: {name}: {refusal}");
-            Ok(ExitCode::from(USAGE))
+            USAGE
         }
     }
 }
@@ -94,18 +103,90 @@ fn tell_argument(rt: &HostRuntime) -> Result<(), AllocError> {
 fn run(rt: &HostRuntime, name: &str, given: &ArgMatches<'_>) -> Result<u8, Refusal> {
     let _input = input::hold_input(rt);
     let _output = input::hold_output(rt);
-    let files = given.get_strs("FILE").unwrap_or(&[]);
-    Ok(match name {
-        "between" => {
-            let mut between = first_between(given)?;
-            told::tell_bounds(rt, &between.bounds);
-            files::run_files(rt, &mut between, files)
-        }
-        "check" => files::run_files(rt, &mut first_check(given)?, files),
-        "convert" => files::run_files(rt, &mut first_convert(given)?, files),
-        "merge" => merge_session::run_merge(rt, &first_merge(given)?, files),
-        "sum" => files::run_files(rt, &mut first_sum(given)?, files),
-        "sort" => sort_session::run_sort(rt, &mut first_keys(given)?, files),
-        _ => files::run_files(rt, &mut first_summary(given)?, files),
-    })
+    run_command(rt, name, given, given.get_strs("FILE").unwrap_or(&[]))
+}
+
+/// Runs a command over these files.
+fn run_command<'a>(
+    rt: &HostRuntime,
+    name: &str,
+    given: &ArgMatches<'a>,
+    files: &[&'a str],
+) -> Result<u8, Refusal> {
+    match name {
+        "between" => run_between(rt, given, files),
+        "check" => run_check(rt, given, files),
+        "convert" => run_convert(rt, given, files),
+        "merge" => run_merge(rt, given, files),
+        "sum" => run_sum(rt, given, files),
+        "sort" => run_sort(rt, given, files),
+        _ => run_summary(rt, given, files),
+    }
+}
+
+/// Runs the command `between`.
+fn run_between<'a>(
+    rt: &HostRuntime,
+    given: &ArgMatches<'a>,
+    files: &[&'a str],
+) -> Result<u8, Refusal> {
+    let mut between = first_between(given)?;
+    told::tell_bounds(rt, &between.bounds);
+    Ok(files::run_files(rt, &mut between, files))
+}
+
+/// Runs the command `check`.
+fn run_check<'a>(
+    rt: &HostRuntime,
+    given: &ArgMatches<'a>,
+    files: &[&'a str],
+) -> Result<u8, Refusal> {
+    let mut check = first_check(given)?;
+    Ok(files::run_files(rt, &mut check, files))
+}
+
+/// Runs the command `convert`.
+fn run_convert<'a>(
+    rt: &HostRuntime,
+    given: &ArgMatches<'a>,
+    files: &[&'a str],
+) -> Result<u8, Refusal> {
+    let mut convert = first_convert(given)?;
+    Ok(files::run_files(rt, &mut convert, files))
+}
+
+/// Runs the command `sum`.
+fn run_sum<'a>(rt: &HostRuntime, given: &ArgMatches<'a>, files: &[&'a str]) -> Result<u8, Refusal> {
+    let mut sum = first_sum(given)?;
+    Ok(files::run_files(rt, &mut sum, files))
+}
+
+/// Runs the command `summary`.
+fn run_summary<'a>(
+    rt: &HostRuntime,
+    given: &ArgMatches<'a>,
+    files: &[&'a str],
+) -> Result<u8, Refusal> {
+    let mut summary = first_summary(given)?;
+    Ok(files::run_files(rt, &mut summary, files))
+}
+
+/// Runs the command `merge`.
+fn run_merge<'a>(
+    rt: &HostRuntime,
+    given: &ArgMatches<'a>,
+    files: &[&'a str],
+) -> Result<u8, Refusal> {
+    let keys = first_merge(given)?;
+    Ok(merge_session::run_merge(rt, &keys, files))
+}
+
+/// Runs the command `sort`.
+fn run_sort<'a>(
+    rt: &HostRuntime,
+    given: &ArgMatches<'a>,
+    files: &[&'a str],
+) -> Result<u8, Refusal> {
+    let mut keys = first_keys(given)?;
+    Ok(sort_session::run_sort(rt, &mut keys, files))
 }
