@@ -3,6 +3,7 @@
 ghost use Rattle.std.specs.Prelude.{◌≡◌};
 ghost use Rattle.speedate_cli.specs.Choice.{bad_of, digits_of, form_of, fraction_of, gap_of};
 ghost use Rattle.speedate_cli.specs.Choice.{hours_of, kind_of, named_unit, undated_of, unit_of};
+ghost use Rattle.speedate_cli.specs.Word.{is_word};
 
 use speedate::{MicrosecondsPrecisionOverflowBehavior, TimestampUnit};
 use speedate_scan::amount::exact_between;
@@ -11,7 +12,7 @@ use speedate_scan::reading::Bad;
 use speedate_scan::scan::{BadLines, UndatedLines};
 
 /// Why a gap is refused.
-#[derive(Clone, Copy, Debug)]
+#[derive(Clone, Copy)]
 pub enum BadGap {
     /// It is not an exact duration.
     Bad(Bad),
@@ -19,15 +20,22 @@ pub enum BadGap {
     Negative,
 }
 
+/// Whether a text is a word.
+pub fn is_word(text: &[u8], word: &[u8]) -> bool
+    ensures word { result ≡ is_word text.now word.now }
+{
+    text == word
+}
+
 /// The unit of Unix timestamps of a kind: `b"seconds"`, and others.
 pub fn unit_of(text: &[u8]) -> Option<TimestampUnit>
     ensures unit { result ≡ unit_of text.now }
 {
-    if text == b"seconds".as_slice() {
+    if is_word(text, b"seconds") {
         Some(TimestampUnit::Second)
-    } else if text == b"milliseconds".as_slice() {
+    } else if is_word(text, b"milliseconds") {
         Some(TimestampUnit::Millisecond)
-    } else if text == b"microseconds".as_slice() {
+    } else if is_word(text, b"microseconds") {
         Some(TimestampUnit::Microsecond)
     } else {
         None
@@ -49,9 +57,9 @@ pub fn unit_name(unit: TimestampUnit) -> &'static str
 pub fn kind_of(text: &[u8]) -> Option<Form>
     ensures kind { result ≡ kind_of text.now }
 {
-    if text == b"datetime".as_slice() {
+    if is_word(text, b"datetime") {
         Some(Form::DateTime)
-    } else if text == b"date".as_slice() {
+    } else if is_word(text, b"date") {
         Some(Form::Date)
     } else {
         match unit_of(text) {
@@ -75,7 +83,7 @@ pub fn form_of(kind: Form, is_strict: bool) -> Form
 pub fn digits_of(text: &[u8]) -> Option<MicrosecondsPrecisionOverflowBehavior>
     ensures digits { result ≡ digits_of text.now }
 {
-    if text == b"6".as_slice() {
+    if is_word(text, b"6") {
         Some(MicrosecondsPrecisionOverflowBehavior::Error)
     } else {
         None
@@ -86,11 +94,11 @@ pub fn digits_of(text: &[u8]) -> Option<MicrosecondsPrecisionOverflowBehavior>
 pub fn undated_of(text: &[u8]) -> Option<UndatedLines>
     ensures undated { result ≡ undated_of text.now }
 {
-    if text == b"join".as_slice() {
+    if is_word(text, b"join") {
         Some(UndatedLines::Join)
-    } else if text == b"drop".as_slice() {
+    } else if is_word(text, b"drop") {
         Some(UndatedLines::Drop)
-    } else if text == b"bad".as_slice() {
+    } else if is_word(text, b"bad") {
         Some(UndatedLines::Bad)
     } else {
         None
@@ -101,9 +109,9 @@ pub fn undated_of(text: &[u8]) -> Option<UndatedLines>
 pub fn bad_of(text: &[u8]) -> Option<BadLines>
     ensures bad { result ≡ bad_of text.now }
 {
-    if text == b"keep".as_slice() {
+    if is_word(text, b"keep") {
         Some(BadLines::Keep)
-    } else if text == b"stop".as_slice() {
+    } else if is_word(text, b"stop") {
         Some(BadLines::Stop)
     } else {
         None
@@ -114,9 +122,9 @@ pub fn bad_of(text: &[u8]) -> Option<BadLines>
 pub fn hours_of(text: &[u8]) -> Option<bool>
     ensures hours { result ≡ hours_of text.now }
 {
-    if text == b"text".as_slice() {
+    if is_word(text, b"text") {
         Some(false)
-    } else if text == b"hours".as_slice() {
+    } else if is_word(text, b"hours") {
         Some(true)
     } else {
         None
@@ -127,13 +135,13 @@ pub fn hours_of(text: &[u8]) -> Option<bool>
 pub fn fraction_of(text: &[u8]) -> Option<usize>
     ensures fraction { result ≡ fraction_of text.now }
 {
-    if text == b"0".as_slice() {
+    if is_word(text, b"0") {
         Some(0)
-    } else if text == b"3".as_slice() {
+    } else if is_word(text, b"3") {
         Some(3)
-    } else if text == b"6".as_slice() {
+    } else if is_word(text, b"6") {
         Some(6)
-    } else if text == b"9".as_slice() {
+    } else if is_word(text, b"9") {
         Some(9)
     } else {
         None

@@ -2,12 +2,13 @@
 
 ghost use Rattle.std.specs.Prelude.{◌≡◌};
 ghost use Rattle.speedate_cli.specs.Idle.{about_dates, about_lines, about_offset, about_search};
-ghost use Rattle.speedate_cli.specs.Idle.{idle, is_offset_of_numbers};
+ghost use Rattle.speedate_cli.specs.Idle.{are_local, are_open, ends_at_bad, idle};
+ghost use Rattle.speedate_cli.specs.Idle.{is_offset_of_numbers};
 
 use speedate_scan::scan::{BadLines, UndatedLines};
 
 /// What a command does with the lines of its input.
-#[derive(Clone, Copy, Debug, PartialEq, Eq)]
+#[derive(Clone, Copy, PartialEq, Eq)]
 pub enum Kind {
     /// It prints them.
     Prints,
@@ -18,7 +19,7 @@ pub enum Kind {
 }
 
 /// What the two bounds of a command are.
-#[derive(Clone, Copy, Debug, PartialEq, Eq)]
+#[derive(Clone, Copy)]
 pub enum BoundsKind {
     /// Both are open.
     Open,
@@ -29,7 +30,7 @@ pub enum BoundsKind {
 }
 
 /// What a command line asks for that may make an option idle.
-#[derive(Clone, Copy, Debug)]
+#[derive(Clone, Copy)]
 pub struct Asked {
     /// What the command does with lines.
     pub kind: Kind,
@@ -66,7 +67,7 @@ pub struct Asked {
 }
 
 /// An option that can have no effect.
-#[derive(Clone, Copy, Debug, PartialEq, Eq)]
+#[derive(Clone, Copy)]
 pub enum Idle {
     /// `--strict` for dates.
     StrictOfDates,
@@ -98,6 +99,27 @@ pub enum Idle {
     Undated,
     /// `--bad` where no line is printed.
     Bad,
+}
+
+/// Whether at least one bound is a date, or a date-time without an offset.
+fn are_local(bounds: Option<BoundsKind>) -> bool
+    ensures local { result ≡ are_local bounds }
+{
+    matches!(bounds, Some(BoundsKind::Local))
+}
+
+/// Whether both bounds are open.
+fn are_open(bounds: Option<BoundsKind>) -> bool
+    ensures open { result ≡ are_open bounds }
+{
+    matches!(bounds, Some(BoundsKind::Open))
+}
+
+/// Whether a bad value is to end the run.
+fn ends_at_bad(bad: Option<BadLines>) -> bool
+    ensures ends { result ≡ ends_at_bad bad }
+{
+    matches!(bad, Some(BadLines::Stop))
 }
 
 impl Asked {
@@ -140,7 +162,7 @@ impl Asked {
     fn is_offset_of_numbers(&self) -> bool
         ensures idle { result ≡ is_offset_of_numbers self.now }
     {
-        self.has_offset && self.is_timestamp && self.bounds != Some(BoundsKind::Local)
+        self.has_offset && self.is_timestamp && !are_local(self.bounds)
     }
 
     /// `--offset` where each value has an offset, no values are compared or all fit, and `--strict` and `--to utc` for
@@ -158,7 +180,7 @@ impl Asked {
             Some(Idle::OffsetOfTimestamps)
         } else if self.has_offset && self.kind == Kind::Checks && !self.compares {
             Some(Idle::OffsetOfCheck)
-        } else if self.has_offset && self.bounds == Some(BoundsKind::Open) {
+        } else if self.has_offset && are_open(self.bounds) {
             Some(Idle::OffsetOfOpen)
         } else {
             None
@@ -171,9 +193,9 @@ impl Asked {
     {
         if self.has_digits && self.is_whole {
             Some(Idle::DigitsOfWhole)
-        } else if self.is_in_order && self.bounds == Some(BoundsKind::Open) {
+        } else if self.is_in_order && are_open(self.bounds) {
             Some(Idle::SearchOfOpen)
-        } else if self.is_in_order && self.bad == Some(BadLines::Stop) {
+        } else if self.is_in_order && ends_at_bad(self.bad) {
             Some(Idle::SearchOfStop)
         } else {
             None

@@ -8,8 +8,8 @@ ghost use Rattle.speedate_cli.specs.Offset.{is_utc, offset_of};
 
 use self::Refusal::Usage;
 use crate::choice::{
-    BadGap, bad_of, digits_of, form_of, fraction_of, gap_of, hours_of, kind_of, undated_of,
-    unit_name,
+    BadGap, bad_of, digits_of, form_of, fraction_of, gap_of, hours_of, is_word, kind_of,
+    undated_of, unit_name,
 };
 use crate::idle::{Asked, BoundsKind, Idle, Kind};
 use clap::ArgMatches;
@@ -43,7 +43,7 @@ pub struct Options<'a> {
 }
 
 /// Why the command line is refused.
-#[derive(Clone, Copy, Debug)]
+#[derive(Clone, Copy)]
 pub enum Refusal {
     /// For people.
     Usage(&'static str),
@@ -56,7 +56,7 @@ pub enum Refusal {
 }
 
 /// What is bad about a bound.
-#[derive(Clone, Copy, Debug)]
+#[derive(Clone, Copy)]
 pub enum BadBound {
     /// What this kind of call expected, and at which byte.
     Refused(CallKind, Refused),
@@ -69,29 +69,55 @@ impl fmt::Display for Refusal {
         match self {
             Refusal::Usage(text) => f.write_str(text),
             Refusal::Idle(idle) => f.write_str(idle.text()),
-            Refusal::Bound(name, BadBound::Refused(kind, refused)) => {
-                let column = refused.place.saturating_add(1);
-                let expected = refused.fault.expected(*kind);
-                write!(f, "{name}:{column}: expected {expected}")
-            }
-            Refusal::Bound(name, BadBound::FewDigits(unit)) => {
-                let unit_name = unit_name(*unit);
-                let digits = fewest_digits(*unit);
-                write!(
-                    f,
-                    "{name}:1: expected {unit_name} since 1970: at least {digits} digits, or a date-time"
-                )
-            }
-            Refusal::Gap(BadGap::Bad(bad)) => {
-                let column = bad.place.saturating_add(1);
-                let expected = bad.why.expected(CallKind::Duration);
-                write!(f, "--gap:{column}: expected {expected}")
-            }
-            Refusal::Gap(BadGap::Negative) => {
-                f.write_str("--gap:1: expected a duration without a minus")
-            }
+            Refusal::Bound(name, bad) => write_bound(name, *bad, f),
+            Refusal::Gap(bad) => write_gap(*bad, f),
         }
     }
+}
+
+/// Writes why a bound of this name is refused.
+fn write_bound<W: fmt::Write>(name: &str, bad: BadBound, f: &mut fmt::Formatter<W>) -> fmt::Result {
+    match bad {
+        BadBound::Refused(kind, refused) => {
+            write_expected(name, refused.place, refused.fault.expected(kind), f)
+        }
+        BadBound::FewDigits(unit) => write_few_digits(name, unit, f),
+    }
+}
+
+/// Writes that a bound of this name has few digits for a Unix timestamp.
+fn write_few_digits<W: fmt::Write>(
+    name: &str,
+    unit: TimestampUnit,
+    f: &mut fmt::Formatter<W>,
+) -> fmt::Result {
+    let unit_name = unit_name(unit);
+    let digits = fewest_digits(unit);
+    write!(
+        f,
+        "{name}:1: expected {unit_name} since 1970: at least {digits} digits, or a date-time"
+    )
+}
+
+/// Writes why a gap is refused.
+fn write_gap<W: fmt::Write>(bad: BadGap, f: &mut fmt::Formatter<W>) -> fmt::Result {
+    match bad {
+        BadGap::Bad(bad) => {
+            write_expected("--gap", bad.place, bad.why.expected(CallKind::Duration), f)
+        }
+        BadGap::Negative => f.write_str("--gap:1: expected a duration without a minus"),
+    }
+}
+
+/// Writes what was expected at a byte of what has this name.
+fn write_expected<W: fmt::Write>(
+    name: &str,
+    place: usize,
+    expected: &str,
+    f: &mut fmt::Formatter<W>,
+) -> fmt::Result {
+    let column = place.saturating_add(1);
+    write!(f, "{name}:{column}: expected {expected}")
 }
 
 /// What every command has, by what is done with digits past the microsecond.
@@ -103,59 +129,109 @@ pub fn common<'a>(
     if let Some(idle) = asked(matches, kind)?.idle() {
         return Err(Refusal::Idle(idle));
     }
+    options_of(matches, behavior)
+}
+
+/// What every command has, where each option can have an effect.
+fn options_of<'a>(
+    matches: &ArgMatches<'a>,
+    behavior: MicrosecondsPrecisionOverflowBehavior,
+) -> Result<Options<'a>, Refusal> {
+    let reader = reader(matches, behavior)?;
     Ok(Options {
-        reader: reader(matches, behavior)?,
+        reader,
         undated_lines: undated_lines(matches)?,
         bad_lines: bad_lines(matches)?,
         has_header: matches.get_flag("header"),
-        prefix: Prefix {
-            has_name: matches.get_flag("name"),
-            has_number: matches.get_flag("number"),
-        },
+        prefix: prefix(matches),
     })
+}
+
+/// What is printed before each line.
+fn prefix(matches: &ArgMatches<'_>) -> Prefix {
+    Prefix {
+        has_name: matches.get_flag("name"),
+        has_number: matches.get_flag("number"),
+    }
+}
+
+/// Whether an option with a value is given.
+fn is_given(matches: &ArgMatches<'_>, name: &str) -> bool {
+    matches.get_str(name).is_some()
+}
+
+/// The value of an option, or what stands for it if it is not given.
+fn given_or<'a>(matches: &ArgMatches<'a>, name: &str, default: &'a str) -> &'a [u8] {
+    matches.get_str(name).unwrap_or(default).as_bytes()
 }
 
 /// What is asked for that may make an option idle.
 fn asked(matches: &ArgMatches<'_>, kind: Kind) -> Result<Asked, Refusal> {
     let form = form(matches)?;
-    Ok(Asked {
+    let undated = undated_lines(matches)?;
+    let bad = bad_lines(matches)?;
+    Ok(asked_by(matches, kind, form, undated, bad))
+}
+
+/// What is asked for, by what values are, and by what is done with lines that have no good value.
+fn asked_by(
+    matches: &ArgMatches<'_>,
+    kind: Kind,
+    form: Form,
+    undated: UndatedLines,
+    bad: BadLines,
+) -> Asked {
+    Asked {
         kind,
-        has_field: matches.get_str("field").is_some(),
-        compares: matches.get_flag("order") || matches.get_str("gap").is_some(),
-        bounds: bounds_kind(matches)?,
+        has_field: is_given(matches, "field"),
+        compares: compares(matches),
+        bounds: bounds_kind(matches, form),
         is_in_order: matches.get_flag("in-order"),
         is_date: form == Form::Date,
-        is_timestamp: matches!(form, Form::Timestamp(_)),
-        is_whole: matches!(
-            form,
-            Form::Date | Form::Timestamp(TimestampUnit::Microsecond)
-        ),
+        is_timestamp: is_timestamp(form),
+        is_whole: is_whole(form),
         is_strict: matches.get_flag("strict"),
-        has_offset: matches.get_str("offset").is_some(),
-        has_target: matches.get_str("to").is_some(),
-        is_target_utc: matches
-            .get_str("to")
-            .is_some_and(|text| offset_of(text.as_bytes()) == Some(0)),
-        has_fraction: matches.get_str("fraction").is_some(),
-        has_digits: matches.get_str("digits").is_some(),
-        undated: match matches.get_str("undated") {
-            Some(_) => Some(undated_lines(matches)?),
-            None => None,
-        },
-        bad: match matches.get_str("bad") {
-            Some(_) => Some(bad_lines(matches)?),
-            None => None,
-        },
-    })
+        has_offset: is_given(matches, "offset"),
+        has_target: is_given(matches, "to"),
+        is_target_utc: is_target_utc(matches),
+        has_fraction: is_given(matches, "fraction"),
+        has_digits: is_given(matches, "digits"),
+        undated: is_given(matches, "undated").then_some(undated),
+        bad: is_given(matches, "bad").then_some(bad),
+    }
+}
+
+/// Whether values are compared with those before them.
+fn compares(matches: &ArgMatches<'_>) -> bool {
+    matches.get_flag("order") || is_given(matches, "gap")
+}
+
+/// Whether values are Unix timestamps.
+fn is_timestamp(form: Form) -> bool {
+    matches!(form, Form::Timestamp(_))
+}
+
+/// Whether values have no digit past the microsecond.
+fn is_whole(form: Form) -> bool {
+    matches!(
+        form,
+        Form::Date | Form::Timestamp(TimestampUnit::Microsecond)
+    )
+}
+
+/// Whether `--to` asks for UTC.
+fn is_target_utc(matches: &ArgMatches<'_>) -> bool {
+    match matches.get_str("to") {
+        Some(text) => offset_of(text.as_bytes()) == Some(0),
+        None => false,
+    }
 }
 
 /// What the bounds are, if the command has bounds.
-fn bounds_kind(matches: &ArgMatches<'_>) -> Result<Option<BoundsKind>, Refusal> {
-    let (Some(from), Some(to)) = (matches.get_str("FROM"), matches.get_str("TO")) else {
-        return Ok(None);
-    };
-    let form = form(matches)?;
-    Ok(Some(bounds_kind_of(from.as_bytes(), to.as_bytes(), form)))
+fn bounds_kind(matches: &ArgMatches<'_>, form: Form) -> Option<BoundsKind> {
+    let from = matches.get_str("FROM")?;
+    let to = matches.get_str("TO")?;
+    Some(bounds_kind_of(from.as_bytes(), to.as_bytes(), form))
 }
 
 /// What two bounds are, by their texts.
@@ -175,7 +251,7 @@ fn bounds_kind_of(from: &[u8], to: &[u8], form: Form) -> BoundsKind
 fn is_open(text: &[u8]) -> bool
     ensures open { result ≡ is_open text.now }
 {
-    text == b"..".as_slice()
+    is_word(text, b"..")
 }
 
 /// Whether a bound is a date, or a date-time without an offset.
@@ -209,21 +285,41 @@ fn reader<'a>(
 fn place<'a>(matches: &ArgMatches<'a>) -> Result<Place<'a>, Refusal> {
     match (matches.get_str("after"), matches.get_str("field")) {
         (Some(_), Some(_)) => Err(Usage("--after and --field exclude each other")),
-        (_, None) if matches.get_str("separator").is_some() => Err(Usage(
-            "--separator wants --field",
-        )),
-        (None, None) => Ok(Place::Front),
-        (Some(text), None) if text.is_empty() => Err(Usage(
-            "--after wants a text that is not empty",
-        )),
-        (Some(text), None) if text.as_bytes().contains(&b'\n') => Err(Usage(
-            "--after wants a text without a line feed, which no line has",
-        )),
-        (Some(text), None) => Ok(Place::After(text.as_bytes())),
-        (None, Some(text)) => Ok(Place::Field(NthField {
-            number: field_number(text)?,
-            separator: separator(matches)?,
-        })),
+        (None, Some(text)) => place_in_field(matches, text),
+        (after, None) => place_without_field(matches, after),
+    }
+}
+
+/// Where the value of a line begins that is a field.
+fn place_in_field<'a>(matches: &ArgMatches<'a>, text: &str) -> Result<Place<'a>, Refusal> {
+    Ok(Place::Field(NthField {
+        number: field_number(text)?,
+        separator: separator(matches)?,
+    }))
+}
+
+/// Where the value of a line begins that is no field.
+fn place_without_field<'a>(
+    matches: &ArgMatches<'a>,
+    after: Option<&'a str>,
+) -> Result<Place<'a>, Refusal> {
+    if is_given(matches, "separator") {
+        return Err(Usage("--separator wants --field"));
+    }
+    match after {
+        Some(text) => place_after(text),
+        None => Ok(Place::Front),
+    }
+}
+
+/// The place after a text.
+fn place_after(text: &str) -> Result<Place<'_>, Refusal> {
+    if text.is_empty() {
+        Err(Usage("--after wants a text that is not empty"))
+    } else if text.as_bytes().contains(&b'\n') {
+        Err(Usage("--after wants a text without a line feed, which no line has"))
+    } else {
+        Ok(Place::After(text.as_bytes()))
     }
 }
 
@@ -237,7 +333,7 @@ fn field_number(text: &str) -> Result<usize, Refusal> {
 
 /// The byte between two fields.
 fn separator(matches: &ArgMatches<'_>) -> Result<u8, Refusal> {
-    separator_of(matches.get_str("separator").unwrap_or(",").as_bytes()).ok_or(Usage(
+    separator_of(given_or(matches, "separator", ",")).ok_or(Usage(
         "--separator is one byte that is no quote and ends no line, or \\t for a tab",
     ))
 }
@@ -246,7 +342,7 @@ fn separator(matches: &ArgMatches<'_>) -> Result<u8, Refusal> {
 fn separator_of(text: &[u8]) -> Option<u8>
     ensures separator { result ≡ separator_of text.now }
 {
-    if text == b"\\t".as_slice() {
+    if is_word(text, b"\\t") {
         return Some(b'\t');
     }
     let byte = byte_at(text, 0);
@@ -259,7 +355,7 @@ fn separator_of(text: &[u8]) -> Option<u8>
 
 /// What a value is.
 fn form(matches: &ArgMatches<'_>) -> Result<Form, Refusal> {
-    match kind_of(matches.get_str("kind").unwrap_or("datetime").as_bytes()) {
+    match kind_of(given_or(matches, "kind", "datetime")) {
         Some(kind) => Ok(form_of(kind, matches.get_flag("strict"))),
         None => Err(Usage("--kind is datetime, date, seconds, milliseconds or microseconds")),
     }
@@ -290,25 +386,22 @@ fn offset(matches: &ArgMatches<'_>) -> Result<Option<i32>, Refusal> {
 
 /// What is done with lines that have no value.
 fn undated_lines(matches: &ArgMatches<'_>) -> Result<UndatedLines, Refusal> {
-    let has_field = matches.get_str("field").is_some();
-    let default = if has_field { "bad" } else { "join" };
-    undated_of(matches.get_str("undated").unwrap_or(default).as_bytes()).ok_or(Usage(
-        "--undated is join, drop or bad",
-    ))
+    let default = if is_given(matches, "field") {
+        "bad"
+    } else {
+        "join"
+    };
+    undated_of(given_or(matches, "undated", default)).ok_or(Usage("--undated is join, drop or bad"))
 }
 
 /// What is done with lines whose value is bad.
 fn bad_lines(matches: &ArgMatches<'_>) -> Result<BadLines, Refusal> {
-    bad_of(matches.get_str("bad").unwrap_or("keep").as_bytes()).ok_or(Usage(
-        "--bad is keep or stop",
-    ))
+    bad_of(given_or(matches, "bad", "keep")).ok_or(Usage("--bad is keep or stop"))
 }
 
 /// Whether a total is printed in hours.
 pub fn has_hours(matches: &ArgMatches<'_>) -> Result<bool, Refusal> {
-    hours_of(matches.get_str("to").unwrap_or("text").as_bytes()).ok_or(Usage(
-        "--to is text or hours",
-    ))
+    hours_of(given_or(matches, "to", "text")).ok_or(Usage("--to is text or hours"))
 }
 
 /// The longest time between two values, in nanoseconds, if a value after a longer one is reported.
@@ -350,7 +443,7 @@ pub fn target(matches: &ArgMatches<'_>) -> Result<Target, Refusal> {
 fn is_utc(text: &[u8]) -> bool
     ensures utc { result ≡ is_utc text.now }
 {
-    text == b"utc".as_slice() || text == b"UTC".as_slice()
+    is_word(text, b"utc") || is_word(text, b"UTC")
 }
 
 /// The seconds of an offset as values may have it right after their clock, or of `utc`: 3,600 of `+01:00`.
@@ -378,15 +471,22 @@ pub fn bounds(matches: &ArgMatches<'_>, reader: &Reader<'_>) -> Result<(Bounds, 
     let to = bound_of("TO", matches.get_str("TO"), reader)?;
     match bounds_of(from, to) {
         Ok(bounds) => Ok(bounds),
-        Err(Unordered::Mixed) => Err(Usage(
+        Err(unordered) => Err(unordered_refusal(unordered)),
+    }
+}
+
+/// Why the command line is refused for its bounds.
+fn unordered_refusal(unordered: Unordered) -> Refusal {
+    match unordered {
+        Unordered::Mixed => Usage(
             "FROM and TO both have an offset or neither; --offset gives them one",
-        )),
-        Err(Unordered::Reversed) => Err(Usage("FROM is after TO")),
+        ),
+        Unordered::Reversed => Usage("FROM is after TO"),
     }
 }
 
 /// Why two bounds are refused together.
-#[derive(Clone, Copy, Debug, PartialEq, Eq)]
+#[derive(Clone, Copy)]
 pub enum Unordered {
     /// Only one of them has an offset.
     Mixed,

@@ -14,7 +14,7 @@ const EMFILE: i32 = 24;
 const ENFILE: i32 = 23;
 
 /// Why a file cannot be opened or read.
-#[derive(Clone, Copy, Debug, PartialEq, Eq)]
+#[derive(Clone, Copy)]
 pub enum Reason {
     /// It is not there.
     NotFound,
