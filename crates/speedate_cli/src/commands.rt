@@ -71,14 +71,23 @@ pub fn first_merge<'a>(given: &ArgMatches<'a>) -> Result<Keys<'a>, Refusal>
     ensures offsets { IfOk result (λ keys. keys.scan.offsets ≡ Offsets.AsFirst) }
 {
     let keys = first_keys(given)?;
-    let mut is_given = false;
-    for &name in given.get_strs("FILE").unwrap_or(&[]) {
-        if name == "-" && is_given {
-            return Err(Usage("standard input can be merged once"));
-        }
-        is_given = is_given || name == "-";
+    if has_input_twice(given.get_strs("FILE").unwrap_or(&[])) {
+        return Err(Usage("standard input can be merged once"));
     }
     Ok(keys)
+}
+
+/// Whether standard input is among these files more than once.
+fn has_input_twice(names: &[&str]) -> bool {
+    let mut is_given = false;
+    for &name in names {
+        let is_input = name == "-";
+        if is_input && is_given {
+            return true;
+        }
+        is_given = is_given || is_input;
+    }
+    false
 }
 
 /// What is known of the order of values before the first line.

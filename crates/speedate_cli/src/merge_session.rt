@@ -25,27 +25,45 @@ type FileSource<'r, 'a> = Source<'a, BufReader<Reasoned<'r, 'a, Input>>>;
 pub fn run_merge<'a>(rt: &HostRuntime, keys: &Keys<'a>, files: &[&'a str]) -> u8 {
     let files = names_or_input(files);
     let mut sources = Vec::new(rt.alloc());
+    match open_sources(rt, keys, files, &mut sources) {
+        Ok(0) => merge_opened(rt, files, &mut sources, keys.scan.offsets),
+        Ok(status) => status,
+        Err(_) => tell_memory(rt, ""),
+    }
+}
+
+/// Opens each file, and returns the exit status as far as it is about that.
+///
+/// Fails if memory runs out.
+fn open_sources<'r, 'a>(
+    rt: &'r HostRuntime,
+    keys: &Keys<'a>,
+    files: &[&'a str],
+    sources: &mut Vec<FileSource<'r, 'a>>,
+) -> Result<u8, AllocError> {
     let mut status = 0;
     for name in files {
-        match open_source(rt, *keys, name) {
-            Ok(Some(source)) => {
-                if sources.push(source).is_err() {
-                    return tell_memory(rt, "");
-                }
-            }
-            Ok(None) => status = READ,
-            Err(_) => return tell_memory(rt, ""),
+        match open_source(rt, *keys, name)? {
+            Some(source) => sources.push(source)?,
+            None => status = READ,
         }
     }
-    if status == READ {
-        return READ;
-    }
-    let mut offsets = keys.scan.offsets;
+    Ok(status)
+}
+
+/// Merges sources of which no line has been read, and returns the exit status.
+fn merge_opened(
+    rt: &HostRuntime,
+    files: &[&str],
+    sources: &mut [FileSource<'_, '_>],
+    offsets: Offsets,
+) -> u8 {
+    let mut offsets = offsets;
     let mut first_bad = FirstBad { rt, told: 0 };
-    if let Some(halted) = read_first_lines(&mut sources, &mut offsets, &mut first_bad) {
-        return tell_end(rt, files, &sources, Some(halted));
+    match read_first_lines(sources, &mut offsets, &mut first_bad) {
+        Some(halted) => tell_end(rt, files, sources, Some(halted)),
+        None => merge_sources(rt, files, sources, offsets, &mut first_bad),
     }
-    merge_sources(rt, files, &mut sources, offsets, &mut first_bad)
 }
 
 /// Reads the first line of each source, up to one whose lines end the merge.
@@ -142,26 +160,61 @@ fn tell_end(
     ensures halted { IfSome halted (λ halted. halted.index < length files.now →
         halted.index < length sources.now → halt_status halted.halt ≤ result) }
 {
-    let mut status = 0;
-    let mut bad = 0u64;
-    let mut before = 0u64;
+    let mut sums = Sums {
+        status: 0,
+        bad: 0,
+        before: 0,
+    };
     for (index, (name, source)) in files.iter().zip(sources).enumerate() {
-        let scan = &source.keys.scan;
-        bad = bad.saturating_add(scan.bad);
-        before = before.saturating_add(scan.first.lines_before());
-        if source.line.is_empty() && !is_unread(halted, index) {
-            let one = tell_file(rt, name, Ok(()), scan.is_without_value(), None);
-            status = worse(status, one);
-        }
+        sums.add(rt, name, source, is_unread(halted, index));
     }
-    status = worse(status, lines_status(bad, 0, false));
-    if let Some(Halted { index, halt }) = halted {
-        if let (Some(name), Some(source)) = (files.get(index), sources.get(index)) {
-            status = worse(status, tell_halt(rt, name, source, halt));
-        }
-    }
-    tell_counts(rt, bad, before);
+    let status = worse(sums.status, lines_status(sums.bad, 0, false));
+    let status = worse(status, tell_halted(rt, files, sources, halted));
+    tell_counts(rt, sums.bad, sums.before);
     status
+}
+
+/// What is told of the sources of a merge together.
+#[derive(Clone, Copy)]
+struct Sums {
+    /// The exit status as far as it is about sources without a value.
+    status: u8,
+    /// How many lines were bad.
+    bad: u64,
+    /// How many lines were before the first entry.
+    before: u64,
+}
+
+impl Sums {
+    /// Adds those of a source, and tells if it was read to its end and no line has a value.
+    fn add(&mut self, rt: &HostRuntime, name: &str, source: &FileSource<'_, '_>, is_unread: bool) {
+        let scan = &source.keys.scan;
+        self.bad = self.bad.saturating_add(scan.bad);
+        self.before = self.before.saturating_add(scan.first.lines_before());
+        if source.line.is_empty() && !is_unread {
+            let one = tell_file(rt, name, Ok(()), scan.is_without_value(), None);
+            self.status = worse(self.status, one);
+        }
+    }
+}
+
+/// Tells why a source ended a merge, if one did, and returns the exit status for that.
+fn tell_halted(
+    rt: &HostRuntime,
+    files: &[&str],
+    sources: &[FileSource<'_, '_>],
+    halted: Option<Halted>,
+) -> u8
+    ensures halted { IfSome halted (λ halted. halted.index < length files.now →
+        halted.index < length sources.now → halt_status halted.halt ≤ result) }
+{
+    let Some(Halted { index, halt }) = halted else {
+        return 0;
+    };
+    match (files.get(index), sources.get(index)) {
+        (Some(name), Some(source)) => tell_halt(rt, name, source, halt),
+        _ => 0,
+    }
 }
 
 /// Whether a merge ended since this source could not be read.
