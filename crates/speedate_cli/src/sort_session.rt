@@ -8,10 +8,12 @@ ghost use Rattle.speedate_sort.specs.declared.sort.Unsorted.{Unsorted};
 ghost use Rattle.speedate_cli.specs.Files.{FileEnd, PrintsSorted, end_status, sorted_status};
 
 use crate::files::{names_or_input, standard_output};
-use crate::input::{Reasoned, open_input};
+use crate::input::{Input, Reasoned, open_input};
+use crate::reason::Reason;
 use crate::told::{Reports, tell_counts, tell_file, tell_memory, tell_output};
 use crate::unread_zone::FirstZone;
 use speedate_commands::status::{READ, WRITE, lines_status, worse};
+use speedate_scan::scan::Scan;
 use speedate_sort::sort::{KeyedLines, Keys, Unread, Unsorted};
 use speedate_stream::Watched;
 use speedate_stream::run::RunError;
@@ -39,16 +41,22 @@ pub fn run_sort<'a>(rt: &HostRuntime, keys: &mut Keys<'a>, files: &[&'a str]) ->
         }
     }
     if !keys.scan.is_stopped() {
-        let mut output = standard_output(rt);
-        let mut one = print_lines(rt, &mut lines, &mut output);
-        if one == WRITE {
-            one = tell_output(rt, output.into_inner().is_closed);
-        }
-        status = worse(status, one);
+        status = worse(status, print_all(rt, &mut lines));
     }
     let bad = keys.scan.bad;
     tell_counts(rt, bad, keys.scan.first.lines_before());
     worse(status, lines_status(bad, 0, false))
+}
+
+/// Prints the lines in order on standard output, tells if it failed, and returns the exit status as far as it is about
+/// that.
+fn print_all(rt: &HostRuntime, lines: &mut KeyedLines) -> u8 {
+    let mut output = standard_output(rt);
+    let status = print_lines(rt, lines, &mut output);
+    if status != WRITE {
+        return status;
+    }
+    tell_output(rt, output.into_inner().is_closed)
 }
 
 /// Adds the lines of a file, tells what is bad, and returns the exit status as far as it is about the file.
@@ -67,26 +75,42 @@ fn add_file<'a>(
     let Some(input) = open_input(rt, name) else {
         return Ok(READ);
     };
-    let reports = Reports {
-        rt,
-        name: name.as_bytes(),
-        told: keys.scan.bad,
-    };
-    let first_zone = FirstZone {
-        rt,
-        scan: keys.scan,
-    };
-    let mut input = Watched::new(Reasoned::new(input, Some(first_zone)));
-    let added = lines.add(keys, &mut input);
-    reports.tell(&keys.scan, keys.scan.reader.form.call_kind());
+    let told = keys.scan.bad;
+    let (added, reason) = add_input(rt, keys, input, lines);
+    tell_bad(rt, name, &keys.scan, told);
     let ended = match added {
         Ok(()) => Ok(()),
         Err(Unread::Read) => Err(RunError::Read),
         Err(Unread::Memory) => return Err(AllocError),
     };
     let is_without_value = keys.scan.is_without_value();
-    let reason = input.into_inner().reason;
     Ok(tell_file(rt, name, ended, is_without_value, reason))
+}
+
+/// Adds the lines of an input, and returns also why a read failed, if one did.
+fn add_input<'a>(
+    rt: &HostRuntime,
+    keys: &mut Keys<'a>,
+    input: Input,
+    lines: &mut KeyedLines,
+) -> (Result<(), Unread>, Option<Reason>) {
+    let first_zone = FirstZone {
+        rt,
+        scan: keys.scan,
+    };
+    let mut input = Watched::new(Reasoned::new(input, Some(first_zone)));
+    let added = lines.add(keys, &mut input);
+    (added, input.into_inner().reason)
+}
+
+/// Tells the bad values of a file that are among the first, but for those that were told.
+fn tell_bad(rt: &HostRuntime, name: &str, scan: &Scan<'_>, told: u64) {
+    let reports = Reports {
+        rt,
+        name: name.as_bytes(),
+        told,
+    };
+    reports.tell(scan, scan.reader.form.call_kind());
 }
 
 /// Prints the lines in order, and returns the exit status as far as it is about that.
