@@ -5,6 +5,7 @@ ghost use Rattle.speedate_cli.specs.Files.{halt_status};
 
 use crate::files::{names_or_input, standard_output};
 use crate::input::{Input, Reasoned, open_input};
+use crate::reason::Reason;
 use crate::told::{Reports, tell_counts, tell_file, tell_line, tell_memory, tell_output};
 use crate::unread_zone::FirstZone;
 use speedate_commands::order::{Latest, push_late};
@@ -122,14 +123,30 @@ fn open_source<'r, 'a>(
     let Some(input) = open_input(rt, name) else {
         return Ok(None);
     };
-    let first_zone = FirstZone {
-        rt,
-        scan: keys.scan,
-    };
-    match BufReader::new(rt.alloc(), Reasoned::new(input, Some(first_zone))) {
-        Ok(input) => Ok(Some(Source::new(keys, input, rt.alloc()))),
+    Ok(Some(source_of(rt, keys, input)?))
+}
+
+/// The source of an input of which nothing was read.
+///
+/// Fails if memory runs out.
+fn source_of<'r, 'a>(
+    rt: &'r HostRuntime,
+    keys: Keys<'a>,
+    input: Input,
+) -> Result<FileSource<'r, 'a>, AllocError> {
+    match BufReader::new(rt.alloc(), looked_at(rt, &keys.scan, input)) {
+        Ok(input) => Ok(Source::new(keys, input, rt.alloc())),
         Err(_) => Err(AllocError),
     }
+}
+
+/// An input of which nothing was read, whose first bytes are looked at.
+fn looked_at<'r, 'a>(
+    rt: &'r HostRuntime,
+    scan: &Scan<'a>,
+    input: Input,
+) -> Reasoned<'r, 'a, Input> {
+    Reasoned::new(input, Some(FirstZone { rt, scan: *scan }))
 }
 
 /// Prints the lines of the sources in order, and returns the exit status as far as it is about that.
@@ -212,7 +229,7 @@ fn tell_halted(
         return 0;
     };
     match (files.get(index), sources.get(index)) {
-        (Some(name), Some(source)) => tell_halt(rt, name, source, halt),
+        (Some(name), Some(source)) => { tell_halt(rt, name, &source.keys, reason_of(source), halt) }
         _ => 0,
     }
 }
@@ -222,19 +239,29 @@ fn is_unread(halted: Option<Halted>, source: usize) -> bool {
     matches!(halted, Some(Halted { index, halt: Halt::Unread(_) }) if index == source)
 }
 
-/// Tells why a source ended a merge, and returns the exit status for that.
-fn tell_halt(rt: &HostRuntime, name: &str, source: &FileSource<'_, '_>, halt: Halt) -> u8
+/// Why a read of a source failed, if one did.
+fn reason_of(source: &FileSource<'_, '_>) -> Option<Reason> {
+    source.input.get_ref().reason
+}
+
+/// Tells why a source with these keys ended a merge, and returns the exit status for that.
+fn tell_halt(
+    rt: &HostRuntime,
+    name: &str,
+    keys: &Keys<'_>,
+    reason: Option<Reason>,
+    halt: Halt,
+) -> u8
     ensures status { result ≡ halt_status halt }
 {
     match halt {
         Halt::Unread(Unread::Memory) => return tell_memory(rt, ""),
         Halt::Unread(Unread::Read) => {
-            let reason = source.input.get_ref().reason;
             return tell_file(rt, name, Err(RunError::Read), false, reason);
         }
         Halt::Bad => {}
-        Halt::Late(before) => tell_before(rt, &source.keys, before),
-        Halt::Unlike => tell_unlike(rt, &source.keys.scan),
+        Halt::Late(before) => tell_before(rt, keys, before),
+        Halt::Unlike => tell_unlike(rt, &keys.scan),
     }
     BAD
 }
