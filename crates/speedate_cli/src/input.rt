@@ -58,7 +58,7 @@ pub fn hold_output(rt: &HostRuntime) -> Option<File> {
 /// Opens a file, or tells why it cannot be read.
 pub fn open_input(rt: &HostRuntime, name: &str) -> Option<Input> {
     if is_output(rt, if name == "-" { "/dev/stdin" } else { name }) {
-        let _ = eprintln!(rt; "speedate: {name}: is the output too");
+        tell_output_too(rt, name);
         return None;
     }
     if name == "-" {
@@ -67,11 +67,20 @@ pub fn open_input(rt: &HostRuntime, name: &str) -> Option<Input> {
     match fs::open(rt, name) {
         Ok(file) => Some(Input::File(file)),
         Err(error) => {
-            let reason = Reason::new(&error);
-            let _ = eprintln!(rt; "speedate: {name}: cannot be opened: {reason}");
+            tell_unopened(rt, name, Reason::new(&error));
             None
         }
     }
+}
+
+/// Tells that a file is the output too.
+fn tell_output_too(rt: &HostRuntime, name: &str) {
+    let _ = eprintln!(rt; "speedate: {name}: is the output too");
+}
+
+/// Tells why a file cannot be opened.
+fn tell_unopened(rt: &HostRuntime, name: &str, reason: Reason) {
+    let _ = eprintln!(rt; "speedate: {name}: cannot be opened: {reason}");
 }
 
 /// Whether a file is the one that standard output goes to: reading it would never end.

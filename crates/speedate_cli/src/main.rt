@@ -89,14 +89,19 @@ fn tell_argument(rt: &HostRuntime) -> Result<(), AllocError> {
         };
         let text = &argument[..size];
         if std::str::from_utf8(text).is_err() {
-            let mut stderr = rt.stderr();
-            let _ = stderr.write_all(b"error: an argument is not UTF-8: ");
-            let _ = stderr.write_all(text);
-            let _ = stderr.write_all(b"\n");
+            tell_text(rt, text);
             break;
         }
     }
     Ok(())
+}
+
+/// Tells an argument that is not UTF-8.
+fn tell_text(rt: &HostRuntime, text: &[u8]) {
+    let mut stderr = rt.stderr();
+    let _ = stderr.write_all(b"error: an argument is not UTF-8: ");
+    let _ = stderr.write_all(text);
+    let _ = stderr.write_all(b"\n");
 }
 
 /// Runs a command by its name and what it was given, and returns the exit status.

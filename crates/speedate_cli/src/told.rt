@@ -134,9 +134,8 @@ pub fn tell_counts(rt: &HostRuntime, bad: u64, before: u64) {
 
 /// Tells how many lines of a kind there were, if there were any.
 fn tell_count(rt: &HostRuntime, count: u64, one: &str, many: &str) {
-    if count == 1 {
-        let _ = eprintln!(rt; "speedate: 1 {one}");
-    } else if count > 1 {
-        let _ = eprintln!(rt; "speedate: {count} {many}");
+    if count > 0 {
+        let what = if count == 1 { one } else { many };
+        let _ = eprintln!(rt; "speedate: {count} {what}");
     }
 }
