@@ -15,6 +15,7 @@ use crate::idle::{Asked, BoundsKind, Idle, Kind};
 use clap::ArgMatches;
 use speedate::{CallKind, MicrosecondsPrecisionOverflowBehavior, Refused, TimestampUnit};
 use speedate_base::numbers::byte_at;
+use speedate_civil::time::zone_front;
 use speedate_commands::between::Bounds;
 use speedate_commands::convert::Target;
 use speedate_scan::claim::{claims, claims_date, field_claims};
@@ -24,7 +25,6 @@ use speedate_scan::print::Prefix;
 use speedate_scan::reading::{Place, Reader, assume, instant_of};
 use speedate_scan::scan::{BadLines, Offsets, UndatedLines};
 use speedate_scan::timestamp::fewest_digits;
-use speedate_civil::time::zone_front;
 use std::fmt;
 
 /// What the command line asks for that every command has.

@@ -4,10 +4,10 @@ ghost use Rattle.std.specs.Prelude.{◌<◌, length};
 
 use crate::told::tell_unread_zone;
 use speedate::line_end;
+use speedate_civil::time::is_boundary;
 use speedate_scan::form::Form;
 use speedate_scan::reading::{Reader, Reading};
 use speedate_scan::scan::Scan;
-use speedate_civil::time::is_boundary;
 
 /// How many bytes of a file are looked at.
 pub const LOOKED_AT: usize = 4096;

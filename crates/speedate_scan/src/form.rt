@@ -22,8 +22,8 @@ use speedate::{
 };
 use speedate_base::numbers::byte_at;
 use speedate_civil::datetime::{
-    accepted_loose_value, full_front, loose_value_by_parts, loose_whole, require_standard_date_time,
-    usual_loose_value,
+    accepted_loose_value, full_front, loose_value_by_parts, loose_whole,
+    require_standard_date_time, usual_loose_value,
 };
 use speedate_civil::time::end_fault;
 
