@@ -281,6 +281,7 @@ static void say_progress(SpeedateProgress it) {
 
 /* A parser in a form, which ends the name of the call. It answers the part of a text that is refused, and the size of a value
  * at a front. The part of a value ends with it, and without a part the call does the same. */
+#define IS_FRONT(FORM) ((FORM) == SPEEDATE_FRONT || (FORM) == SPEEDATE_LOOSE_FRONT)
 #define PARSE(TYPE, SAY, NAME, ENDING, FORM, CONFIG)                                                                   \
     if (is_call(#NAME "_parse" #ENDING)) {                                                                             \
         const SpeedateConfig *it = CONFIG;                                                                             \
@@ -291,10 +292,10 @@ static void say_progress(SpeedateProgress it) {
         int code = speedate_##NAME##_parse(text, size, FORM, it, out, part);                                           \
         if (said(code, IS_KEPT(code, out) && IS_KEPT(SPEEDATE_OK, part)))                                              \
             SAY(*out);                                                                                                 \
-        if (code == SPEEDATE_OK && FORM == SPEEDATE_FRONT)                                                             \
+        if (code == SPEEDATE_OK && IS_FRONT(FORM))                                                                     \
             say("|%lld", (long long)part->end);                                                                        \
         if (!SPEEDATE_IS_FAULT(code)) {                                                                                \
-            size_t wanted = code != SPEEDATE_OK ? 0 : FORM == SPEEDATE_FRONT ? part->end : size;                       \
+            size_t wanted = code != SPEEDATE_OK ? 0 : IS_FRONT(FORM) ? part->end : size;                               \
             if (part->start != 0 || part->end != wanted || wanted > size || part->kind != SPEEDATE_KIND_NONE)          \
                 strcat(answer, " with another part");                                                                  \
         } else {                                                                                                       \
@@ -512,7 +513,9 @@ static int run_text(const char *text, size_t size) {
     PARSE(SpeedateDateTime, say_datetime, datetime, , SPEEDATE_OR_TIMESTAMP, config_or_null())
     PARSE(SpeedateDateTime, say_datetime, datetime, _text, SPEEDATE_TEXT, config_or_null())
     PARSE(SpeedateDateTime, say_datetime, datetime, _strict, SPEEDATE_STRICT, config_or_null())
+    PARSE(SpeedateDateTime, say_datetime, datetime, _loose, SPEEDATE_LOOSE, config_or_null())
     PARSE(SpeedateDateTime, say_datetime, datetime, _front, SPEEDATE_FRONT, config_or_null())
+    PARSE(SpeedateDateTime, say_datetime, datetime, _loose_front, SPEEDATE_LOOSE_FRONT, config_or_null())
     PARSE(SpeedateDuration, say_duration, duration, , SPEEDATE_TEXT, config_or_null())
     COLUMN(int32_t, date)
     COLUMN(int64_t, time)
@@ -521,7 +524,7 @@ static int run_text(const char *text, size_t size) {
     LINES(int64_t, say_number, datetime_clock_column, datetime_clock_column,
           speedate_datetime_column(text, size, NULL, by.parser, &it, flags | SPEEDATE_CLOCK, again, places, room, &far))
     LINES(SpeedateDateTimeFront, say_datetime_front, datetime_front_column, datetime_front_lines,
-          by.parser ? -1 : speedate_datetime_front_column(text, size, &it, flags, again, places, room, &far))
+          speedate_datetime_front_column(text, size, by.parser, &it, flags, again, places, room, &far))
     OFFSETS_OF(datetime)
     OFFSETS_OF(time)
     REPRINT(SpeedateDate, date, SPEEDATE_OR_TIMESTAMP, value)
@@ -677,7 +680,7 @@ static void try_code(int code) {
         TYPE value;                                                                                                    \
         SpeedatePart part = {1, 1, 1};                                                                                 \
         memset(&value, UNTOUCHED, sizeof value);                                                                       \
-        if (form >= 0 && form < 4 && HAS[form] != ' ')                                                                 \
+        if (form >= 0 && form < 6 && HAS[form] != ' ')                                                                 \
             continue;                                                                                                  \
         if (!IS_REFUSED(speedate_##NAME##_parse("", 0, form, NULL, &value, &part)) ||                                  \
             !IS_REFUSED(speedate_##NAME##_parse("", 0, form, NULL, &value, NULL)) ||                                   \
@@ -691,7 +694,7 @@ static void try_code(int code) {
             SpeedateProgress progress;                                                                                 \
             TYPE out = 0;                                                                                              \
             char text[1];                                                                                              \
-            int is_form = form >= 0 && form < 3 && FORMS[form] != ' ', is_known = flags <= 15;                         \
+            int is_form = form >= 0 && form < 4 && FORMS[form] != ' ', is_known = flags <= 15;                         \
             if (IS_REFUSED(speedate_##NAME##_column("", 0, NULL, form, NULL, flags, &out, NULL, 0, &progress)) ==      \
                     (is_form && flags <= KNOWN) ||                                                                     \
                 IS_REFUSED(speedate_##NAME##_column("", 0, &offset, form, NULL, flags, &out, NULL, 0, &progress)) ==   \
@@ -702,14 +705,14 @@ static void try_code(int code) {
         }
 
 static void try_forms(void) {
-    TRY_FORMS(SpeedateDate, date, "tosf")
-    TRY_FORMS(SpeedateTime, time, "t sf")
-    TRY_FORMS(SpeedateDateTime, datetime, "tosf")
-    TRY_FORMS(SpeedateDuration, duration, "t   ")
-    TRY_FLAGS(int32_t, date, "tos", 15u)
-    TRY_FLAGS(int64_t, time, "t s", 15u)
-    TRY_FLAGS(int64_t, datetime, "tos", 31u)
-    TRY_FLAGS(int64_t, duration, "t  ", 15u)
+    TRY_FORMS(SpeedateDate, date, "tos f ")
+    TRY_FORMS(SpeedateTime, time, "t s f ")
+    TRY_FORMS(SpeedateDateTime, datetime, "toslfL")
+    TRY_FORMS(SpeedateDuration, duration, "t     ")
+    TRY_FLAGS(int32_t, date, "tos ", 15u)
+    TRY_FLAGS(int64_t, time, "t s ", 15u)
+    TRY_FLAGS(int64_t, datetime, "tosl", 31u)
+    TRY_FLAGS(int64_t, duration, "t   ", 15u)
 }
 
 /* Puts the bytes of line ends into the text of a column, where they are written as two letters each. */
@@ -778,9 +781,10 @@ static size_t unescaped(char *text) {
 
 /* A row of the second reading, in each of its forms, as calls with the endings of PARSE. */
 static void run_reading(const char *row) {
-    /* A form, the ending of a call that reads dates or date-times in it, and how much later its kind is. */
+    /* A form, by its number, the ending of a call that reads dates or date-times in it, and how much later its kind is. */
     static const struct { const char *name, *ending; int later; } forms[] = {
-        {"text", "_text", 0}, {"or_timestamp", "", 1}, {"strict", "_strict", 2}, {"front", "_front", 0}};
+        {"text", "_text", 0}, {"or_timestamp", "", 1}, {"strict", "_strict", 2}, {"loose", "_loose", 0},
+        {"front", "_front", 0}, {"loose_front", "_loose_front", 0}};
     static const struct { const char *name; int kind, strict; } types[] = {
         {"date", SPEEDATE_KIND_DATE, 0}, {"time", SPEEDATE_KIND_TIME, 1}, {"datetime", SPEEDATE_KIND_DATETIME, 2},
         {"duration", SPEEDATE_KIND_DURATION, 0}};
@@ -796,13 +800,13 @@ static void run_reading(const char *row) {
     while (type < 3 && strcmp(types[type].name, parts[0]) != 0)
         type++;
     for (form = strtok(parts[1], " "); form; form = strtok(NULL, " "))
-        for (int i = 0; i < 4; i++)
+        for (int i = 0; i < 6; i++)
             if (strcmp(forms[i].name, form) == 0) {
                 int kind = types[type].kind + (forms[i].later == 2 ? types[type].strict : forms[i].later);
                 snprintf(call, sizeof call, "%s_parse%s", parts[0], type % 2 && i == 0 ? "" : forms[i].ending);
                 if (strcmp(parts[4], "ok") != 0)
                     snprintf(wanted, sizeof wanted, "%s|%s %s %d", parts[4], parts[6], parts[7], kind);
-                else if (i == SPEEDATE_FRONT)
+                else if (IS_FRONT(i))
                     snprintf(wanted, sizeof wanted, "ok|%s|%s", parts[5], parts[7]);
                 else
                     snprintf(wanted, sizeof wanted, "ok|%s", parts[5]);

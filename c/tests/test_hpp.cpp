@@ -76,8 +76,9 @@ template <class T> static std::string fields_of(const Result<T> &result) {
 }
 
 static void rows() {
-    const std::array<std::pair<std::string, Form>, 4> forms = {
-        {{"text", Form::Text}, {"or_timestamp", Form::OrTimestamp}, {"strict", Form::Strict}, {"front", Form::Front}}};
+    const std::array<std::pair<std::string, Form>, 6> forms = {
+        {{"text", Form::Text}, {"or_timestamp", Form::OrTimestamp}, {"strict", Form::Strict}, {"loose", Form::Loose},
+         {"front", Form::Front}, {"loose_front", Form::LooseFront}}};
     int tried = 0;
     for (std::string row, it; std::getline(std::cin, row);) {
         std::istringstream fields(row);

@@ -252,6 +252,9 @@ pub enum DateTimeParser {
     OrTimestamp(DateTimeConfig),
     /// Only texts of RFC 3339, as [`DateTime::parse_bytes_strict`](crate::DateTime::parse_bytes_strict).
     Strict(MicrosecondsPrecisionOverflowBehavior),
+    /// No timestamps, but zones as programs print them, as
+    /// [`DateTime::parse_bytes_loose`](crate::DateTime::parse_bytes_loose).
+    Loose(MicrosecondsPrecisionOverflowBehavior),
 }
 
 /// [`Text`](Self::Text), with the default configuration.
@@ -298,6 +301,7 @@ impl From<&DateTimeParser> for (Config, ColumnConfig) {
             DateTimeParser::Text(config) => (config.into(), column),
             DateTimeParser::OrTimestamp(config) => (config.into(), column.form(Form::OrTimestamp)),
             DateTimeParser::Strict(behavior) => (Config::default().behavior(*behavior), column.form(Form::Strict)),
+            DateTimeParser::Loose(behavior) => (Config::default().behavior(*behavior), column.form(Form::Loose)),
         }
     }
 }

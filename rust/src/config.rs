@@ -8,10 +8,12 @@ use crate::{ConfigError, MicrosecondsPrecisionOverflowBehavior};
 /// use speedate::{DateTime, DateTimeConfig, Form};
 ///
 /// let takes = |text: &str, form| DateTime::parse_or_place(text.as_bytes(), form, &DateTimeConfig::default()).is_ok();
-/// let by_each = |text| [Form::Text, Form::OrTimestamp, Form::Strict, Form::Front].map(|form| takes(text, form));
-/// assert_eq!(by_each("2020-02-29 12:13"), [true, true, false, true]);
-/// assert_eq!(by_each("1582978394.5"), [false, true, false, false]);
-/// assert_eq!(by_each("2020-02-29T12:13:14Z GET /"), [false, false, false, true]);
+/// let forms = [Form::Text, Form::OrTimestamp, Form::Strict, Form::Loose, Form::Front, Form::LooseFront];
+/// let by_each = |text| forms.map(|form| takes(text, form));
+/// assert_eq!(by_each("2020-02-29 12:13"), [true, true, false, true, true, true]);
+/// assert_eq!(by_each("1582978394.5"), [false, true, false, false, false, false]);
+/// assert_eq!(by_each("2020-02-29 12:13:14 UTC"), [false, false, false, true, true, true]);
+/// assert_eq!(by_each("2020-02-29T12:13:14Z GET /"), [false, false, false, false, true, true]);
 /// ```
 #[derive(Debug, Clone, Copy, Default, PartialEq, Eq, Hash)]
 #[non_exhaustive]
@@ -24,9 +26,15 @@ pub enum Form {
     /// A text of RFC 3339 and nothing else, without a second 60. For dates, where it is [`Text`](Self::Text), times and
     /// date-times.
     Strict,
-    /// The input begins with the text of a value. What follows is up to you: a date-time whose offset comes after a space,
-    /// `2026-11-01 08:00:00 -0500`, is read without the offset, and ends at byte 19. For dates, times and date-times.
+    /// The same as [`Text`](Self::Text), but the offset may also be a zone as programs print it: `+01`, or after one space
+    /// `UTC`, `GMT`, `+01:00` or `+0100`. For date-times.
+    Loose,
+    /// The input begins with the text of a value. What follows is up to you: `2026-11-01 08:00:00 -0500` is read without
+    /// the offset, and ends at byte 19. For dates, times and date-times.
     Front,
+    /// The input begins with a date-time as [`Loose`](Self::Loose) reads it, and neither a letter nor a digit follows: a
+    /// line of a log. For date-times.
+    LooseFront,
 }
 
 /// The unit of timestamps.

@@ -110,6 +110,53 @@ impl DateTime {
         Ok(ffi::speedate_datetime_parse_strict(bytes, Config::default().behavior(behavior))?)
     }
 
+    /// The date-time of an input as [`Form::Loose`] reads it: its offset may be a zone as programs print it.
+    ///
+    /// ```
+    /// use speedate::{DateTime, MicrosecondsPrecisionOverflowBehavior::Error};
+    ///
+    /// let value = DateTime::parse_bytes_loose(b"2026-11-01 08:00:00 -0500", Error).unwrap();
+    /// assert_eq!(value.to_string(), "2026-11-01T08:00:00-05:00");
+    /// ```
+    ///
+    /// # Errors
+    ///
+    /// Why the text is refused.
+    pub fn parse_bytes_loose(
+        bytes: &[u8],
+        behavior: MicrosecondsPrecisionOverflowBehavior,
+    ) -> Result<Self, ParseError> {
+        Ok(Self::parse_loose(bytes, Form::Loose, behavior)?.0)
+    }
+
+    /// The date-time at the front of an input as [`Form::LooseFront`] reads it, and its size in bytes.
+    ///
+    /// ```
+    /// use speedate::{DateTime, MicrosecondsPrecisionOverflowBehavior::Error};
+    ///
+    /// let (value, size) = DateTime::parse_front_loose(b"2026-11-01 08:00:00 UTC [42]", Error).unwrap();
+    /// assert_eq!((value.to_string().as_str(), size), ("2026-11-01T08:00:00Z", 23));
+    /// ```
+    ///
+    /// # Errors
+    ///
+    /// Why no date-time is at the front.
+    pub fn parse_front_loose(
+        bytes: &[u8],
+        behavior: MicrosecondsPrecisionOverflowBehavior,
+    ) -> Result<(Self, usize), ParseError> {
+        Self::parse_loose(bytes, Form::LooseFront, behavior)
+    }
+
+    fn parse_loose(
+        bytes: &[u8],
+        form: Form,
+        behavior: MicrosecondsPrecisionOverflowBehavior,
+    ) -> Result<(Self, usize), ParseError> {
+        let config = Config::default().behavior(behavior);
+        ffi::speedate_datetime_parse_or_part(bytes, form, config).map_err(Refused::error)
+    }
+
     /// The date-time at the front of an input, whatever follows it, and its size in bytes. A timestamp is refused, and so is
     /// a date without a time.
     ///
@@ -126,7 +173,8 @@ impl DateTime {
         ffi::speedate_datetime_parse_or_part(bytes, Form::Front, config).map_err(Refused::error)
     }
 
-    /// The date-time of an input in a form, and its size in bytes, which only with [`Form::Front`] is not that of the input.
+    /// The date-time of an input in a form, and its size in bytes, which only with [`Form::Front`] and [`Form::LooseFront`]
+    /// is not that of the input.
     ///
     /// ```
     /// use speedate::{DateTime, DateTimeConfig, Form};

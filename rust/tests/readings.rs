@@ -9,12 +9,12 @@ use speedate::{
     Refused, Time, TimeConfig, TimestampUnit,
 };
 
-const KEPT: &str = include_str!("../../tests/rows.txt");
+const KEPT: [&str; 2] = [include_str!("../../tests/rows.txt"), include_str!("../../tests/loose_rows.txt")];
 const ROWS_OF_C: &str = include_str!("../../c/tests/rows.txt");
 
 #[test]
 fn rows() {
-    assert!(try_rows(KEPT) > 3_000);
+    assert!(KEPT.iter().map(|rows| try_rows(rows)).sum::<usize>() > 3_500);
     if let Some(file) = std::env::var_os("SPEEDATE_ROWS") {
         assert!(try_rows(&std::fs::read_to_string(file).unwrap()) > 3_000);
     }
@@ -51,7 +51,9 @@ impl<'a> Row<'a> {
             "text" => Form::Text,
             "or_timestamp" => Form::OrTimestamp,
             "strict" => Form::Strict,
+            "loose" => Form::Loose,
             "front" => Form::Front,
+            "loose_front" => Form::LooseFront,
             _ => panic!("{row}"),
         });
         let (forms, text, wanted) = (forms.collect(), unescaped(text), wanted.to_owned());
@@ -106,7 +108,9 @@ impl<'a> Row<'a> {
                 let alone = match form {
                     Form::OrTimestamp => whole(text, DateTime::parse_bytes_with_config(text, &config)),
                     Form::Strict => whole(text, DateTime::parse_bytes_strict(text, behavior)),
+                    Form::Loose => whole(text, DateTime::parse_bytes_loose(text, behavior)),
                     Form::Front => DateTime::parse_front(text, &time_config),
+                    Form::LooseFront => DateTime::parse_front_loose(text, behavior),
                     _ => whole(text, DateTime::parse_bytes_rfc3339_with_config(text, &time_config)),
                 };
                 both(kind, alone, DateTime::parse_or_place(text, form, &config), |it| {

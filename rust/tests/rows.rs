@@ -139,7 +139,8 @@ impl Row<'_> {
         Some(match self.get::<Column>(2)?.parser {
             0 => DateTimeParser::Text(config.time_config),
             1 => DateTimeParser::OrTimestamp(config),
-            _ => DateTimeParser::Strict(config.time_config.microseconds_precision_overflow_behavior),
+            2 => DateTimeParser::Strict(config.time_config.microseconds_precision_overflow_behavior),
+            _ => DateTimeParser::Loose(config.time_config.microseconds_precision_overflow_behavior),
         })
     }
 
