@@ -91,6 +91,33 @@ def duration_value(form, config, text):
     return second_durations.duration(text, config.truncates, config.is_ordered), len(text)
 
 
+# ---- Printing ----
+
+
+def offset_text(has_offset, offset):
+    minutes = abs(offset) // 60
+    return "" if not has_offset else "Z" if offset == 0 else f"{'-' if offset < 0 else '+'}{minutes // 60:02}:{minutes % 60:02}"
+
+
+def time_text(hour, minute, second, has_offset, microsecond, offset):
+    return f"{hour:02}:{minute:02}:{second:02}{f'.{microsecond:06}' if microsecond else ''}{offset_text(has_offset, offset)}"
+
+
+def duration_text(negative, days, seconds, microseconds):
+    second = f"{seconds % 60}.{microseconds:06}".rstrip("0") if microseconds else seconds % 60
+    before, after = [(days // 365, "Y"), (days % 365, "D")], [(seconds // 3600, "H"), (seconds // 60 % 60, "M"), (second, "S")]
+    before, after = ["".join(f"{it}{unit}" for it, unit in some if it) for some in (before, after)]
+    return f"{'-' if negative else ''}P{before}{'T' if after or not before else ''}{after or '0S' * (not before)}"
+
+
+def printed(kind, value):
+    """The text of a value by its numbers."""
+    if kind == "duration":
+        return duration_text(*value)
+    date = "{:04}-{:02}-{:02}".format(*value[:3])
+    return date if kind == "date" else time_text(*value) if kind == "time" else f"{date}T{time_text(*value[3:])}"
+
+
 VALUES = {"date": date_value, "time": time_value, "datetime": date_time_value, "duration": duration_value}
 
 

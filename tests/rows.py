@@ -14,7 +14,8 @@ A row has these fields, with a tab between them:
 - the code: ok, or the error;
 - the numbers of the value, in the order of its struct in c/speedate.h; of a refused text none;
 - where the value, or the wrong part, begins;
-- where it ends.
+- where it ends;
+- the text that the value is printed as; of a refused text none.
 """
 import collections
 import pathlib
@@ -22,7 +23,7 @@ import random
 import sys
 
 import texts
-from answers import FORMS, Config, answer
+from answers import FORMS, Config, answer, printed
 
 HERE = pathlib.Path(__file__).resolve().parent
 # The configurations of each kind, the default first.
@@ -41,7 +42,8 @@ def escaped(text):
 
 def row(kind, forms, config, text, it):
     """The row of a text that has this answer in some forms."""
-    return "\t".join([kind, " ".join(forms), " ".join(map(str, config)), escaped(text), it.code, " ".join(map(str, it.value)), str(it.start), str(it.end)])
+    answered = [it.code, " ".join(map(str, it.value)), str(it.start), str(it.end), printed(kind, it.value) if it.value else ""]
+    return "\t".join([kind, " ".join(forms), " ".join(map(str, config)), escaped(text), *answered])
 
 
 def forms_of(kind, loose):
@@ -75,7 +77,8 @@ def kept(loose):
 
 
 def drawn(draw, loose):
-    """A drawn row: a text of a family, or of parts, with other digits and up to three pieces changed, and a configuration."""
+    """A drawn row: a text of a family, or of parts, with other digits, up to three pieces changed and one many times, and a
+    configuration."""
     kind = "datetime" if loose else draw.choice(list(FORMS))
     form = draw.choice(forms_of(kind, loose))
     if kind != "duration" and form != "or_timestamp" and draw.random() < 0.5:
@@ -92,6 +95,9 @@ def drawn(draw, loose):
         at = draw.randrange(len(data) + 1)
         piece = draw.choice(BROKEN) if draw.random() < 0.05 else draw.choice(PIECES).encode()
         data = data[:at] + piece + data[at + draw.randrange(2):]
+    if draw.random() < 0.1:
+        at = draw.randrange(len(data) + 1)
+        data = data[:at] + draw.choice(["3", "7", " ", "x", "\u00e9", "+01:00"]).encode() * draw.randrange(100) + data[at:]
     config = Config(draw.choice([0, 0, 3600, -86_399, 86_399]), draw.randrange(2), draw.randrange(4), draw.randrange(2), draw.randrange(2))
     config = config if draw.random() < 0.7 else Config()
     return row(kind, [form], config, data, answer(kind, form, config, data))

@@ -9,7 +9,7 @@
  * the room for numbers and, if there is any, for errors, and the text; then the numbers, the errors, how many lines and
  * bytes they are, and the name of the error that ends it. A row of a column of texts has their offsets before the text.
  * A row of a column that is printed has the room for the text, and the numbers; then the text, and the same. A part is
- * its start, its end and its kind. A row of a text that is read and printed, as the program does, has just the texts.
+ * its start, its end and its kind.
  *
  * Each text is read from three places: a block of the heap of its very size, the end of a page after which none can
  * be read, and the beginning of one before which none can be; an empty one also from NULL. Each text is printed into
@@ -28,7 +28,7 @@
 
 #define UNTOUCHED 0xA5
 #define FIELDS 10
-#define ROW_SIZE 512
+#define ROW_SIZE 2048
 /* How many places a column has, most of which no call may touch. */
 #define PLACES 12
 
@@ -481,18 +481,6 @@ static int is_call(const char *name) {
         PRINTS(speedate_##CALL(it, digits, buffer, size, length))                                                      \
     }
 
-/* A text that is read without a configuration, and the text of its value. */
-#define REPRINT(TYPE, NAME, FORM, VALUE)                                                                               \
-    if (is_call(#NAME "_reprint")) {                                                                                   \
-        TYPE value;                                                                                                    \
-        int read = speedate_##NAME##_parse(text, size, FORM, NULL, &value, NULL);                                      \
-        if (read == SPEEDATE_OK)                                                                                       \
-            PRINTS(speedate_##NAME##_to_text(VALUE, buffer, size, length))                                             \
-        say_code(read);                                                                                                \
-        return 1;                                                                                                      \
-    }
-#define WITH_DIGITS value, SPEEDATE_DIGITS_AUTO
-
 /* Calls of a text: the text is the row's last argument. */
 static int run_text(const char *text, size_t size) {
     field = 1;
@@ -527,10 +515,6 @@ static int run_text(const char *text, size_t size) {
           speedate_datetime_front_column(text, size, by.parser, &it, flags, again, places, room, &far))
     OFFSETS_OF(datetime)
     OFFSETS_OF(time)
-    REPRINT(SpeedateDate, date, SPEEDATE_OR_TIMESTAMP, value)
-    REPRINT(SpeedateTime, time, SPEEDATE_TEXT, WITH_DIGITS)
-    REPRINT(SpeedateDateTime, datetime, SPEEDATE_OR_TIMESTAMP, WITH_DIGITS)
-    REPRINT(SpeedateDuration, duration, SPEEDATE_TEXT, value)
     TEXTS(int32_t, date)
     TEXTS(int64_t, time)
     TEXTS(int64_t, datetime)
@@ -779,7 +763,7 @@ static size_t unescaped(char *text) {
     return (size_t)(to - text);
 }
 
-/* A row of the second reading, in each of its forms, as calls with the endings of PARSE. */
+/* A row of the second reading, in each of its forms, as calls with the endings of PARSE, and the printed value. */
 static void run_reading(const char *row) {
     /* A form, by its number, the ending of a call that reads dates or date-times in it, and how much later its kind is. */
     static const struct { const char *name, *ending; int later; } forms[] = {
@@ -788,9 +772,9 @@ static void run_reading(const char *row) {
     static const struct { const char *name; int kind, strict; } types[] = {
         {"date", SPEEDATE_KIND_DATE, 0}, {"time", SPEEDATE_KIND_TIME, 1}, {"datetime", SPEEDATE_KIND_DATETIME, 2},
         {"duration", SPEEDATE_KIND_DURATION, 0}};
-    char copy[ROW_SIZE], call[32], wanted[ROW_SIZE], *parts[8], *form;
+    char copy[ROW_SIZE], call[32], wanted[ROW_SIZE], *parts[9], *form;
     snprintf(copy, sizeof copy, "%s", row);
-    if (cut(copy, '\t') != 8) {
+    if (cut(copy, '\t') != 9) {
         FAIL("no row: %s\n", row);
         return;
     }
@@ -816,6 +800,13 @@ static void run_reading(const char *row) {
             }
     if (!tried)
         FAIL("no form: %s\n", row);
+    if (strcmp(parts[4], "ok") == 0) {
+        snprintf(call, sizeof call, "%s_to_text", parts[0]);
+        snprintf(wanted, sizeof wanted, "ok|%s", parts[8]);
+        fields[1] = parts[5];
+        if (run_value())
+            compare(row, wanted);
+    }
 }
 
 int main(void) {

@@ -67,12 +67,12 @@ static std::string numbers_of(const SpeedateDuration &it) {
     to << it.negative << ' ' << it.day << ' ' << it.second << ' ' << it.microsecond;
     return to.str();
 }
-// The last four fields of a row.
+// The last five fields of a row.
 template <class T> static std::string fields_of(const Result<T> &result) {
     if (result)
-        return "ok\t" + numbers_of(result->c()) + "\t0\t" + std::to_string(result.size());
+        return "ok\t" + numbers_of(result->c()) + "\t0\t" + std::to_string(result.size()) + "\t" + result->to_text();
     const Error &it = result.error();
-    return it.name() + std::string("\t\t") + std::to_string(it.start()) + "\t" + std::to_string(it.end());
+    return it.name() + std::string("\t\t") + std::to_string(it.start()) + "\t" + std::to_string(it.end()) + "\t";
 }
 
 static void rows() {

@@ -1,5 +1,5 @@
 // Wrong arguments, options, values, other realms and prototypes, long texts, places of errors, many calls, CommonJS, how a module is
-// found, and the examples of documents: node package.mjs HEADER DOCUMENT.., where HEADER is speedate.h.
+// found, and the examples of documents: node package.mjs DOCUMENT..
 import assert from "node:assert/strict";
 import { readFileSync, writeFileSync } from "node:fs";
 import { createRequire } from "node:module";
@@ -11,7 +11,7 @@ import { gzipSync } from "node:zlib";
 import * as core from "speedate";
 import * as speedate from "speedate/columns";
 import { scriptOf } from "./examples.mjs";
-import { thrown, unitsAt } from "./helpers.mjs";
+import { thrown } from "./helpers.mjs";
 
 const { add, columnReader, dateTimeFromTimestamp, format, fromDate, parseDate, parseDateFront, parseDateTime, parseDuration, parseTime, readColumn, safeParseDate, toDate, toUnixMicroseconds, withOffset } = speedate;
 const date = parseDate("2020-02-29");
@@ -21,7 +21,7 @@ const duration = parseDuration("-P1DT0.001002S");
 const readers = Object.keys(speedate).filter((it) => /arse/.test(it));
 const moduleOf = (name) => new WebAssembly.Module(readFileSync(`node_modules/speedate/${name}.wasm`));
 const wasm = moduleOf("columns");
-const [header, ...documents] = process.argv.slice(2);
+const documents = process.argv.slice(2);
 
 // ---- Wrong arguments: of each call those that are right, and what is wrong in the place of each ----
 
@@ -395,7 +395,7 @@ for (const size of [63, 64, 65, 65000, 66000, 2 ** 24, 2 ** 24 + 1]) {
 
 // ---- Where errors start and end: in units of a string, otherwise in bytes ----
 
-/** A reader, a text that it refuses, and where the part starts and ends in a string and in bytes. rows.mjs has more. */
+/** A reader, a text that it refuses, and where the part starts and ends in a string and in bytes. readings.mjs has more. */
 const PARTS = [
   ["Date", "20200229", [8, 8], [8, 8]],
   ["Date", "\u00e9", [1, 1], [2, 2]], ["Date", "\u2212", [1, 1], [3, 3]], ["Date", "\u{1f600}", [2, 2], [4, 4]], ["Date", "\ud83d", [1, 1], [3, 3]], ["Date", "\ud83d\u{1f600}\ude00", [0, 3], [0, 7]],
@@ -456,66 +456,6 @@ for (const [call, wanted] of [
 const ofLine = thrown(() => readColumn("1970-01-01\n2021-02-2\u2212\r\n", "date"));
 assert.deepEqual([ofLine.index, ofLine.code, ofLine.start, ofLine.end, String(ofLine.text)], [1, "invalid_char_day", 8, 12, String(Buffer.from("2021-02-2\u2212").toJSON().data)], "a part of a line is counted in bytes");
 
-// Readers answer as the functions of C do. Of a long line one of fronts gets no more than it can look at, and C all of it.
-const { memory, __heap_base: base, ...inC } = new WebAssembly.Instance(wasm).exports;
-memory.grow(1);
-const FORMS_IN_C = { _text: 0, _strict: 2, _front: 3 };
-const [OUT, CONFIG, PART, TEXT] = [0, 24, 32, 56].map((it) => Number(base.value) + it);
-const UNITS = ["infer", "s", "ms", "us"];
-/** The code that C gives of a text, and in bytes the size of a front, or the place of the error. */
-function answerInC(kind, how, bytes, { timestampUnit = "infer", overflow = "error", isoOrder = "lax" }) {
-  const view = new DataView(memory.buffer);
-  new Uint8Array(memory.buffer).set(bytes, TEXT);
-  view.setUint8(CONFIG + 5, UNITS.indexOf(timestampUnit));
-  view.setUint8(CONFIG + 6, overflow === "truncate" ? 1 : 0);
-  view.setUint8(CONFIG + 7, isoOrder === "strict" ? 1 : 0);
-  const form = FORMS_IN_C[how] ?? (kind.startsWith("date") ? 1 : 0);
-  const code = inC[`speedate_${kind}_parse_or_part`](BigInt(TEXT), BigInt(bytes.length), form, BigInt(CONFIG), BigInt(OUT), BigInt(PART));
-  if (code !== 0) return [code, view.getUint32(PART, true)];
-  return [code, how === "_front" ? view.getUint32(PART + 8, true) : undefined];
-}
-let drawn = 1;
-const one = (all) => all[(drawn = (drawn * 48271) % 2147483647) % all.length];
-const VALUES = ["2020-02-29", "2020-02-29T12:13", "2020-02-29T12:13:14", "2020-02-29 12:13:14.5", "12:13", "12:13:14,", "12:13:14.1234567", "2020-02-29T12:13:14.1234567", "12:1", "2020-13"];
-const DIGITS = ["", "", "0".repeat(12), "1".repeat(31), "2".repeat(40), "3".repeat(100)];
-const ZONES = ["", "Z", "+01:00", "-0130", "\u221208:00", "\u22128:00", "+25:00", "+01:0", "+", "\u00e2\u0088\u009208:00", "9", "-00:00", "\u{1f600}", "\ud83d"];
-const RESTS = ["", " x", "x".repeat(70), "7".repeat(200), "\u{1f600}".repeat(50), "+01:00".repeat(40), " ".repeat(1000)];
-const MARKS = ["", "0", "9", "-", ":", ".", ",", "+", "T", "Z", " ", "\u00e9", "\u2212", "\u{1f600}", "\ud83d"];
-/** A value with what may follow it, or a short text of which one character is another. */
-function drawText() {
-  const [value, zone] = [one([...VALUES, "86400000", "20000000001.00001", "P1Y2M3DT4H5M6.5S", "-PT90M", "1 day, 10:20", "00:00:00.1234567"]), one(ZONES)];
-  if (one([true, false])) return value + one(DIGITS) + zone + one(RESTS);
-  const at = one([...value].map((_, i) => i));
-  return value.slice(0, at) + one(MARKS) + (value + zone).slice(at + 1);
-}
-const READ = [
-  ["Date", "date", "_text"], ["Date", "date", "", "form", "timestampUnit"], ["DateFront", "date", "_front"],
-  ["Time", "time", "", "overflow"], ["Time", "time", "_strict", "overflow", "form"], ["TimeFront", "time", "_front", "overflow"],
-  ["DateTime", "datetime", "_text", "overflow"], ["DateTime", "datetime", "", "form", "timestampUnit", "overflow"],
-  ["DateTime", "datetime", "_strict", "overflow", "form"], ["DateTimeFront", "datetime", "_front", "overflow"],
-  ["Duration", "duration", "", "overflow", "isoOrder"],
-];
-const drawOption = {
-  timestampUnit: () => one(UNITS), overflow: () => one(["error", "truncate"]), isoOrder: () => one(["lax", "strict"]),
-  form: (how) => (how === "_strict" ? "strict" : "orTimestamp"),
-};
-/** The names of errors, by their numbers in C. */
-const NAMES = new Map(readFileSync(header, "utf8").match(/SPEEDATE_[A-Z_0-9]+ = \d+/g).map((it) => it.slice(9).split(" = ")).map(([name, number]) => [Number(number), name.toLowerCase()]));
-for (let i = 0; i < 5000; i++) {
-  const text = drawText();
-  for (const [name, kind, how, ...its] of READ) {
-    const options = one([true, false]) || its.some((it) => it !== "overflow") ? Object.fromEntries(its.map((it) => [it, drawOption[it](how)])) : undefined;
-    const bytes = Buffer.from(text);
-    const [wanted, size] = answerInC(kind, how, bytes, options ?? {});
-    for (const it of [text, bytes]) {
-      const { ok, code = "ok", value, start } = speedate[`safeParse${name}`](it, options);
-      const counted = wanted === 0 || it === bytes ? size : unitsAt(text, size);
-      assert.deepEqual([code, ok ? value.size : start], [NAMES.get(wanted), counted], text);
-      if (!ok) assert.equal(thrown(() => speedate[`parse${name}`](it, options)).start, counted, text);
-      if (ok && value.length !== undefined) assert.equal(Buffer.byteLength(text.slice(0, value.length)), value.size, text);
-    }
-  }
-}
 setFlagsFromString("--expose-gc");
 const collect = runInNewContext("gc");
 const held = () => (collect(), process.memoryUsage().rss / 2 ** 20);
@@ -591,7 +531,7 @@ for (const globals of [{ TextEncoder }, {}]) {
   // Jest's jsdom has no TextEncoder.
   runInNewContext(`(function (module, require, __dirname) {${readFileSync(file, "utf8")}\n})`, globals)(inRealm, require, dirname(file));
   assert.equal(inRealm.exports.format(inRealm.exports.parseDateTime(Buffer.from("2020-02-29 12:13"), { overflow: "truncate" })), "2020-02-29T12:13:00");
-  for (const it of [...VALUES.map((it, i) => it + ZONES[i] + "\u00e9\u2212\u{1f600}"), ...MARKS, "12:13\u221208:00", "\udc00\ud800\ud800\udc00x".repeat(50)])
+  for (const it of [...PARTS.map(([, text]) => text.slice(0, 99)), "", "\ud83d", "12:13\u221208:00", "12:13Z\u00e9\u2212\u{1f600}", "\udc00\ud800\ud800\udc00x".repeat(50)])
     assert.equal(JSON.stringify(inRealm.exports.safeParseTime(it)), JSON.stringify(speedate.safeParseTime(it)));
 }
 // A first call that finds no room on the stack leaves nothing half done.

@@ -28,12 +28,13 @@ function stringOf(bytes) {
 
 let ran = 0;
 for (const row of readFileSync(process.argv[2] ?? "readings.txt", "utf8").split("\n").filter(Boolean)) {
-  const [kind, forms, config, escaped, code, value, start, end] = row.split("\t");
+  const [kind, forms, config, escaped, code, value, start, end, printed] = row.split("\t");
   const [, , unit, truncates, isOrdered] = config.split(" ").map(Number);
   const bytes = bytesOf(escaped);
   const string = stringOf(bytes);
   // A text of a date-time has a colon.
-  const inUtc = kind === "datetime" && !bytes.includes(58) ? { offsetSeconds: 0 } : {};
+  const isTimestamp = kind === "datetime" && !bytes.includes(58);
+  const inUtc = isTimestamp ? { offsetSeconds: 0 } : {};
   for (const form of forms.split(" ").filter((it) => KINDS[kind][1][it])) {
     const [name, options] = KINDS[kind];
     const all = { form: FORMS[form], timestampUnit: ["infer", "s", "ms", "us"][unit], overflow: ["error", "truncate"][truncates], isoOrder: ["lax", "strict"][isOrdered] };
@@ -47,6 +48,7 @@ for (const row of readFileSync(process.argv[2] ?? "readings.txt", "utf8").split(
       if (code !== "ok") assert.deepEqual([told.code, told.start, told.end], [code, at(start), at(end)], row);
       else if (form === "front") assert.deepEqual(told.value, { value: answered(value), size: Number(end), ...length }, row);
       else assert.deepEqual(told.value, { ...answered(value), ...inUtc }, row);
+      if (code === "ok" && !isTimestamp) assert.equal(speedate.format(form === "front" ? told.value.value : told.value), printed, row);
       ran++;
     }
   }

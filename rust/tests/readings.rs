@@ -2,7 +2,7 @@
 //! the part too: the rows that are kept, and those of the file that `SPEEDATE_ROWS` names. What was expected is as the rows of C
 //! have it.
 
-use std::fmt::Debug;
+use std::fmt::{Debug, Display};
 
 use speedate::{
     Date, DateConfig, DateTime, DateTimeConfig, Duration, Form, MicrosecondsPrecisionOverflowBehavior, ParseError,
@@ -78,6 +78,9 @@ impl<'a> Row<'a> {
         let date_config = DateConfig { timestamp_unit };
         let config = DateTimeConfig { timestamp_unit, time_config: time_config.clone() };
         let text = &self.text[..];
+        let str = std::str::from_utf8(text).ok();
+        // The same text as a `str`, by the call without a configuration too.
+        let default = str.filter(|_| self.config == [0; 5]);
         // The number of the kind in C, on which it depends what was expected.
         let kind = match (self.kind, form) {
             ("date", _) => 1 + i32::from(form == Form::OrTimestamp),
@@ -94,7 +97,14 @@ impl<'a> Row<'a> {
                     Form::Front => Date::parse_front(text),
                     _ => whole(text, Date::parse_bytes_rfc3339(text)),
                 };
-                both(kind, alone, Date::parse_or_place(text, form, &date_config), of_date)
+                let strs = match form {
+                    Form::OrTimestamp => {
+                        [str.map(|it| Date::parse_str_with_config(it, &date_config)), default.map(Date::parse_str)]
+                    }
+                    Form::Front => [None, None],
+                    _ => [str.map(Date::parse_str_rfc3339), None],
+                };
+                both(kind, as_strs(alone, strs), Date::parse_or_place(text, form, &date_config), of_date)
             }
             "time" => {
                 let alone = match form {
@@ -102,7 +112,8 @@ impl<'a> Row<'a> {
                     Form::Front => Time::parse_front(text, &time_config),
                     _ => whole(text, Time::parse_bytes_with_config(text, &time_config)),
                 };
-                both(kind, alone, Time::parse_or_place(text, form, &time_config), of_time)
+                let strs = default.filter(|_| form == Form::Text).map(Time::parse_str);
+                both(kind, as_strs(alone, [strs]), Time::parse_or_place(text, form, &time_config), of_time)
             }
             "datetime" => {
                 let alone = match form {
@@ -113,15 +124,25 @@ impl<'a> Row<'a> {
                     Form::LooseFront => DateTime::parse_front_loose(text, behavior),
                     _ => whole(text, DateTime::parse_bytes_rfc3339_with_config(text, &time_config)),
                 };
-                both(kind, alone, DateTime::parse_or_place(text, form, &config), |it| {
+                let strs = match form {
+                    Form::OrTimestamp => {
+                        [str.map(|it| DateTime::parse_str_with_config(it, &config)), default.map(DateTime::parse_str)]
+                    }
+                    Form::Text => [default.map(DateTime::parse_str_rfc3339), None],
+                    _ => [None, None],
+                };
+                both(kind, as_strs(alone, strs), DateTime::parse_or_place(text, form, &config), |it| {
                     format!("{} {}", of_date(&it.date), of_time(&it.time))
                 })
             }
             _ => {
                 let alone = whole(text, Duration::parse_bytes_with_config(text, &time_config));
-                both(kind, alone, Duration::parse_or_place(text, form, &time_config), |it| {
-                    format!("{} {} {} {}", u8::from(!it.positive), it.day, it.second, it.microsecond)
-                })
+                both(
+                    kind,
+                    as_strs(alone, [default.map(Duration::parse_str)]),
+                    Duration::parse_or_place(text, form, &time_config),
+                    |it| format!("{} {} {} {}", u8::from(!it.positive), it.day, it.second, it.microsecond),
+                )
             }
         }
     }
@@ -143,17 +164,28 @@ fn whole<T>(text: &[u8], answer: Result<T, ParseError>) -> Result<(T, usize), Pa
     answer.map(|value| (value, text.len()))
 }
 
+/// An answer, unless the same text as a `str` has another one.
+fn as_strs<T: Clone + Debug + PartialEq, const N: usize>(
+    answer: Result<(T, usize), ParseError>,
+    strs: [Option<Result<T, ParseError>>; N],
+) -> Result<(T, usize), ParseError> {
+    for it in strs.into_iter().flatten() {
+        assert_eq!(it, answer.clone().map(|front| front.0));
+    }
+    answer
+}
+
 /// The answer of the parser that gives the part, as a row has it, and that of the other if it is not the same.
-fn both<T: Debug + PartialEq>(
+fn both<T: Debug + Display + PartialEq>(
     kind: i32,
     alone: Result<(T, usize), ParseError>,
     placed: Result<(T, usize), Refused>,
     numbers_of: impl Fn(&T) -> String,
 ) -> Vec<String> {
     let shown = match &placed {
-        Ok((value, size)) => format!("ok\t{}\t0\t{size}", numbers_of(value)),
+        Ok((value, size)) => format!("ok\t{}\t0\t{size}\t{value}", numbers_of(value)),
         Err(refused) if !is_expected(refused, kind) => format!("{refused}"),
-        Err(Refused { fault, start, end, .. }) => format!("{fault}\t\t{start}\t{end}"),
+        Err(Refused { fault, start, end, .. }) => format!("{fault}\t\t{start}\t{end}\t"),
     };
     let is_same = match (&alone, &placed) {
         (Ok(value), Ok(other)) => value == other,
