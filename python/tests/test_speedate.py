@@ -1,5 +1,4 @@
-"""Tests of the module that is installed: its docstrings and names, the rows below and those of C, the recorded lines of diff/,
-and texts that `datetime` reads too."""
+"""Tests of the module that is installed: its docstrings and names, the rows below and those of C, and texts that `datetime` reads too."""
 import array
 import collections.abc
 import copy
@@ -399,28 +398,6 @@ def drawn(draw):
 
 
 ROOT = pathlib.Path(__file__).resolve().parents[2]
-READERS = {
-    "date": lambda text: speedate.date(text, timestamps=True), "datetime": lambda text: speedate.datetime(text, timestamps=True),
-    "time": speedate.time, "duration": speedate.duration,
-}
-
-
-def reply(line):
-    """What the program answers to a line, or why Python has no such value."""
-    kind, _, text = line.partition(" ")
-    try:
-        return f"ok {speedate.text(READERS[kind](text))}"
-    except speedate.ParseError as error:
-        return error.code if error.code in ("year_zero", "duration_too_small") else f"err {error.code}"
-
-
-def represented(answer):
-    """The answer where Python has the year 0, all durations, and no negative zero."""
-    if answer.startswith("ok 0000-"):
-        return "year_zero"
-    if answer.startswith("ok -P2739726Y9DT"):
-        return "duration_too_small"
-    return answer.replace("-PT0S", "PT0S")
 
 
 def answer(call):
@@ -481,14 +458,6 @@ class Speedate(unittest.TestCase):
             expression, _, wanted = row.partition(" -> ")
             with self.subTest(expression):
                 self.assertEqual(answer(lambda: eval(expression, names)), wanted)
-
-    def test_recorded_lines(self):
-        for name in ("answers.txt", "known_differences.txt"):
-            rows = [row.split("\t") for row in (ROOT / "diff" / name).read_text("utf-8").split("\n") if row and not row.startswith("#")]
-            self.assertTrue(rows, name)
-            for line, *_, wanted in rows:
-                with self.subTest(line):
-                    self.assertEqual(reply(line), represented(wanted))
 
     def test_rows_of_c(self):
         ran, left = collections.Counter(), collections.Counter()
