@@ -1,6 +1,6 @@
 // SPDX-License-Identifier: MIT
 // The entry `speedate/columns`: all of `speedate`, and columns.
-import type { DateOptions, DateTimeFormOptions, DateTimeOptions, DurationOptions, ErrorCode, MissingOffsetOptions, OverflowOptions, StringOrBytes, TimeOptions } from "./speedate.js";
+import type { DateOptions, DateTimeFormOptions, DateTimeOptions, DurationOptions, ErrorCode, LooseOptions, MissingOffsetOptions, OverflowOptions, StringOrBytes, TimeOptions } from "./speedate.js";
 export * from "./speedate.js";
 
 /** A refused line of a column: its index, from 0, why, its bytes without their end, and where in these the wrong part starts and ends. */
@@ -39,7 +39,7 @@ export type DateTimePartColumnOptions = DateTimeFormOptions & ColumnOptions;
 export type TimeColumnOptions = TimeOptions & ColumnOptions;
 export type DurationColumnOptions = DurationOptions & ColumnOptions;
 /** The form `front` reads the date-time at the front of each line, whatever follows it, as of a log. */
-export type FrontColumnOptions = { form: "front" } & OverflowOptions & MissingOffsetOptions & ColumnOptions;
+export type FrontColumnOptions = { form: "front" } & OverflowOptions & MissingOffsetOptions & LooseOptions & ColumnOptions;
 
 /** Reads a column: a text with one value on each line. A line is ended by a line feed, with a carriage return before it or without, or by
  * the end of the text. A byte order mark at the beginning is dropped. `readColumn("1970-01-02\n", "date").numbers` is `Int32Array.of(1)`. The number of a line, by kind:

@@ -17,7 +17,7 @@ COLUMN.text = COLUMN.errors + LINES_AT_ONCE;
 
 const UNIT = { ms: 0x40000, us: 0x80000 };
 const REFUSED = { stop: 0x100000, number: 0x200000, collect: 0x400000 };
-Object.assign(BITS, { unit: UNIT, refused: REFUSED });
+Object.assign(BITS, { unit: choicesOf(UNIT), refused: choicesOf(REFUSED) });
 
 // ---- Columns ----
 
@@ -83,9 +83,8 @@ function newColumn(name, options) {
   const refused = numbers & bitsOf(REFUSED);
   if (sizes.maxRefusals !== undefined && refused !== REFUSED.collect) throw new TypeError("maxRefusals has to be given with refused: collect");
   start();
-  const form = formOf(numbers);
-  const isFront = form === FORM.front;
-  const parser = isFront ? FORM.text : form;
+  const isFront = (numbers & FORMS.front) !== 0;
+  const parser = formOf(numbers);
   const kinds = numbers & MISSING.utc ? KINDS.dateTime : usual;
   const returned = its & IN_UNITS ? UNITS_OF_COLUMNS[numbers & UNIT.us ? 1 : 0] : INTEGERS;
   return {

@@ -65,7 +65,7 @@ export type Answer<Value> = { readonly ok: true; readonly value: Value } | Refus
 /** A refused text. */
 export type Refusal = { readonly ok: false } & Reason & Part;
 /** The value at the front of a text, and its size in bytes of UTF-8, and in units of a string: 10 of `2020-02-29 rent`. What follows is
- * the caller's: `2020-02-29 08:00:00 -0500` begins with a date-time that lacks an offset. */
+ * the caller's: `2020-02-29 08:00:00 -0500` begins with a date-time that lacks an offset, but not with `loose`. */
 export type Front<Value, Text> = { readonly value: Value; readonly size: number } & (Text extends string ? { readonly length: number } : unknown);
 
 /** `infer` is `s` if the timestamp without its sign is at most 20000000000, otherwise `ms`. */
@@ -83,7 +83,10 @@ export type DateOptions = TextForm | TimestampForm;
 export type TimeOptions = OverflowOptions & Omit<StrictForm, "timestampUnit">;
 /** How a date-time is read: in any form but numbers (`text`, the default), also as a timestamp of this unit, any number, whose value
  * is in UTC, or only by RFC 3339 (`strict`). */
-export type DateTimeFormOptions = OverflowOptions & (StrictForm | TimestampForm);
+export type DateTimeFormOptions = OverflowOptions & ((TextForm & LooseOptions) | ((StrictForm | TimestampForm) & { loose?: false }));
+/** Whether the offset may also be a zone as programs print it: `+01`, and after one blank `UTC`, `GMT`, `+01:00` or `+0100`. At the front of a text
+ * a letter or a digit after the date-time is then refused. */
+export type LooseOptions = { loose?: boolean };
 /** A date-time without an offset is refused with `tz_required` (`error`), or taken to be in UTC (`utc`). By default its
  * `offsetSeconds` is null, and a column refuses it. */
 export type MissingOffsetOptions = { missingOffset?: "error" | "utc" };
@@ -105,7 +108,7 @@ export function parseDateFront<It extends StringOrBytes>(text: It, options?: NoO
 /** The same of a time: `12:13` of `12:13, noon`. */
 export function parseTimeFront<It extends StringOrBytes>(text: It, options?: OverflowOptions): Front<SpeedateTime, It>;
 /** The same of a date-time: `2020-02-29T12:13:14Z` of `2020-02-29T12:13:14Z GET /`. */
-export function parseDateTimeFront<It extends StringOrBytes>(text: It, options?: OverflowOptions): Front<SpeedateDateTime, It>;
+export function parseDateTimeFront<It extends StringOrBytes>(text: It, options?: OverflowOptions & LooseOptions): Front<SpeedateDateTime, It>;
 /** As `parseDate`, but a refusal is returned: `safeParseDate("2021-02-29")` is `{ ok: false, code: "out_of_range_day",
  * expected: "a day that the month has", start: 8, end: 10 }`. */
 export function safeParseDate(text: unknown, options?: DateOptions): Answer<SpeedateDate>;
@@ -120,7 +123,7 @@ export function safeParseDateFront<It>(text: It, options?: NoOptions): Answer<Fr
 /** As `parseTimeFront`, but a refusal is returned. */
 export function safeParseTimeFront<It>(text: It, options?: OverflowOptions): Answer<Front<SpeedateTime, It>>;
 /** As `parseDateTimeFront`, but a refusal is returned. */
-export function safeParseDateTimeFront<It>(text: It, options?: OverflowOptions): Answer<Front<SpeedateDateTime, It>>;
+export function safeParseDateTimeFront<It>(text: It, options?: OverflowOptions & LooseOptions): Answer<Front<SpeedateDateTime, It>>;
 
 /** Why a schema refuses data. The message is `expected`, after that word. */
 export type SchemaIssue = { readonly message: string } & Reason & Part;

@@ -29,13 +29,13 @@ const FIELDS_EXPECTED = {
 const INVALID_TYPE = -1;
 const NO_ROOM = -2;
 /** The forms of texts, with their numbers in C, which has its own calls for fronts. */
-const FORM = { text: 0, orTimestamp: 1, strict: 2, front: 3 };
+const FORM = { text: 0, orTimestamp: 1, strict: 2, loose: 3, front: 4, looseFront: 5 };
 /** C's numbers for the kinds of calls, by the forms of texts. The phrase for what is expected depends on the kind. */
 const NONE = 0;
 const KINDS = {
-  date: [1, 2], time: [3, NONE, 4], dateTime: [5, 6, 7], duration: [8],
+  date: [1, 2], time: [3, NONE, 4], dateTime: [5, 6, 7, 5], duration: [8],
   // These two require an offset, and only this package has them. The strict kinds of C require one too.
-  offset: [9, NONE, 4], instant: [10, 10, 7],
+  offset: [9, NONE, 4], instant: [10, 10, 7, 10],
 };
 const WITH_OFFSET = { 9: KINDS.time, 10: KINDS.dateTime };
 
@@ -241,7 +241,7 @@ function largeLibrary(size) {
 function read(text, isFront, numbers, call) {
   start();
   const short = putShort(text);
-  const form = isFront ? FORM.front : formOf(numbers);
+  const form = !isFront ? formOf(numbers) : numbers & LOOSE ? FORM.looseFront : FORM.front;
   if (short !== undefined) return call(kept, short, numbers, form);
   const bytes = typeof text === "string" ? encoded(text) : text;
   if (!isBytes(bytes)) return INVALID_TYPE;
@@ -277,13 +277,20 @@ function integer64(value, name) {
 
 /** The options of a call are one number, which is 0 without any. Each value has its bits there. From the second byte on they are also those of
  * a configuration in C, where CONFIG_BITS have a meaning. */
-const FORMS = { text: 1, orTimestamp: 2, strict: 4, front: 8 };
+const FORMS = { text: 1, orTimestamp: 2, strict: 4, front: 16 };
+const LOOSE = 8;
+const TIGHT = 0x4000000;
 const IN_UNIT = { infer: 0x400, s: 0x500, ms: 0x600, us: 0x700 };
 const OVERFLOW = { error: 0x20000, truncate: 0x30000 };
 const ISO_ORDER = { lax: 0x2000000, strict: 0x3000000 };
 const MISSING = { error: 0x800, utc: 0x1000 };
 const DIGITS = { 0: 0x2000, 3: 0x4000, 6: 0x8000 };
-const BITS = { __proto__: null, form: FORMS, timestampUnit: IN_UNIT, overflow: OVERFLOW, isoOrder: ISO_ORDER, missingOffset: MISSING, digits: DIGITS };
+const choicesOf = (bits) => new Map(Object.entries(bits));
+/** By name, the values of an option with their bits. */
+const BITS = {
+  __proto__: null, form: choicesOf(FORMS), timestampUnit: choicesOf(IN_UNIT), overflow: choicesOf(OVERFLOW), isoOrder: choicesOf(ISO_ORDER), missingOffset: choicesOf(MISSING),
+  digits: new Map([[0, DIGITS[0]], [3, DIGITS[3]], [6, DIGITS[6]]]), loose: new Map([[true, LOOSE], [false, TIGHT]]),
+};
 const CONFIG_BITS = 0x1010300;
 /** No call takes this. */
 const WRONG = 0x20000000;
@@ -328,18 +335,20 @@ function numbersOf(options, its, sizes) {
     else if (name === "missingOffset") bits = value === "utc" ? MISSING.utc : value === "error" ? MISSING.error : WRONG;
     else if (name === "timestampUnit") bits = value === "s" ? IN_UNIT.s : value === "ms" ? IN_UNIT.ms : WRONG;
     else if (name === "isoOrder") bits = value === "strict" ? ISO_ORDER.strict : WRONG;
+    else if (name === "loose") bits = value === true ? LOOSE : WRONG;
     else if (name === "digits") bits = value === 3 ? DIGITS[3] : value === 0 ? DIGITS[0] : WRONG;
     numbers |= (bits & ~its) === 0 ? bits : otherBits(name, value, its, sizes);
   }
   if (isEmpty) requireEmpty(options);
+  if (numbers & LOOSE && numbers & (FORMS.orTimestamp | FORMS.strict)) throw new TypeError("loose has to be given with the form text or front");
   if (((numbers >> 1) ^ (numbers >> 10)) & 1) throw new TypeError("timestampUnit has to be given with the form orTimestamp, and with no other");
   return numbers;
 }
 
 /** The same of an option that is rare, or wrong. */
 function otherBits(name, value, its, sizes) {
-  const choices = Object.entries(BITS[name] ?? {}).filter(([, bits]) => (bits & ~its) === 0).map(([it]) => (name === "digits" ? Number(it) : it));
-  if (choices.length > 0) return BITS[name][choices[choiceOf(value, choices, name)]];
+  const choices = Array.from(BITS[name] ?? []).filter(([, bits]) => (bits & ~its) === 0);
+  if (choices.length > 0) return choices[choiceOf(value, choices.map(([it]) => it), name)][1];
   if (sizes === undefined || !hasOwn.call(sizes, name)) throw new TypeError(`${name} is no option of this call`);
   if (!Number.isInteger(value) || value < 0) throw new TypeError(`${name} has to be an integer, and not negative`);
   sizes[name] = value;
@@ -567,8 +576,8 @@ function check(it, place) {
 const bitsOf = (all) => Object.values(all).reduce((one, it) => one | it, 0);
 const OPTIONS_OF = {
   date: FORMS.text | FORMS.orTimestamp | bitsOf(IN_UNIT), time: FORMS.text | FORMS.strict | bitsOf(OVERFLOW),
-  dateTime: FORMS.text | FORMS.orTimestamp | FORMS.strict | bitsOf(IN_UNIT) | bitsOf(OVERFLOW) | bitsOf(MISSING),
-  duration: bitsOf(OVERFLOW) | bitsOf(ISO_ORDER), dateFront: 0, front: bitsOf(OVERFLOW), format: bitsOf(DIGITS),
+  dateTime: FORMS.text | FORMS.orTimestamp | FORMS.strict | LOOSE | TIGHT | bitsOf(IN_UNIT) | bitsOf(OVERFLOW) | bitsOf(MISSING),
+  duration: bitsOf(OVERFLOW) | bitsOf(ISO_ORDER), dateFront: 0, timeFront: bitsOf(OVERFLOW), dateTimeFront: LOOSE | TIGHT | bitsOf(OVERFLOW), format: bitsOf(DIGITS),
 };
 
 // Each writes the value, or the part for which the text is refused.
@@ -622,8 +631,8 @@ function codeOfDuration(text, options) {
   return size === undefined ? read(text, false, numbers, callDuration) : callDuration(kept, size, numbers);
 }
 const codeOfDateFront = (text, options) => read(frontOf(text), true, numbersOf(options, OPTIONS_OF.dateFront), callDate);
-const codeOfTimeFront = (text, options) => read(frontOf(text), true, numbersOf(options, OPTIONS_OF.front), callTime);
-const codeOfDateTimeFront = (text, options) => read(frontOf(text), true, numbersOf(options, OPTIONS_OF.front), callDateTime);
+const codeOfTimeFront = (text, options) => read(frontOf(text), true, numbersOf(options, OPTIONS_OF.timeFront), callTime);
+const codeOfDateTimeFront = (text, options) => read(frontOf(text), true, numbersOf(options, OPTIONS_OF.dateTimeFront), callDateTime);
 
 /** The bytes that a reader of fronts looks at. */
 const seenOf = (text) => (isBytes(text) ? new Uint8Array(bufferOf.call(text), byteOffset.call(text), frontSize(text, byteCount.call(text), byteAt)) : text);

@@ -115,12 +115,62 @@ async function visit({ SAID, MARKED, OFFERED, GUESSED, TABLES, CALLED, TITLES })
     leastOfMany = Math.min(leastOfMany, performance.now() - start);
     await sleep(50);
   }
+  const settled = async () => {
+    while (main.ariaBusy === "true") await sleep(10);
+  };
+  await settled();
   const rowsShown = () => [main.querySelector("h2").textContent, main.querySelector("section").className, all("tbody tr", (it) => it).length];
   const press = (name) => all("section button", (it) => it).find((it) => it.textContent.startsWith(name)).click();
   const ofMany = [rowsShown()];
   for (const name of ["Show more", "Only refused", "Only refused"]) press(name), ofMany.push(rowsShown());
   press("Copy as CSV");
   ofMany.push([copied.split("\r\n").length, copied.split("\r\n").at(-2)]);
+  // Of very many lines the first come at once, and the page does what else there is to do while it reads the others. Another text ends that.
+  const paste = (data) => !form.text.dispatchEvent(new InputEvent("beforeinput", { inputType: "insertFromPaste", data, bubbles: true, cancelable: true }));
+  const log = Array.from({ length: 200000 }, (_, i) => (i % 1000 ? `2026-11-22 06:10:${10 + (i % 50)} +0100 GET /${i}` : `line ${i}`)).join("\r\n");
+  const ofLog = [];
+  const times = { first: Infinity, gap: Infinity };
+  for (let i = 0; i < 4; i++) {
+    type("2020-02-29");
+    form.text.select();
+    const start = performance.now();
+    const isPasted = paste(log);
+    times.first = Math.min(times.first, performance.now() - start);
+    has(isPasted && main.ariaBusy === "true" && form.text.value.length < 100000 && /All are read/.test(document.getElementById("rest").textContent), "a long text has no room in the field");
+    ofLog.push(rowsShown()[2], rowsShown()[0].replace(/: \d+%$/, ""));
+    await sleep(30);
+    if (i % 2) {
+      type("PT90M");
+      const said = shown();
+      await sleep(200);
+      ofLog.push(said === shown() && main.ariaBusy, document.getElementById("rest").textContent);
+      continue;
+    }
+    press("Dates");
+    ofLog.push(main.querySelector(".languages [aria-pressed=true]").textContent);
+    press("Date-times at the front");
+    let [last, gap] = [performance.now(), 0];
+    while (main.ariaBusy === "true") {
+      await sleep(0);
+      gap = Math.max(gap, performance.now() - last);
+      last = performance.now();
+    }
+    times.gap = Math.min(times.gap, gap);
+    ofLog.push(rowsShown(), all(".languages button", (it) => it.textContent).at(-1));
+  }
+  // What is typed at the end of what the field has leaves the rest, and what takes its place does not.
+  form.text.select();
+  paste(log);
+  await settled();
+  form.text.setSelectionRange(0, 0);
+  paste("");
+  type(`PT1M\n${form.text.value}`);
+  await settled();
+  ofLog.push(rowsShown()[0]);
+  form.text.select();
+  paste("");
+  type("PT1M");
+  ofLog.push(shown().replace(/, .*/, ""));
   const least = Math.min(...Array.from(typed, (_, i) => type(typed.slice(0, i + 1))));
   changes = 0;
   steps.push(main.querySelector(".said").textContent, all(".said span, dd span", (it) => `${it.className} ${it.textContent}`).join("|"));
@@ -273,7 +323,7 @@ async function visit({ SAID, MARKED, OFFERED, GUESSED, TABLES, CALLED, TITLES })
   const row = document.querySelector(":target").closest("tr");
   const { top, bottom: end } = row.getBoundingClientRect();
   steps.push(row.cells[0].textContent, top >= 0 && end <= innerHeight, document.documentElement.scrollWidth > innerWidth, form.text.value);
-  report({ width: innerWidth, steps, marks, titles, offers, guesses, tables, ofMany, wrong, calls, least, leastOfMany });
+  report({ width: innerWidth, steps, marks, titles, offers, guesses, tables, ofMany, ofLog, times, wrong, calls, least, leastOfMany });
 }
 const MONTHS = ["January", "February", "March", "April", "May", "June", "July", "August", "September", "October", "November", "December"];
 const WEEKDAYS = ["Monday", "Tuesday", "Wednesday", "Thursday", "Friday", "Saturday", "Sunday"];
@@ -361,6 +411,10 @@ const OFFERED = [
   ["[2026-11-22 10:00:00] x", {}, ["Not a date-time: a date-time is within it: drop the rest"], "Options", "Date-time: 2026-11-22T10:00:00"],
   ['{"time":"2026-11-22T10:00:00.5Z","level":30}', {}, ["Not a date-time: a date-time is within it: drop the rest"], "Options", "Date-time: 2026-11-22T10:00:00.500000Z"],
   ["2020-02-29T12:13", { missingOffset: "error" }, ["Not a date-time: an offset is required: allow none"], "Options", "Date-time: 2020-02-29T12:13:00"],
+  ["2026-11-22 06:10:00 +0100", {}, ["Not a date-time: zones as programs print them are not read: allow them"], "Options, loose: true", "Date-time: 2026-11-22T06:10:00+01:00"],
+  ["2026-11-22T10:00:00 UTC", {}, ["Not a date-time: zones as programs print them are not read: allow them"], "Options, loose: true", "Date-time: 2026-11-22T10:00:00Z"],
+  ["2026-11-22 06:10:00+00", { form: "strict" }, [], "Options, form: strict", "Not a date-time: invalid_char_date_time_sep"],
+  ["2026-11-22 06:10:00 +0100 hello", {}, ["Not a date-time: a date-time is at its front: drop the rest"], "Options, loose: true", "Date-time: 2026-11-22T06:10:00+01:00"],
 ];
 const guessed = (text, date) => [text, {}, "Not one of the four kinds", date, "", `Date: ${date}`];
 /** Texts in other forms: the titles, what may be meant, what else is said, and what is shown first after a click. */
@@ -376,7 +430,6 @@ const GUESSED = [
   ["November 22nd, 2026", {}, "Not one of the four kinds", "2026-11-22", "", "Date: 2026-11-22"],
   ["01/02/2020", {}, "Not one of the four kinds", "2020-02-01 or 2020-01-02", "", "Date: 2020-02-01"],
   ["2020-2-9 9:05", {}, "Not one of the four kinds", "2020-02-09T09:05", "", "Date-time: 2020-02-09T09:05:00"],
-  ["2026-11-22T10:00:00 UTC", {}, "Not one of the four kinds", "2026-11-22T10:00:00Z", "", "Date-time: 2026-11-22T10:00:00Z"],
   ["Sat, 29 Feb 2020 12:13:14 GMT", {}, "Not one of the four kinds", "2020-02-29T12:13:14Z", "", "Date-time: 2020-02-29T12:13:14Z"],
   ["Sat Feb 29 2020 12:13:14 GMT+0100 (Central European Standard Time)", {}, "Not one of the four kinds", "2020-02-29T12:13:14+0100", "", "Date-time: 2020-02-29T12:13:14+01:00"],
   ["11/22/2026 12:05 AM", {}, "Not one of the four kinds", "2026-11-22T00:05", "", "Date-time: 2026-11-22T00:05:00"],
@@ -399,6 +452,7 @@ const CALLED = [
   ["1 day, 12:13:14.1234567", { overflow: "truncate" }, "1 day, 12:13:60.1234567"],
   ["12:13:14+01:00", { form: "strict" }, "12:13:14.00000"], ["2020-02-29T12:13:14Z", { form: "strict" }, "2020-02-29 12:13:14Z"],
   ["12:13:14.1234567Z", { form: "strict", overflow: "truncate" }, "12:13:14.12345678"],
+  ["2026-11-22 06:10:00 +0100", { loose: "true" }, "2026-11-22 06:60:00 +0100"], ["2026-11-22 06:10:00.1234567 UTC", { loose: "true", overflow: "truncate" }, "2026-11-22 06:60:00.1234567 UTC"],
   ["P1Y1D", { isoOrder: "strict" }, "P1D1Y"], ["2020-02-29T12:13Z", { missingOffset: "utc" }, "2020-02-29T12:60Z"],
 ];
 /** Texts of several lines with options, what is clicked, the table, what is offered, and what is copied. */
@@ -425,9 +479,19 @@ const TABLES = [
     "2 of 3 lines begin with a date-time", "partly", "Dates: 0,Times: 0,Date-times: 0,Durations: 0,[Date-times at the front: 2]",
     "1 | 2020-02-29T12:13:14Z GET / | 2020-02-29T12:13:14Z", "2 | 2020-02-29 12:13 x | 2020-02-29T12:13:00", "3 | GET / | expected a date-time: YYYY-MM-DDTHH:MM or YYYY-MM-DDTHH:MM:SS, at the end",
   ], "", "line,text,value,code,start,end,expected\r\n1,2020-02-29T12:13:14Z GET /,2020-02-29T12:13:14Z,,,,\r\n2,2020-02-29 12:13 x,2020-02-29T12:13:00,,,,\r\n3,GET /,,too_short,5,5,a date-time: YYYY-MM-DDTHH:MM or YYYY-MM-DDTHH:MM:SS\r\n"],
+  ["2026-11-22 06:10:00 +0100 hello\n2026-11-22 06:10:00+01\n2026-11-22 06:10:00 +0130", {}, [], [
+    "All 3 lines begin with a date-time", "", "Dates: 0,Times: 0,Date-times: 0,Durations: 0,[Date-times at the front: 3]",
+    "1 | 2026-11-22 06:10:00 +0100 hello | 2026-11-22T06:10:00+01:00", "2 | 2026-11-22 06:10:00+01 | 2026-11-22T06:10:00+01:00", "3 | 2026-11-22 06:10:00 +0130 | 2026-11-22T06:10:00+01:30",
+  ], "", "line,text,value,code,start,end,expected\r\n1,2026-11-22 06:10:00 +0100 hello,2026-11-22T06:10:00+01:00,,,,\r\n2,2026-11-22 06:10:00+01,2026-11-22T06:10:00+01:00,,,,\r\n3,2026-11-22 06:10:00 +0130,2026-11-22T06:10:00+01:30,,,,\r\n"],
   ["2020-02-29 rent\n2020-03-01 bread", {}, [], [
     "All 2 lines begin with a date", "", "Dates: 0,Times: 0,Date-times: 0,Durations: 0,[Dates at the front: 2]", "1 | 2020-02-29 rent | 2020-02-29", "2 | 2020-03-01 bread | 2020-03-01",
   ], "", "line,text,value,code,start,end,expected\r\n1,2020-02-29 rent,2020-02-29,,,,\r\n2,2020-03-01 bread,2020-03-01,,,,\r\n"],
+];
+const BEGUN = [50, "Reading 200,000 lines"];
+const READ = [["199,800 of 200,000 lines begin with a date-time", "partly", 50], "Date-times at the front: 199,800"];
+const OF_LOG = [
+  ...BEGUN, "Dates", ...READ, ...BEGUN, "false", "", ...BEGUN, "Dates", ...READ, ...BEGUN, "false", "",
+  "199,800 of 200,001 lines begin with a date-time", "Duration: PT1M",
 ];
 const OF_MANY = [
   ...[50, 1050, 10, 50].map((rows) => ["9,990 of 10,000 lines are date-times", "partly", rows]),
@@ -571,10 +635,11 @@ assert.deepEqual(all.policy, ["Saturday, 29 February 2020", "refused"]);
 assert.deepEqual(all.form, FORM);
 assert.equal(all.handedOver, "PT1H30M");
 for (const [i, width] of [320, 360, 1280].entries()) {
-  const { calls, least, leastOfMany, ...others } = visits[i];
-  assert.deepEqual(others, { width, steps: STEPS, marks: Object.values(MARKED), titles: Object.values(TITLES), offers: OFFERED, guesses: GUESSED, tables: TABLES, ofMany: OF_MANY, wrong: [] });
+  const { calls, least, leastOfMany, times, ...others } = visits[i];
+  assert.deepEqual(others, { width, steps: STEPS, marks: Object.values(MARKED), titles: Object.values(TITLES), offers: OFFERED, guesses: GUESSED, tables: TABLES, ofMany: OF_MANY, ofLog: OF_LOG, wrong: [] });
   assert.ok(least < 16, `what is typed is shown after ${least} milliseconds`);
   assert.ok(leastOfMany < 100, `10,000 lines take ${leastOfMany} milliseconds`);
+  assert.ok(times.first < 200 && times.gap < 200, `of 200,000 lines the first are shown after ${times.first} milliseconds, and the page does nothing else for ${times.gap}`);
 }
 
 // ---- Each link of the page leads to a place on it, also where the page is alone ----
@@ -589,8 +654,10 @@ for (const [, to, place] of page.replace(/<script[^]*?<\/script>/g, "").matchAll
 
 // ---- The calls that the page shows: those of JavaScript, Python and C are made, the others have names that are there ----
 
-const { calls } = visits[0];
-for (const it of visits) assert.deepEqual(calls, it.calls);
+for (const it of visits) assert.deepEqual(visits[0].calls, it.calls);
+/** Where a package has no such option, a comment says so. */
+const calls = visits[0].calls.filter(([, , code]) => !/^(\/\/|#) The package/.test(code));
+assert.ok(visits[0].calls.length - calls.length >= 8);
 /** The calls in a language, each with what it has to give: the text of the value, or nothing for another text in the place of its own. */
 const of = (language) =>
   calls.filter(([it]) => it === language).flatMap(([, value, code, text, other]) => (other === undefined ? [[code, value]] : [[code, value], [code.replace(text, other), ""]]));

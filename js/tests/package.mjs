@@ -135,6 +135,7 @@ const OPTIONS = {
   isoOrder: [/Duration$/, ["", "Lax", 0, 1, null, ["lax"], {}]],
   form: [/(Date|Time)$/, ["", "Text", "timestamp", "front", true, 0, 1, null, ["text"], {}]],
   missingOffset: [/DateTime$/, ["", "UTC", 0, true, null, ["utc"]]],
+  loose: [/DateTime(Front)?$/, ["", "true", 0, 1, null, [true], {}]],
 };
 for (const name of readers) {
   for (const [option, [has, wrong]] of Object.entries(OPTIONS)) {
@@ -153,10 +154,18 @@ for (const [kind, forms] of Object.entries(FORMS))
     if (forms.includes(form)) assert.equal(parse(right).ok, false);
     else assert.throws(() => parse(right), /^TypeError: form has to be one of text/);
     for (const options of [wrong, { timestampUnit: "s" }]) assert.throws(() => parse(options), TypeError);
+    if (kind === "DateTime" && forms.includes(form)) {
+      const parts = ["parseDateTime", "dateTime", "dateTimeClock", "dateTimeOffset"].map((it) => (options) => (it === "parseDateTime" ? speedate[it]("2020-02-29T12:13 UTC", options) : readColumn("2020-02-29T12:13 UTC", it, options)));
+      for (const part of parts) {
+        if (form === "text") assert.ok(part({ ...right, loose: true }) && thrown(() => part({ ...right, loose: false })) instanceof speedate.SpeedateError);
+        else assert.throws(() => part({ ...right, loose: true }), new TypeError("loose has to be given with the form text or front"));
+      }
+    }
   }
+assert.throws(() => parseDateTime("2020-02-29T12:13", { loose: 1 }), new TypeError("loose has to be one of true, false"));
 const noSizes = ["1", -1, 0.5, NaN, Infinity, 1n, null];
 const OF_COLUMNS = { maxLineBytes: noSizes, maxRefusals: noSizes, unit: ["", "s", "MS", 0, null], refused: [true, null, 0, "", "raise", [], {}] };
-const OF_DATE_TIMES = ["form", "timestampUnit", "overflow"];
+const OF_DATE_TIMES = ["form", "timestampUnit", "overflow", "loose"];
 const columnOptions = {
   date: ["form", "timestampUnit"], dateTime: [...OF_DATE_TIMES, "missingOffset", "unit"], dateTimeClock: [...OF_DATE_TIMES, "unit"], dateTimeOffset: OF_DATE_TIMES,
   time: ["form", "overflow", "unit"], timeOffset: ["form", "overflow"], duration: ["overflow", "isoOrder", "unit"],
@@ -175,6 +184,16 @@ for (const [kind, its] of Object.entries(columnOptions)) {
 }
 for (const options of [{ maxRefusals: 1 }, { maxRefusals: 1, refused: "number" }]) assert.throws(() => readColumn("", "date", options), /maxRefusals has to be given with refused: collect/);
 assert.throws(() => readColumn("", "dateTime", { form: "front", timestampUnit: "s" }), /timestampUnit/);
+
+// The prototype of options: one that others have is plain, what is inherited is not, and one that was plain is looked at again.
+{
+  const plain = { overflow: "truncate" };
+  for (const it of [plain, Object.assign(Object.create(null), plain), runInNewContext("({ overflow: 'truncate' })"), { ...plain, constructor: undefined }]) assert.equal(parseTime("12:13:14.1234567", it).microsecond, 456);
+  class Options { overflow = "truncate"; }
+  for (const it of [new Options(), Object.create(plain), Object.assign(Object.create({ form: "strict" }), plain), Object.assign(Object.create(Options.prototype), plain), Object.defineProperty({}, "overflow", { value: "truncate" }), Object.assign(new Map(), plain), Object.assign([], plain)])
+    assert.throws(() => parseTime("12:13:14.1234567", it), TypeError);
+  assert.throws(() => parseTime("12:13", { constructor: Object }), /constructor is no option/);
+}
 
 // ---- A missing offset ----
 
@@ -284,7 +303,7 @@ assert.equal(format(fromDate(elsewhere("new Date(0)"))), "1970-01-01T00:00:00Z")
 assert.deepEqual(parseTime(elsewhere("new Uint8Array([49, 50, 58, 49, 51])")), parseTime("12:13"));
 assert.equal(format(elsewhere("({ year: 2020, month: 2, day: 29 })")), "2020-02-29");
 
-const polluted = { form: "strict", timestampUnit: "s", overflow: "truncate", isoOrder: "strict", missingOffset: "utc", unit: "us", refused: "collect", maxRefusals: 1, index: 5, start: 5, end: 5, text: "x", offsetSeconds: 90, year: -1, hour: 1, kind: 1,
+const polluted = { loose: true, form: "strict", timestampUnit: "s", overflow: "truncate", isoOrder: "strict", missingOffset: "utc", unit: "us", refused: "collect", maxRefusals: 1, index: 5, start: 5, end: 5, text: "x", offsetSeconds: 90, year: -1, hour: 1, kind: 1,
   forms: ["text"], names: ["digits"], other: "day", value: 1, ok: true, digits: 3 };
 const unchanged = () => [safeParseDate("86400"), safeParseDate("86400", {}), speedate.safeParseTime("12:13:14.1234567", {}), speedate.safeParseDateTime("2020-02-29 12:13"),
   speedate.safeParseDateTime("2020-02-29T12:13:14.1234567", { overflow: "truncate" }), speedate.safeParseDuration("P1D1Y"), Object.entries(thrown(() => add(date, parseDuration("PT1H")))),
