@@ -165,16 +165,17 @@ fn expect_other_byte<R: Abort>(rt: &R, digit: u8, place: usize, length: usize) {
         return;
     }
     text[place] = b'x';
-    same(rt, int_parse_bytes(&text[..length]), None, place);
-    same(rt, float_parse_bytes(&text[..length]).is_err(), true, place);
-    same(
-        rt,
-        Decimal::new(false, b"1", &text[..length]).is_none(),
-        true,
-        place,
-    );
+    expect_no_number(rt, &text[..length], place);
     text[place] = b'.';
     expect_split(rt, float_parse_bytes(&text[..length]), place, length);
+}
+
+/// A text with a letter is to be no number, nor the fraction of one.
+fn expect_no_number<R: Abort>(rt: &R, text: &[u8], place: usize) {
+    same(rt, int_parse_bytes(text), None, place);
+    same(rt, float_parse_bytes(text).is_err(), true, place);
+    let decimal = Decimal::new(false, b"1", text);
+    same(rt, decimal.is_none(), true, place);
 }
 
 /// A decimal is to have so many bytes, of which one is a point at this place. A lone point is none.
