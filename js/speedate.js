@@ -101,17 +101,18 @@ class Library {
 }
 
 function decoded(text) {
-  // bin/build_js writes all 256 bytes in hexadecimal, and then the place of each byte among them, in one digit or two.
+  // bin/build_js writes a bit for each byte, which says whether it has one digit or two, and then the place of each byte among these or those.
   const digits = new Uint8Array(127);
   let count = 0;
   for (let unit = 33; unit < 127; unit++) if (!'"&<\\|'.includes(String.fromCharCode(unit))) digits[unit] = count++;
   const single = count - 2;
-  const order = Uint8Array.from({ length: 256 }, (_, i) => parseInt(text.slice(2 * i, 2 * i + 2), 16));
+  const order = [[], []];
+  for (let byte = 0; byte < 256; byte++) order[(parseInt(text[byte >> 2], 16) >> (byte & 3)) & 1].push(byte);
   const bytes = new Uint8Array(text.length);
   let size = 0;
-  for (let i = 512; i < text.length; i++) {
+  for (let i = 64; i < text.length; i++) {
     const digit = digits[text.charCodeAt(i)];
-    bytes[size++] = order[digit < single ? digit : single + (digit - single) * count + digits[text.charCodeAt(++i)]];
+    bytes[size++] = digit < single ? order[1][digit] : order[0][(digit - single) * count + digits[text.charCodeAt(++i)]];
   }
   return bytes.subarray(0, size);
 }

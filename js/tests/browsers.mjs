@@ -413,7 +413,7 @@ const OFFERED = [
   ["2020-02-29T12:13", { missingOffset: "error" }, ["Not a date-time: an offset is required: allow none"], "Options", "Date-time: 2020-02-29T12:13:00"],
   ["2026-11-22 06:10:00 +0100", {}, ["Not a date-time: zones as programs print them are not read: allow them"], "Options, loose: true", "Date-time: 2026-11-22T06:10:00+01:00"],
   ["2026-11-22T10:00:00 UTC", {}, ["Not a date-time: zones as programs print them are not read: allow them"], "Options, loose: true", "Date-time: 2026-11-22T10:00:00Z"],
-  ["2026-11-22 06:10:00+00", { form: "strict" }, [], "Options, form: strict", "Not a date-time: invalid_char_date_time_sep"],
+  ["2026-11-22 06:10:00+00", { form: "strict" }, [], "Options, form: strict", "Not yet a date-time: invalid_char_tz_minute"],
   ["2026-11-22 06:10:00 +0100 hello", {}, ["Not a date-time: a date-time is at its front: drop the rest"], "Options, loose: true", "Date-time: 2026-11-22T06:10:00+01:00"],
 ];
 const guessed = (text, date) => [text, {}, "Not one of the four kinds", date, "", `Date: ${date}`];
@@ -657,7 +657,7 @@ for (const [, to, place] of page.replace(/<script[^]*?<\/script>/g, "").matchAll
 for (const it of visits) assert.deepEqual(visits[0].calls, it.calls);
 /** Where a package has no such option, a comment says so. */
 const calls = visits[0].calls.filter(([, , code]) => !/^(\/\/|#) The package/.test(code));
-assert.ok(visits[0].calls.length - calls.length >= 8);
+assert.equal(visits[0].calls.length - calls.length, 7);
 /** The calls in a language, each with what it has to give: the text of the value, or nothing for another text in the place of its own. */
 const of = (language) =>
   calls.filter(([it]) => it === language).flatMap(([, value, code, text, other]) => (other === undefined ? [[code, value]] : [[code, value], [code.replace(text, other), ""]]));

@@ -52,11 +52,11 @@ const timestamps = { form: "orTimestamp", timestampUnit: "s" } as const;
 const uses: Record<keyof typeof speedate, unknown> = {
   parseDate: same<SpeedateDate, ReturnType<typeof speedate.parseDate>>(true, speedate.parseDate("86400", { form: "orTimestamp", timestampUnit: "s" })),
   parseTime: same<SpeedateTime, ReturnType<typeof speedate.parseTime>>(true, speedate.parseTime(bytes, { form: "text", overflow: "error" })),
-  parseDateTime: same<SpeedateDateTime, ReturnType<typeof speedate.parseDateTime>>(true, speedate.parseDateTime("1", { form: "orTimestamp", timestampUnit: "us", missingOffset: "error" })),
+  parseDateTime: same<SpeedateDateTime, ReturnType<typeof speedate.parseDateTime>>(true, speedate.parseDateTime("1", { form: "orTimestamp", timestampUnit: "us", missingOffset: "error", loose: undefined })),
   parseDuration: same<SpeedateDuration, ReturnType<typeof speedate.parseDuration>>(true, speedate.parseDuration("PT1S", { isoOrder: "strict", overflow: "truncate" })),
   parseDateFront: same<number, Front<SpeedateDate, string>["length"]>(true, speedate.parseDateFront("2020-02-29 x").length),
   parseTimeFront: same<SpeedateTime, Front<SpeedateTime, Uint8Array>["value"]>(true, speedate.parseTimeFront(bytes).value),
-  parseDateTimeFront: same<number, Front<SpeedateDateTime, string>["size"]>(true, speedate.parseDateTimeFront("2020-02-29T12:13", { overflow: "truncate" }).size),
+  parseDateTimeFront: same<number, Front<SpeedateDateTime, string>["size"]>(true, speedate.parseDateTimeFront("2020-02-29T12:13", { overflow: "truncate", loose: true }).size),
   safeParseDate: [same<Answer<SpeedateDate>, ReturnType<typeof speedate.safeParseDate>>(true, speedate.safeParseDate("x", timestamps)), speedate.safeParseDate(null)],
   safeParseTime: same<TimeOrRefusal, ReturnType<typeof speedate.safeParseTime>>(true, speedate.safeParseTime("12:13Z", { form: "strict" })),
   safeParseDateTime: same<Answer<SpeedateDateTime>, ReturnType<typeof speedate.safeParseDateTime>>(true, speedate.safeParseDateTime(5, { form: "strict" })),
@@ -79,6 +79,8 @@ const uses: Record<keyof typeof speedate, unknown> = {
     ((it: BigInt64Array): bigint => it[0])(speedate.readColumn("PT1S", "duration", { unit: "us", refused: "collect" }).numbers),
     ((it: Float64Array): number => it[0])(speedate.readColumn("1970-01-01T00:00 x", "dateTime", { form: "front", missingOffset: "utc", overflow: "truncate" }).numbers),
     ((it: speedate.FrontColumn<BigInt64Array>): number => it.sizes[0])(speedate.readColumn("1970-01-01T00:00Z x", "dateTime", { form: "front", unit: "us" })),
+    ((it: speedate.FrontColumn<Float64Array>): number => it.sizes[0])(speedate.readColumn("1970-01-01T00:00 UTC x", "dateTime", { form: "front", loose: true })),
+    ((it: Int32Array): number => it[0])(speedate.readColumn("1970-01-01T00:00 UTC", "dateTimeOffset", { form: "text", loose: true }).numbers), speedate.columnReader("dateTimeClock", { form: "strict", loose: false }),
   ],
   columnReader: [
     ((it: Int32Array): number => it[0])(speedate.columnReader("date", { refused: "collect" }).end("1970-01-02").numbers),
@@ -149,6 +151,14 @@ const refused = [
   () => speedate.parseTime("", { form: "orTimestamp", timestampUnit: "s" }),
   // @ts-expect-error
   () => speedate.parseDateTime("", { form: "front" }),
+  // @ts-expect-error
+  () => speedate.parseDateTime("", { form: "strict", loose: true }),
+  // @ts-expect-error
+  () => speedate.parseDateTime("", { loose: 1 }),
+  // @ts-expect-error
+  () => speedate.parseTimeFront("", { loose: true }),
+  // @ts-expect-error
+  () => speedate.readColumn("", "time", { loose: true }),
   // @ts-expect-error
   () => speedate.parseDate(null),
   // @ts-expect-error
