@@ -255,6 +255,7 @@ function read(text, isFront, numbers, call) {
   else if (size > 0) library.bytes.set(bytes, PLACE.text);
   lastSize = whole;
   const code = call(library, size < SHORT_SIZES.length ? SHORT_SIZES[size] : BigInt(size), numbers, form);
+  if (code > 0 && size < whole && library.view.getUint32(PART.end, true) === size) library.view.setUint32(PART.end, whole, true);
   if (library !== kept) kept.bytes.set(library.bytes.subarray(0, PLACE.text));
   return code;
 }
@@ -643,29 +644,31 @@ const keptText = (text) => (typeof text === "string" ? text : new Uint8Array(tex
 const lastReason = (number) => reasonOf(number, kept.view.getInt32(PART.kind, true));
 
 /** The answer for a refused text, of which the call has seen this much. */
-function refusal(number, seen) {
+function refusal(number, seen, text) {
   if (number < 0) return { ok: false, code: "invalid_type", expected: number === NO_ROOM ? "a shorter text" : "a string", start: 0, end: 0 };
   const { code, expected } = lastReason(number);
-  const { start, end } = partOf(seen);
+  const { start, end } = partOf(seen, text);
   return { ok: false, code, expected, start, end };
 }
 // An engine takes long for each function that is on the stack when an error is made, and for a constructor of its own. So a call makes
 // a RangeError, which then becomes a SpeedateError.
 const lastMessage = (number) => `expected ${lastReason(number).expected}`;
-function refused(error, number, text, seen = text) {
+function refused(error, number, text, seen = text, whole = seen) {
   Object.setPrototypeOf(error, SpeedateError.prototype);
-  fill(error, lastReason(number), keptText(text), partOf(seen));
+  fill(error, lastReason(number), keptText(text), partOf(seen, whole));
   return error;
 }
 const wrongText = (number) => (number === NO_ROOM ? new RangeError("text has to be shorter") : noText());
 
-/** The part for which the last text was refused, in units of a string, otherwise in bytes. */
-function partOf(text) {
+/** The part for which the last text was refused, in units of a string, otherwise in bytes. A part up to the end of what the call has seen goes to
+ * the end of the text. */
+function partOf(text, whole = text) {
   const { view } = kept;
   const start = view.getUint32(PART.start, true);
   const end = view.getUint32(PART.end, true);
-  if (typeof text !== "string" || text.length === lastSize) return { start, end };
-  return { start: unitsBefore(text, start), end: end === lastSize ? text.length : unitsBefore(text, end) };
+  if (typeof text !== "string") return { start, end };
+  const isAscii = text.length === lastSize;
+  return { start: isAscii ? start : unitsBefore(text, start), end: end === lastSize ? whole.length : isAscii ? end : unitsBefore(text, end) };
 }
 
 /** The number of units in the whole characters before a byte of a string. The byte may be within a character. */
@@ -730,30 +733,30 @@ function unitsOf(text, size) {
 
 export function parseDateFront(text, options) {
   const code = codeOfDateFront(text, options);
-  if (code !== 0) throw code < 0 ? wrongText(code) : refused(new RangeError(lastMessage(code)), code, seenOf(text), frontOf(text));
+  if (code !== 0) throw code < 0 ? wrongText(code) : refused(new RangeError(lastMessage(code)), code, seenOf(text), frontOf(text), text);
   return frontAnswer(DATE.read(kept), text);
 }
 export function parseTimeFront(text, options) {
   const code = codeOfTimeFront(text, options);
-  if (code !== 0) throw code < 0 ? wrongText(code) : refused(new RangeError(lastMessage(code)), code, seenOf(text), frontOf(text));
+  if (code !== 0) throw code < 0 ? wrongText(code) : refused(new RangeError(lastMessage(code)), code, seenOf(text), frontOf(text), text);
   return frontAnswer(TIME.read(kept), text);
 }
 export function parseDateTimeFront(text, options) {
   const code = codeOfDateTimeFront(text, options);
-  if (code !== 0) throw code < 0 ? wrongText(code) : refused(new RangeError(lastMessage(code)), code, seenOf(text), frontOf(text));
+  if (code !== 0) throw code < 0 ? wrongText(code) : refused(new RangeError(lastMessage(code)), code, seenOf(text), frontOf(text), text);
   return frontAnswer(DATE_TIME.read(kept), text);
 }
 export function safeParseDateFront(text, options) {
   const code = codeOfDateFront(text, options);
-  return code === 0 ? { ok: true, value: frontAnswer(DATE.read(kept), text) } : refusal(code, frontOf(text));
+  return code === 0 ? { ok: true, value: frontAnswer(DATE.read(kept), text) } : refusal(code, frontOf(text), text);
 }
 export function safeParseTimeFront(text, options) {
   const code = codeOfTimeFront(text, options);
-  return code === 0 ? { ok: true, value: frontAnswer(TIME.read(kept), text) } : refusal(code, frontOf(text));
+  return code === 0 ? { ok: true, value: frontAnswer(TIME.read(kept), text) } : refusal(code, frontOf(text), text);
 }
 export function safeParseDateTimeFront(text, options) {
   const code = codeOfDateTimeFront(text, options);
-  return code === 0 ? { ok: true, value: frontAnswer(DATE_TIME.read(kept), text) } : refusal(code, frontOf(text));
+  return code === 0 ? { ok: true, value: frontAnswer(DATE_TIME.read(kept), text) } : refusal(code, frontOf(text), text);
 }
 
 // ---- Schemas ----

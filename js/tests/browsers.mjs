@@ -657,7 +657,7 @@ for (const [, to, place] of page.replace(/<script[^]*?<\/script>/g, "").matchAll
 for (const it of visits) assert.deepEqual(visits[0].calls, it.calls);
 /** Where a package has no such option, a comment says so. */
 const calls = visits[0].calls.filter(([, , code]) => !/^(\/\/|#) The package/.test(code));
-assert.equal(visits[0].calls.length - calls.length, 7);
+assert.equal(visits[0].calls.length - calls.length, 5);
 /** The calls in a language, each with what it has to give: the text of the value, or nothing for another text in the place of its own. */
 const of = (language) =>
   calls.filter(([it]) => it === language).flatMap(([, value, code, text, other]) => (other === undefined ? [[code, value]] : [[code, value], [code.replace(text, other), ""]]));

@@ -10,7 +10,7 @@ import { answered, outcome, unitsAt } from "./helpers.mjs";
 const KINDS = {
   date: ["Date", { text: [], or_timestamp: ["form", "timestampUnit"], front: [] }],
   time: ["Time", { text: ["overflow"], strict: ["form", "overflow"], front: ["overflow"] }],
-  datetime: ["DateTime", { text: ["overflow"], or_timestamp: ["form", "timestampUnit", "overflow"], strict: ["form", "overflow"], front: ["overflow"] }],
+  datetime: ["DateTime", { text: ["overflow"], or_timestamp: ["form", "timestampUnit", "overflow"], strict: ["form", "overflow"], front: ["overflow"], loose: ["overflow", "loose"], loose_front: ["overflow", "loose"] }],
   duration: ["Duration", { text: ["overflow", "isoOrder"] }],
 };
 const FORMS = { text: "text", or_timestamp: "orTimestamp", strict: "strict" };
@@ -37,18 +37,19 @@ for (const row of readFileSync(process.argv[2] ?? "readings.txt", "utf8").split(
   const inUtc = isTimestamp ? { offsetSeconds: 0 } : {};
   for (const form of forms.split(" ").filter((it) => KINDS[kind][1][it])) {
     const [name, options] = KINDS[kind];
-    const all = { form: FORMS[form], timestampUnit: ["infer", "s", "ms", "us"][unit], overflow: ["error", "truncate"][truncates], isoOrder: ["lax", "strict"][isOrdered] };
+    const all = { form: FORMS[form], timestampUnit: ["infer", "s", "ms", "us"][unit], overflow: ["error", "truncate"][truncates], isoOrder: ["lax", "strict"][isOrdered], loose: true };
     const chosen = Object.fromEntries(options[form].map((it) => [it, all[it]]));
     for (const text of string === undefined ? [bytes] : [bytes, string]) {
-      const call = name + (form === "front" ? "Front" : "");
+      const isFront = form.endsWith("front");
+      const call = name + (isFront ? "Front" : "");
       const told = outcome(speedate[`parse${call}`], text, chosen);
       assert.deepEqual(speedate[`safeParse${call}`](text, chosen), told, row);
       const at = (byte) => (text === bytes ? Number(byte) : unitsAt(text, Number(byte)));
-      const length = form === "front" && text !== bytes ? { length: at(end) } : {};
+      const length = isFront && text !== bytes ? { length: at(end) } : {};
       if (code !== "ok") assert.deepEqual([told.code, told.start, told.end], [code, at(start), at(end)], row);
-      else if (form === "front") assert.deepEqual(told.value, { value: answered(value), size: Number(end), ...length }, row);
+      else if (isFront) assert.deepEqual(told.value, { value: answered(value), size: Number(end), ...length }, row);
       else assert.deepEqual(told.value, { ...answered(value), ...inUtc }, row);
-      if (code === "ok" && !isTimestamp) assert.equal(speedate.format(form === "front" ? told.value.value : told.value), printed, row);
+      if (code === "ok" && !isTimestamp) assert.equal(speedate.format(isFront ? told.value.value : told.value), printed, row);
       ran++;
     }
   }
