@@ -11,7 +11,7 @@ for tool in cat chmod cp env find flock grep ln mkdir mktemp mv nproc readlink r
     tee touch; do
     ln -s "$(command -v "$tool")" "$all/tools/$tool"
 done
-(cd "$here" && tar cf - --exclude=out bench/src bin c crates crates.txt docs CHANGELOG.md HANDLES LICENSE) |
+(cd "$here" && tar cf - --exclude=out bench/src bin c crates crates.txt docs tests CHANGELOG.md HANDLES LICENSE) |
     tar xf - -C "$all/sources"
 
 # The manual page, with its commands as a shell takes them.
