@@ -340,6 +340,13 @@ static void fronts() {
     CHECK(read.error == Error(SPEEDATE_TOO_SHORT));
     read = datetime_front_column("1970-01-01T00:00 x\nx", fronts, errors, column).value();
     CHECK(read.lines == 2 && fronts[0].size == 16 && fronts[1].size == 0 && errors[1] == SPEEDATE_TOO_SHORT);
+    column = ColumnConfig();
+    column.form = Form::Loose;
+    read = datetime_front_column("1970-01-01 01:00:01 +0100 GET /\n1970-01-01T00:00Zx", fronts, column).value();
+    CHECK(read.lines == 1 && fronts[0].microseconds == 1000000 && fronts[0].size == 25);
+    CHECK(read.error == Error(SPEEDATE_EXTRA_CHARACTERS));
+    column.form = Form::LooseFront;
+    CHECK(datetime_front_column("", fronts, column).error() == Error(SPEEDATE_CONFIG_OUT_OF_RANGE));
 }
 
 static void columns_of_texts() {
