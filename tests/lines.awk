@@ -17,5 +17,5 @@ function unescaped(text, done, at) {
     if (kind == "" || index(" " $2 " ", " " form " ") == 0 || index($4, "\\x0a"))
         next
     print kind " " unescaped($4) >lines
-    print ($5 == "ok" ? "ok " $9 : "err " $5) >answers
+    print ($5 == "ok" ? "ok " $7 : "err " $5) >answers
 }

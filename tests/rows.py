@@ -13,9 +13,9 @@ A row has these fields, with a tab between them:
 - the text: a byte that is no printable character of ASCII, and a backslash, are written as \\xHH;
 - the code: ok, or the error;
 - the numbers of the value, in the order of its struct in c/speedate.h; of a refused text none;
+- the text that the value is printed as; of a refused text none;
 - where the value, or the wrong part, begins;
-- where it ends;
-- the text that the value is printed as; of a refused text none.
+- where it ends.
 """
 import collections
 import pathlib
@@ -42,7 +42,7 @@ def escaped(text):
 
 def row(kind, forms, config, text, it):
     """The row of a text that has this answer in some forms."""
-    answered = [it.code, " ".join(map(str, it.value)), str(it.start), str(it.end), printed(kind, it.value) if it.value else ""]
+    answered = [it.code, " ".join(map(str, it.value)), printed(kind, it.value) if it.value else "", str(it.start), str(it.end)]
     return "\t".join([kind, " ".join(forms), " ".join(map(str, config)), escaped(text), *answered])
 
 

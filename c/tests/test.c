@@ -789,9 +789,9 @@ static void run_reading(const char *row) {
                 int kind = types[type].kind + (forms[i].later == 2 ? types[type].strict : forms[i].later);
                 snprintf(call, sizeof call, "%s_parse%s", parts[0], type % 2 && i == 0 ? "" : forms[i].ending);
                 if (strcmp(parts[4], "ok") != 0)
-                    snprintf(wanted, sizeof wanted, "%s|%s %s %d", parts[4], parts[6], parts[7], kind);
+                    snprintf(wanted, sizeof wanted, "%s|%s %s %d", parts[4], parts[7], parts[8], kind);
                 else if (IS_FRONT(i))
-                    snprintf(wanted, sizeof wanted, "ok|%s|%s", parts[5], parts[7]);
+                    snprintf(wanted, sizeof wanted, "ok|%s|%s", parts[5], parts[8]);
                 else
                     snprintf(wanted, sizeof wanted, "ok|%s", parts[5]);
                 fields[0] = call;
@@ -802,7 +802,7 @@ static void run_reading(const char *row) {
         FAIL("no form: %s\n", row);
     if (strcmp(parts[4], "ok") == 0) {
         snprintf(call, sizeof call, "%s_to_text", parts[0]);
-        snprintf(wanted, sizeof wanted, "ok|%s", parts[8]);
+        snprintf(wanted, sizeof wanted, "ok|%s", parts[6]);
         fields[1] = parts[5];
         if (run_value())
             compare(row, wanted);

@@ -70,9 +70,9 @@ static std::string numbers_of(const SpeedateDuration &it) {
 // The last five fields of a row.
 template <class T> static std::string fields_of(const Result<T> &result) {
     if (result)
-        return "ok\t" + numbers_of(result->c()) + "\t0\t" + std::to_string(result.size()) + "\t" + result->to_text();
+        return "ok\t" + numbers_of(result->c()) + "\t" + result->to_text() + "\t0\t" + std::to_string(result.size());
     const Error &it = result.error();
-    return it.name() + std::string("\t\t") + std::to_string(it.start()) + "\t" + std::to_string(it.end()) + "\t";
+    return it.name() + std::string("\t\t\t") + std::to_string(it.start()) + "\t" + std::to_string(it.end());
 }
 
 static void rows() {

@@ -6,7 +6,7 @@ import * as speedate from "speedate/columns";
 import { answered } from "./helpers.mjs";
 
 const rows = readFileSync(process.argv[2], "utf8").split("\n").filter((it) => it).map((row) => {
-  const [, forms, config, escaped, code, numbers, start, end] = row.split("\t");
+  const [, forms, config, escaped, code, numbers, , start, end] = row.split("\t");
   const bytes = Buffer.from(escaped.replace(/\\x(..)/g, (_, byte) => String.fromCharCode(parseInt(byte, 16))), "latin1");
   const overflow = ["error", "truncate"][config.split(" ")[3]];
   return { forms: forms.split(" "), overflow, bytes, code, value: code === "ok" ? answered(numbers) : undefined, start: Number(start), end: Number(end) };

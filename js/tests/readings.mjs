@@ -28,7 +28,7 @@ function stringOf(bytes) {
 
 let ran = 0;
 for (const row of readFileSync(process.argv[2] ?? "readings.txt", "utf8").split("\n").filter(Boolean)) {
-  const [kind, forms, config, escaped, code, value, start, end, printed] = row.split("\t");
+  const [kind, forms, config, escaped, code, value, printed, start, end] = row.split("\t");
   const [, , unit, truncates, isOrdered] = config.split(" ").map(Number);
   const bytes = bytesOf(escaped);
   const string = stringOf(bytes);

@@ -21,7 +21,7 @@ MISSING, EPOCH = -(2**63), days_of(1970, 1, 1)
 
 
 def row_of(line):
-    kind, forms, config, text, code, numbers, start, end, printed = line.split("\t")
+    kind, forms, config, text, code, numbers, printed, start, end = line.split("\t")
     data = text.encode().decode("unicode_escape").encode("latin-1")
     return Row(kind, forms.split(), tuple(map(int, config.split())), data, code, list(map(int, numbers.split())), int(start), int(end), printed, line)
 

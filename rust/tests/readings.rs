@@ -183,9 +183,9 @@ fn both<T: Debug + Display + PartialEq>(
     numbers_of: impl Fn(&T) -> String,
 ) -> Vec<String> {
     let shown = match &placed {
-        Ok((value, size)) => format!("ok\t{}\t0\t{size}\t{value}", numbers_of(value)),
+        Ok((value, size)) => format!("ok\t{}\t{value}\t0\t{size}", numbers_of(value)),
         Err(refused) if !is_expected(refused, kind) => format!("{refused}"),
-        Err(Refused { fault, start, end, .. }) => format!("{fault}\t\t{start}\t{end}\t"),
+        Err(Refused { fault, start, end, .. }) => format!("{fault}\t\t\t{start}\t{end}"),
     };
     let is_same = match (&alone, &placed) {
         (Ok(value), Ok(other)) => value == other,
