@@ -178,23 +178,40 @@ const NAMES: [Name; 7] = [
 pub fn program<'a>(alloc: Global) -> Result<Command<'a>, AllocError> {
     let mut program = without_commands(alloc)?;
     for name in NAMES {
-        program = program.subcommand(command(alloc, name)?)?;
+        program = with_command(alloc, program, name)?;
     }
     Ok(program)
 }
 
+/// The program's command line with one more of its commands.
+fn with_command<'a>(
+    alloc: Global,
+    program: Command<'a>,
+    name: Name,
+) -> Result<Command<'a>, AllocError> {
+    program.subcommand(command(alloc, name)?)
+}
+
 /// The program's command line without its commands.
 fn without_commands<'a>(alloc: Global) -> Result<Command<'a>, AllocError> {
-    Ok(
-        Command::new(alloc, "speedate")
-            .version("1.0.0")
-            .bin_name("speedate")?
-            .about(
-                "Selects, sorts, merges, converts, checks and sums up lines by their date-times, and adds up durations",
-            )
-            .subcommand_required(true)
-            .arg_required_else_help(true),
-    )
+    Ok(with_required_command(named(alloc)?))
+}
+
+/// The command line of a program of this name.
+fn named<'a>(alloc: Global) -> Result<Command<'a>, AllocError> {
+    Command::new(alloc, "speedate")
+        .version("1.0.0")
+        .bin_name("speedate")
+}
+
+/// A command line that says what the program does, and that a command is required.
+fn with_required_command(program: Command<'_>) -> Command<'_> {
+    program
+        .about(
+            "Selects, sorts, merges, converts, checks and sums up lines by their date-times, and adds up durations",
+        )
+        .subcommand_required(true)
+        .arg_required_else_help(true)
 }
 
 /// A command by its name.
