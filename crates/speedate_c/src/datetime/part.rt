@@ -4,6 +4,9 @@ ghost use Rattle.std.specs.Prelude.{◌≡◌};
 ghost use Rattle.speedate.specs.Config.{choices};
 ghost use Rattle.speedate.specs.Requirement.{result_map, with_size};
 ghost use Rattle.speedate.specs.DateTime.{date_and_time};
+ghost use Rattle.speedate.specs.Form.{date_time_by_form};
+ghost use Rattle.speedate.specs.Base.{CallKind};
+ghost use Rattle.speedate.specs.declared.DateTimeForm.{DateTimeForm};
 ghost use Rattle.speedate_c.specs.Code.{config_out_of_range};
 ghost use Rattle.speedate_c.specs.Config.{choices_of};
 ghost use Rattle.speedate_c.specs.DateTime.{date_time_form, date_time_reading, shown_date_time};
@@ -63,6 +66,12 @@ fn parse_form(
         ≡ with_option (date_time_reading form (choices config.now) text.now) no_part
         (λ reading. written_part text.now reading) }
 {
+    // In functions of their own: a value that two ways return goes through memory.
+    match form {
+        LOOSE => return parse_loose(text, config, out, part),
+        LOOSE_FRONT => return parse_loose_front(text, config, out, part),
+        _ => {}
+    }
     let Some(read) = form_of(form) else {
         *part = NO_PART;
         return CONFIG_OUT_OF_RANGE;
@@ -74,6 +83,40 @@ fn parse_form(
         out,
         part,
     )
+}
+
+/// Parses a date-time with a zone as programs print it, and writes its part.
+#[inline(never)]
+fn parse_loose(
+    text: &[u8],
+    config: &DateTimeConfig,
+    out: &mut SpeedateDateTime,
+    part: &mut SpeedatePart,
+) -> i32
+    ensures answer { (result, out.new) ≡ written_front shown_date_time out.old
+        (date_time_by_form DateTimeForm.Loose (choices config.now) text.now) }
+    ensures part { part.new ≡ part_beside CallKind.DateTime text.now
+        (date_time_by_form DateTimeForm.Loose (choices config.now) text.now) }
+{
+    let read = DateTime::parse_or_place(text, DateTimeForm::Loose, config);
+    write_front(read, CallKind::DateTime, text, out, part)
+}
+
+/// The same for a text that such a date-time begins.
+#[inline(never)]
+fn parse_loose_front(
+    text: &[u8],
+    config: &DateTimeConfig,
+    out: &mut SpeedateDateTime,
+    part: &mut SpeedatePart,
+) -> i32
+    ensures answer { (result, out.new) ≡ written_front shown_date_time out.old
+        (date_time_by_form DateTimeForm.LooseFront (choices config.now) text.now) }
+    ensures part { part.new ≡ part_beside CallKind.DateTime text.now
+        (date_time_by_form DateTimeForm.LooseFront (choices config.now) text.now) }
+{
+    let read = DateTime::parse_or_place(text, DateTimeForm::LooseFront, config);
+    write_front(read, CallKind::DateTime, text, out, part)
 }
 
 /// The form that a number asks for, if date-times have it, and the kind of calls that read so.
