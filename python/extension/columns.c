@@ -726,7 +726,7 @@ typedef struct {
     ReadLines *read;
     NumberOf *number_of;
     OfTimestamp *of_timestamp;
-    int parser[SPEEDATE_STRICT + 1];
+    int parser[SPEEDATE_LOOSE + 1];
     const char *kind;
 } ColumnCall;
 
@@ -745,7 +745,8 @@ static PyObject *read_column(const ColumnCall *call, GIVEN) {
     PyObject *bound[COLUMN_ARGUMENTS] = {NULL};
     int assumes_utc = 0, form;
     if (bind(signature, arguments, count, keywords, bound) < 0 ||
-        take_form(argument_of(signature, "timestamps", bound), argument_of(signature, "strict", bound), &form) < 0 ||
+        take_form(argument_of(signature, "timestamps", bound), argument_of(signature, "strict", bound),
+                  argument_of(signature, "loose", bound), &form) < 0 ||
         take_choice(column.state, "missing_offset", argument_of(signature, "missing_offset", bound), "error", "utc",
                     NULL, &assumes_utc) < 0 ||
         take_choice(column.state, "refused", bound[REFUSED_TEXTS], "stop", "number", "collect", &column.refused) < 0 ||
@@ -762,12 +763,13 @@ static PyObject *read_column(const ColumnCall *call, GIVEN) {
     return column_of(&column, bound[TEXTS], call->kind);
 }
 
-#define DATETIME_PARSERS {DATETIME_TEXT, DATETIME_OR_TIMESTAMP, DATETIME_STRICT}
-CALL(datetime_column, read_column, ColumnCall, {"datetime_column", {"value", OTHERS, "timestamps", "strict", "missing_offset"}, 1},
+#define FORMS "timestamps", "strict", "loose"
+#define DATETIME_PARSERS {DATETIME_TEXT, DATETIME_OR_TIMESTAMP, DATETIME_STRICT, DATETIME_LOOSE}
+CALL(datetime_column, read_column, ColumnCall, {"datetime_column", {"value", OTHERS, FORMS, "missing_offset"}, 1},
      read_datetimes, number_of_datetime, datetime_of_timestamp, DATETIME_PARSERS, "datetime")
-CALL(datetime_clock_column, read_column, ColumnCall, {"datetime_clock_column", {"value", OTHERS, "timestamps", "strict"}, 1},
+CALL(datetime_clock_column, read_column, ColumnCall, {"datetime_clock_column", {"value", OTHERS, FORMS}, 1},
      read_clocks, number_of_clock, clock_of_timestamp, DATETIME_PARSERS, "datetime_clock")
-CALL(datetime_offset_column, read_column, ColumnCall, {"datetime_offset_column", {"value", OTHERS, "timestamps", "strict"}, 1},
+CALL(datetime_offset_column, read_column, ColumnCall, {"datetime_offset_column", {"value", OTHERS, FORMS}, 1},
      read_offsets, number_of_offset, offset_of_timestamp, DATETIME_PARSERS, "datetime_offset")
 CALL(date_column, read_column, ColumnCall, {"date_column", {"value", OTHERS, "timestamps", "strict"}, 1},
      read_dates, number_of_date, date_of_timestamp, {DATE, DATE_OR_TIMESTAMP, DATE}, "date")

@@ -71,7 +71,7 @@ PyObject *raise_mistake(int code);
 
 /* ---- Arguments: parse.c ---- */
 
-#define COLUMN_ARGUMENTS 8 /* the most that a call has */
+#define COLUMN_ARGUMENTS 9 /* the most that a call has */
 
 /* The parameters of a call in their order. The first is required, and those after `positional` are keywords. */
 typedef struct {
@@ -134,7 +134,7 @@ int take_integer(const State *state, const char *name, PyObject *value, int64_t 
 int take_flag(const char *name, PyObject *value, bool *out);
 int take_choice(const State *state, const char *name, PyObject *value, const char *first, const char *second,
                 const char *third, int *out);
-int take_form(PyObject *timestamps, PyObject *strict, int *out);
+int take_form(PyObject *timestamps, PyObject *strict, PyObject *loose, int *out);
 int take_config(const State *state, PyObject *config, int form, SpeedateConfig *out);
 
 /* ---- Parsers and their errors: parse.c ---- */
@@ -165,7 +165,9 @@ enum {
     DATETIME_TEXT,
     DATETIME_OR_TIMESTAMP,
     DATETIME_STRICT,
+    DATETIME_LOOSE,
     DATETIME_FRONT,
+    DATETIME_LOOSE_FRONT,
     DURATION,
     ALL_PARSERS
 };

@@ -239,13 +239,16 @@ static PyMethodDef methods[] = {
            ">>> time(\"12:13+01:00\", strict=True)\n"
            "Traceback (most recent call last):\n"
            "speedate.ParseError: invalid_char_time_sep at 5: expected a colon, as in HH:MM:SS: '12:13+01:00'\n"),
-    METHOD(datetime, "(value, *, config=None, timestamps=False, strict=False)",
-           "Parses a date-time. With `strict=True` those of RFC 3339 and no others.\n\n"
+    METHOD(datetime, "(value, *, config=None, timestamps=False, strict=False, loose=False)",
+           "Parses a date-time. With `strict=True` those of RFC 3339 and no others. With `loose=True` the offset may also be a zone\n"
+           "as programs print it: `+01`, or after one space `UTC`, `GMT`, `+01:00` or `+0100`.\n\n"
            "With `timestamps=True` it also parses a timestamp, which may be an integer, or a text with a fraction: `20200229` is\n"
            "one. If the configuration names no unit, numbers up to 20,000,000,000 are seconds and larger ones milliseconds.\n"
            "Without `timestamp_offset` the value is naive.\n\n"
            ">>> datetime(\"2020-02-29 12:13\")\n"
            "datetime.datetime(2020, 2, 29, 12, 13)\n"
+           ">>> datetime(\"2020-02-29 12:13:14 UTC\", loose=True)\n"
+           "datetime.datetime(2020, 2, 29, 12, 13, 14, tzinfo=datetime.timezone.utc)\n"
            ">>> datetime(\"1654646404.25\", config=Config(timestamp_offset=0), timestamps=True)\n"
            "datetime.datetime(2022, 6, 8, 0, 0, 4, 250000, tzinfo=datetime.timezone.utc)\n"),
     METHOD(duration, "(value, *, config=None)",
@@ -262,22 +265,24 @@ static PyMethodDef methods[] = {
            "The time at the front of a text, and its size as `date_front` counts it.\n\n"
            ">>> time_front(\"12:13 lunch\")\n"
            "(datetime.time(12, 13), 5)\n"),
-    METHOD(datetime_front, "(value, *, config=None)",
+    METHOD(datetime_front, "(value, *, config=None, loose=False)",
            "The date-time at the front of a text, and its size as `date_front` counts it.\n\n"
-           "What follows the size is yours to read. An offset after a space is not part of the value, which is naive then:\n\n"
-           ">>> moment, size = datetime_front(\"2026-11-01 08:00:00 -0500\")\n"
-           ">>> moment, \"2026-11-01 08:00:00 -0500\"[size:]\n"
-           "(datetime.datetime(2026, 11, 1, 8, 0), ' -0500')\n"),
+           "What follows the size is yours to read. An offset after a space is part of the value only with `loose=True`, which\n"
+           "is as in `datetime`. Then a letter or a digit after the value is refused.\n\n"
+           ">>> datetime_front(\"2026-11-01 08:00:00 -0500\")\n"
+           "(datetime.datetime(2026, 11, 1, 8, 0), 19)\n"
+           ">>> datetime_front(\"2026-11-01 08:00:00 GMT [42]\", loose=True)\n"
+           "(datetime.datetime(2026, 11, 1, 8, 0, tzinfo=datetime.timezone.utc), 23)\n"),
     METHOD(datetime_column,
-           "(value, *, config=None, timestamps=False, strict=False, missing_offset='error', refused='stop', empty='error', "
-           "lines=False)",
+           "(value, *, config=None, timestamps=False, strict=False, loose=False, missing_offset='error', refused='stop', "
+           "empty='error', lines=False)",
            "The microseconds from 1970-01-01T00:00Z to each date-time.\n\n"
            "`value` is an iterable of texts, each as `datetime` parses it; or a file, or bytes in memory, such as `bytes` and an\n"
            "`mmap`, of which each line is a text. A file is read from its current position: call `seek(0)` after writing. A line\n"
            "feed ends a line; the last line may lack it. A carriage return at the end of a line is dropped. With `lines=True`\n"
            "the items of an iterable, such as `list(file)`, are lines too. A `str`, a mapping, a set and a DataFrame are a\n"
            "`TypeError`: pass one column.\n\n"
-           "`timestamps` and `strict` are as in `datetime`. Name the unit of timestamps, since otherwise 13000000000 is seconds,\n"
+           "`timestamps`, `strict` and `loose` are as in `datetime`. Name the unit of timestamps, since otherwise 13000000000 is seconds,\n"
            "of the year 2381. An integer that does not fit 64 bits is refused with `number_too_large`. Without `timestamps` an\n"
            "integer is refused as its digits are. Integers of one byte in memory are texts. The year 0 is accepted, although\n"
            "`datetime` has no such value.\n\n"
@@ -290,12 +295,14 @@ static PyMethodDef methods[] = {
            "`empty=\"nat\"`.\n\n"
            ">>> datetime_column([\"1970-01-01T00:00:01Z\", \"1970-01-01T01:00+01:00\"])\n"
            "Column('datetime', [1000000, 0])\n"
+           ">>> datetime_column([\"1970-01-01 01:00:01+01\", \"1970-01-01 00:00:00 UTC\"], loose=True)\n"
+           "Column('datetime', [1000000, 0])\n"
            ">>> column = datetime_column(b\"1970-01-01 00:00\\nnever\\n\", missing_offset=\"utc\", refused=\"collect\")\n"
            ">>> column, column.refused[0].code, column.refused[0].text\n"
            "(Column('datetime', [0, -9223372036854775808]), 'too_short', b'never')\n\n"
            NUMPY("datetime64[us]")),
     METHOD(datetime_clock_column,
-           "(value, *, config=None, timestamps=False, strict=False, refused='stop', empty='error', lines=False)",
+           "(value, *, config=None, timestamps=False, strict=False, loose=False, refused='stop', empty='error', lines=False)",
            "The microseconds from 1970-01-01T00:00 that the clock of each date-time shows.\n\n"
            "The arguments mean what they do in `datetime_column`. The clock is read whatever the offset is, which\n"
            "`datetime_offset_column` reads. A timestamp shows the clock of UTC.\n\n"
@@ -303,7 +310,7 @@ static PyMethodDef methods[] = {
            "Column('datetime_clock', [1000000, 3600000000])\n\n"
            NUMPY("datetime64[us]")),
     METHOD(datetime_offset_column,
-           "(value, *, config=None, timestamps=False, strict=False, refused='stop', empty='error', lines=False)",
+           "(value, *, config=None, timestamps=False, strict=False, loose=False, refused='stop', empty='error', lines=False)",
            "The seconds of the offset of each date-time, positive east of UTC.\n\n"
            "The arguments mean what they do in `datetime_column`. A date-time without an offset fails with `tz_required`. A\n"
            "timestamp has the offset of the configuration.\n\n"

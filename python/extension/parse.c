@@ -134,16 +134,19 @@ int take_choice(const State *state, const char *name, PyObject *value, const cha
 }
 
 /* Takes which of the forms of C is wanted. A type that lacks one has no such argument. */
-int take_form(PyObject *timestamps, PyObject *strict, int *out) {
-    bool reads_timestamps = false, is_strict = false;
-    if (take_flag("timestamps", timestamps, &reads_timestamps) < 0 || take_flag("strict", strict, &is_strict) < 0)
+int take_form(PyObject *timestamps, PyObject *strict, PyObject *loose, int *out) {
+    bool reads_timestamps = false, is_strict = false, is_loose = false;
+    if (take_flag("timestamps", timestamps, &reads_timestamps) < 0 || take_flag("strict", strict, &is_strict) < 0 ||
+        take_flag("loose", loose, &is_loose) < 0)
         return -1;
     *out = is_strict          ? SPEEDATE_STRICT
+           : is_loose         ? SPEEDATE_LOOSE
            : reads_timestamps ? SPEEDATE_OR_TIMESTAMP
                               : SPEEDATE_TEXT;
-    if (!is_strict || !reads_timestamps)
+    if (is_strict + is_loose + reads_timestamps < 2)
         return 0;
-    return PyErr_SetString(PyExc_ValueError, "strict and timestamps exclude each other"), -1;
+    return PyErr_Format(PyExc_ValueError, "%s and %s exclude each other", is_strict ? "strict" : "loose",
+                        reads_timestamps ? "timestamps" : "loose"), -1;
 }
 
 /* Takes the struct that a Config carries as bytes. */
@@ -255,12 +258,16 @@ static PyObject *make_duration(const State *state, const Value *value, int *code
 
 /* ---- Reading ---- */
 
+static bool is_front(int form) {
+    return form == SPEEDATE_FRONT || form == SPEEDATE_LOOSE_FRONT;
+}
+
 /* The parsers of a type with the part. At a front they write the size too. */
 #define PARSE_OR_PART(type) \
     static int type##_or_part(const Text *text, int form, SpeedateConfig config, Value *out, size_t *taken, \
                               SpeedatePart *part) { \
         int code = speedate_##type##_parse_or_part(BYTES, form, config, &out->type, part); \
-        if (form == SPEEDATE_FRONT && code == SPEEDATE_OK) \
+        if (is_front(form) && code == SPEEDATE_OK) \
             *taken = part->end; \
         return code; \
     }
@@ -284,7 +291,9 @@ PARSE(parse_time_front, time_or_part(text, SPEEDATE_FRONT, config, out, taken, &
 PARSE(parse_datetime, speedate_datetime_parse_text(BYTES, config, &out->datetime))
 PARSE(parse_datetime_or_timestamp, speedate_datetime_parse_or_timestamp(BYTES, config, &out->datetime))
 PARSE(parse_datetime_strict, speedate_datetime_parse_strict(BYTES, config, &out->datetime))
+PARSE(parse_datetime_loose, datetime_or_part(text, SPEEDATE_LOOSE, config, out, taken, &part))
 PARSE(parse_datetime_front, datetime_or_part(text, SPEEDATE_FRONT, config, out, taken, &part))
+PARSE(parse_datetime_loose_front, datetime_or_part(text, SPEEDATE_LOOSE_FRONT, config, out, taken, &part))
 PARSE(parse_duration, speedate_duration_parse_text(BYTES, config, &out->duration))
 
 const Parser parsers[ALL_PARSERS] = {
@@ -299,17 +308,19 @@ const Parser parsers[ALL_PARSERS] = {
     [DATETIME_OR_TIMESTAMP] = {parse_datetime_or_timestamp, datetime_or_part, SPEEDATE_OR_TIMESTAMP,
                                SPEEDATE_KIND_DATETIME_OR_TIMESTAMP},
     [DATETIME_STRICT] = {parse_datetime_strict, datetime_or_part, SPEEDATE_STRICT, SPEEDATE_KIND_DATETIME_STRICT},
+    [DATETIME_LOOSE] = {parse_datetime_loose, datetime_or_part, SPEEDATE_LOOSE, SPEEDATE_KIND_DATETIME},
     [DATETIME_FRONT] = {parse_datetime_front, datetime_or_part, SPEEDATE_FRONT, SPEEDATE_KIND_DATETIME},
+    [DATETIME_LOOSE_FRONT] = {parse_datetime_loose_front, datetime_or_part, SPEEDATE_LOOSE_FRONT, SPEEDATE_KIND_DATETIME},
     [DURATION] = {parse_duration, duration_or_part, SPEEDATE_TEXT, SPEEDATE_KIND_DURATION},
 };
 
-/* A call that parses a text. Its parameters after the text and the configuration are `timestamps` and `strict`, if it has a
- * parser for them. */
+/* A call that parses a text. Its parameters after the text and the configuration are `timestamps`, `strict` and `loose`, if
+ * it has a parser for them. */
 typedef struct {
     Signature signature;
     PyObject *(*make)(const State *state, const Value *value, int *code);
-    int parser[SPEEDATE_STRICT + 1]; /* by their forms in C */
-    int timestamps, strict;                 /* the places of these parameters, or 0 */
+    int parser[SPEEDATE_LOOSE + 1]; /* by their forms in C */
+    int timestamps, strict, loose;  /* the places of these parameters, or 0 */
     int (*of_timestamp)(int64_t timestamp, SpeedateConfig config, Value *out);
 } Reader;
 
@@ -352,7 +363,7 @@ static PyObject *read_integer(const State *state, const Reader *reader, PyObject
 
 static inline PyObject *read_text(const Reader *reader, GIVEN) {
     const State *state = PyModule_GetState(module);
-    PyObject *bound[4] = {NULL}, *made = NULL;
+    PyObject *bound[5] = {NULL}, *made = NULL;
     int form = SPEEDATE_TEXT;
     SpeedateConfig config;
     Text text;
@@ -361,7 +372,8 @@ static inline PyObject *read_text(const Reader *reader, GIVEN) {
         return NULL;
     PyObject *timestamps = reader->timestamps ? bound[reader->timestamps] : NULL;
     PyObject *strict = reader->strict ? bound[reader->strict] : NULL;
-    if ((timestamps || strict) && take_form(timestamps, strict, &form) < 0)
+    PyObject *loose = reader->loose ? bound[reader->loose] : NULL;
+    if ((timestamps || strict || loose) && take_form(timestamps, strict, loose, &form) < 0)
         return NULL;
     int parser = reader->parser[form];
     if (!is_text(bound[0])) {
@@ -421,7 +433,7 @@ static int parse_long_front(int parser, PyObject *object, SpeedateConfig config,
         if (take_front(object, size, text, &whole) < 0)
             return -1;
         SpeedatePart part;
-        *code = parsers[parser].parse_or_part(text, SPEEDATE_FRONT, config, value, taken, &part);
+        *code = parsers[parser].parse_or_part(text, parsers[parser].form, config, value, taken, &part);
         if (whole || (*code == SPEEDATE_OK ? *taken : part.end) + BEYOND <= text->size)
             return 0;
         Py_XDECREF(text->owner);
@@ -440,16 +452,18 @@ static Py_ssize_t size_in(PyObject *object, const Text *text, size_t taken) {
 
 static inline PyObject *read_front(const Reader *reader, GIVEN) {
     const State *state = PyModule_GetState(module);
-    PyObject *bound[2] = {NULL}, *made = NULL;
-    int parser = reader->parser[SPEEDATE_TEXT], code;
+    PyObject *bound[3] = {NULL}, *made = NULL;
+    int form = SPEEDATE_TEXT, code;
     SpeedateConfig config;
     Text text;
     Value value;
     size_t taken = 0;
     if (bind(&reader->signature, arguments, count, keywords, bound) < 0)
         return NULL;
-    if (take_config(state, bound[1], SPEEDATE_TEXT, &config) < 0)
+    PyObject *loose = reader->loose ? bound[reader->loose] : NULL;
+    if (take_form(NULL, NULL, loose, &form) < 0 || take_config(state, bound[1], form, &config) < 0)
         return NULL;
+    int parser = reader->parser[form];
     if (is_long(bound[0])) {
         if (parse_long_front(parser, bound[0], config, &text, &value, &taken, &code) < 0)
             return NULL;
@@ -468,15 +482,16 @@ static inline PyObject *read_front(const Reader *reader, GIVEN) {
     return made;
 }
 
-CALL(date, read_text, Reader, {"date", {"value", "config", "timestamps"}, 1}, make_date, {DATE, DATE_OR_TIMESTAMP}, 2, 0,
+CALL(date, read_text, Reader, {"date", {"value", "config", "timestamps"}, 1}, make_date, {DATE, DATE_OR_TIMESTAMP}, 2, 0, 0,
      date_of_timestamp)
-CALL(time, read_text, Reader, {"time", {"value", "config", "strict"}, 1}, make_time, {TIME, NO_PARSER, TIME_STRICT}, 0, 2, NULL)
-CALL(datetime, read_text, Reader, {"datetime", {"value", "config", "timestamps", "strict"}, 1}, make_datetime,
-     {DATETIME_TEXT, DATETIME_OR_TIMESTAMP, DATETIME_STRICT}, 2, 3, datetime_of_timestamp)
-CALL(duration, read_text, Reader, {"duration", {"value", "config"}, 1}, make_duration, {DURATION}, 0, 0, NULL)
-CALL(date_front, read_front, Reader, {"date_front", {"value"}, 1}, make_date, {DATE_FRONT}, 0, 0, NULL)
-CALL(time_front, read_front, Reader, {"time_front", {"value", "config"}, 1}, make_time, {TIME_FRONT}, 0, 0, NULL)
-CALL(datetime_front, read_front, Reader, {"datetime_front", {"value", "config"}, 1}, make_datetime, {DATETIME_FRONT}, 0, 0, NULL)
+CALL(time, read_text, Reader, {"time", {"value", "config", "strict"}, 1}, make_time, {TIME, NO_PARSER, TIME_STRICT}, 0, 2, 0, NULL)
+CALL(datetime, read_text, Reader, {"datetime", {"value", "config", "timestamps", "strict", "loose"}, 1}, make_datetime,
+     {DATETIME_TEXT, DATETIME_OR_TIMESTAMP, DATETIME_STRICT, DATETIME_LOOSE}, 2, 3, 4, datetime_of_timestamp)
+CALL(duration, read_text, Reader, {"duration", {"value", "config"}, 1}, make_duration, {DURATION}, 0, 0, 0, NULL)
+CALL(date_front, read_front, Reader, {"date_front", {"value"}, 1}, make_date, {DATE_FRONT}, 0, 0, 0, NULL)
+CALL(time_front, read_front, Reader, {"time_front", {"value", "config"}, 1}, make_time, {TIME_FRONT}, 0, 0, 0, NULL)
+CALL(datetime_front, read_front, Reader, {"datetime_front", {"value", "config", "loose"}, 1}, make_datetime,
+     {DATETIME_FRONT, NO_PARSER, NO_PARSER, DATETIME_LOOSE_FRONT}, 0, 0, 2, NULL)
 
 /* ---- Parts ---- */
 
@@ -503,7 +518,7 @@ static int take_call(int number, Call *call) {
 }
 
 static bool reads_datetimes(const Call *call) {
-    return DATETIME_TEXT <= call->parser && call->parser <= DATETIME_STRICT;
+    return DATETIME_TEXT <= call->parser && call->parser <= DATETIME_LOOSE;
 }
 
 static bool reads_timestamps(const Call *call) {
@@ -592,7 +607,7 @@ PyObject *call_found(PyObject *module, PyObject *arguments) {
     if (!PyArg_ParseTuple(arguments, "Oi:_found", &object, &number) || take_call(number, &call) < 0)
         return NULL;
     int parser = call.parser;
-    bool front = parsers[parser].form == SPEEDATE_FRONT && is_long(object);
+    bool front = is_front(parsers[parser].form) && is_long(object);
     bool whole = true;
     for (Py_ssize_t size = FRONT;; size *= 8) {
         Text text;

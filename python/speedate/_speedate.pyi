@@ -26,45 +26,51 @@ def date(value: _Text, *, config: Optional[Config] = None, timestamps: bool = Fa
 def time(value: _Text, *, config: Optional[Config] = None, strict: bool = False) -> _datetime.time: ...
 @overload
 def datetime(
-    value: SupportsIndex, *, config: Optional[Config] = None, timestamps: Literal[True], strict: Literal[False] = False
+    value: SupportsIndex, *, config: Optional[Config] = None, timestamps: Literal[True], strict: Literal[False] = False,
+    loose: Literal[False] = False
 ) -> _datetime.datetime: ...
 @overload
 def datetime(
-    value: _Text, *, config: Optional[Config] = None, timestamps: bool = False, strict: bool = False
+    value: _Text, *, config: Optional[Config] = None, timestamps: bool = False, strict: bool = False,
+    loose: bool = False
 ) -> _datetime.datetime: ...
 def duration(value: _Text, *, config: Optional[Config] = None) -> _datetime.timedelta: ...
 def date_front(value: _Text) -> Tuple[_datetime.date, int]: ...
 def time_front(value: _Text, *, config: Optional[Config] = None) -> Tuple[_datetime.time, int]: ...
-def datetime_front(value: _Text, *, config: Optional[Config] = None) -> Tuple[_datetime.datetime, int]: ...
+def datetime_front(
+    value: _Text, *, config: Optional[Config] = None, loose: bool = False
+) -> Tuple[_datetime.datetime, int]: ...
 @overload
 def datetime_column(  # type: ignore
     value: _NoColumn, *, config: Optional[Config] = None, timestamps: bool = False, strict: bool = False,
-    missing_offset: _MissingOffset = "error", refused: _Refused = "stop", empty: _Empty = "error", lines: bool = False
+    loose: bool = False, missing_offset: _MissingOffset = "error", refused: _Refused = "stop", empty: _Empty = "error",
+    lines: bool = False
 ) -> None: ...
 @overload
 def datetime_column(
     value: _Texts, *, config: Optional[Config] = None, timestamps: bool = False, strict: bool = False,
-    missing_offset: _MissingOffset = "error", refused: _Refused = "stop", empty: _Empty = "error", lines: bool = False
+    loose: bool = False, missing_offset: _MissingOffset = "error", refused: _Refused = "stop", empty: _Empty = "error",
+    lines: bool = False
 ) -> Column: ...
 @overload
 def datetime_clock_column(  # type: ignore
     value: _NoColumn, *, config: Optional[Config] = None, timestamps: bool = False, strict: bool = False,
-    refused: _Refused = "stop", empty: _Empty = "error", lines: bool = False
+    loose: bool = False, refused: _Refused = "stop", empty: _Empty = "error", lines: bool = False
 ) -> None: ...
 @overload
 def datetime_clock_column(
     value: _Texts, *, config: Optional[Config] = None, timestamps: bool = False, strict: bool = False,
-    refused: _Refused = "stop", empty: _Empty = "error", lines: bool = False
+    loose: bool = False, refused: _Refused = "stop", empty: _Empty = "error", lines: bool = False
 ) -> Column: ...
 @overload
 def datetime_offset_column(  # type: ignore
     value: _NoColumn, *, config: Optional[Config] = None, timestamps: bool = False, strict: bool = False,
-    refused: _Refused = "stop", empty: _Empty = "error", lines: bool = False
+    loose: bool = False, refused: _Refused = "stop", empty: _Empty = "error", lines: bool = False
 ) -> None: ...
 @overload
 def datetime_offset_column(
     value: _Texts, *, config: Optional[Config] = None, timestamps: bool = False, strict: bool = False,
-    refused: _Refused = "stop", empty: _Empty = "error", lines: bool = False
+    loose: bool = False, refused: _Refused = "stop", empty: _Empty = "error", lines: bool = False
 ) -> Column: ...
 @overload
 def date_column(  # type: ignore

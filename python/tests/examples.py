@@ -36,6 +36,9 @@ CASES = {
         "rows", "[(1, None), (3, \"too_short at 5: expected a date-time: YYYY-MM-DDTHH:MM or YYYY-MM-DDTHH:MM:SS: 'never'\")]"),
     "lines = speedate.text_column": (
         "frame = pandas.DataFrame({'moment': pandas.to_datetime(['2020-02-29T12:13:14.5Z', None])})", "lines", "b'2020-02-29T12:13:14.500000Z\\n\\n'"),
+    "copied": (
+        "import pandas; pathlib.Path('copied.csv').write_text('moment\\n2026-11-01 08:00:00+00\\n\\n2026-11-01 03:00:00.5-05\\n1999-12-31 23:00:00+05:30\\n')",
+        "[str(it) for it in copied['moment']]", "['2026-11-01 08:00:00+00:00', 'NaT', '2026-11-01 08:00:00.500000+00:00', '1999-12-31 17:30:00+00:00']"),
     "rows = []": (
         "pathlib.Path('payments.csv').write_text(pathlib.Path('payments.csv').read_text() + 'x,29.2.2020\\nx,2020-02-29T00:00Z\\nx,never\\n')",
         "rows", "[3, 5]"),

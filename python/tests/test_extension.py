@@ -169,10 +169,11 @@ def drawn_numbers(draw, name):
 OF_COLUMNS = "refused='stop', empty='error', lines=False)"
 SIGNATURES = {
     "date": "(value, *, config=None, timestamps=False)", "time": "(value, *, config=None, strict=False)",
-    "datetime": "(value, *, config=None, timestamps=False, strict=False)", "duration": "(value, *, config=None)",
-    "date_front": "(value)", "time_front": "(value, *, config=None)", "datetime_front": "(value, *, config=None)",
-    "datetime_column": f"(value, *, config=None, timestamps=False, strict=False, missing_offset='error', {OF_COLUMNS}",
-    **dict.fromkeys(["datetime_clock_column", "datetime_offset_column", "date_column"], f"(value, *, config=None, timestamps=False, strict=False, {OF_COLUMNS}"),
+    "datetime": "(value, *, config=None, timestamps=False, strict=False, loose=False)", "duration": "(value, *, config=None)",
+    "date_front": "(value)", "time_front": "(value, *, config=None)", "datetime_front": "(value, *, config=None, loose=False)",
+    "datetime_column": f"(value, *, config=None, timestamps=False, strict=False, loose=False, missing_offset='error', {OF_COLUMNS}",
+    **dict.fromkeys(["datetime_clock_column", "datetime_offset_column"], f"(value, *, config=None, timestamps=False, strict=False, loose=False, {OF_COLUMNS}"),
+    "date_column": f"(value, *, config=None, timestamps=False, strict=False, {OF_COLUMNS}",
     "time_column": f"(value, *, config=None, strict=False, {OF_COLUMNS}", "duration_column": f"(value, *, config=None, {OF_COLUMNS}",
     "text_column": "(value, *, kind=None)", "text": "(value, *, digits=None)"}
 
@@ -213,7 +214,7 @@ TEXTS = str, bytes, bytearray, memoryview
 CHOICES = {"missing_offset": ("error", "utc"), "refused": ("stop", "number", "collect"), "empty": ("error", "nat")}
 # The drawn values of a parameter.
 DRAWN = {
-    **dict.fromkeys(["timestamps", "strict", "lines"], lambda draw, name: draw.random() < 0.5),
+    **dict.fromkeys(["timestamps", "strict", "loose", "lines"], lambda draw, name: draw.random() < 0.5),
     "missing_offset": lambda draw, name: draw.choice(["error", "utc"]), "refused": lambda draw, name: draw.choice(["stop", "number", "collect"]),
     "empty": lambda draw, name: draw.choice(["error", "nat"]), "kind": lambda draw, name: draw.choice([*KINDS, *KINDS, None]),
     "digits": lambda draw, name: draw.choice([None, 0, 3, 6, 6, 3, 1, 9, -3, "3", True])}
@@ -328,7 +329,7 @@ def wrong_argument(name, parameter, it):
         if parameter == "config":
             if it is not None and type(it) is not speedate.Config:
                 raise _types._wrong("config", it, speedate.Config)
-        elif parameter in ("timestamps", "strict", "lines"):
+        elif parameter in ("timestamps", "strict", "loose", "lines"):
             if type(it) is not bool:
                 raise _types._wrong(parameter, it, bool)
         elif parameter in CHOICES:
@@ -533,7 +534,7 @@ class Extension(unittest.TestCase):
         draw, numbers = random.Random(COUNT), collections.Counter()
         for name in [*COLUMNS] * 4:
             texts = [drawn_text(draw, name) for _ in range(min(COUNT // 10, 2_000))]
-            options = {it.name: same(DRAWN[it.name](draw, name)) for it in PARAMETERS[name] if it.name in DRAWN and it.name not in ("strict", "refused")}
+            options = {it.name: same(DRAWN[it.name](draw, name)) for it in PARAMETERS[name] if it.name in DRAWN and it.name not in ("strict", "loose", "refused")}
             if draw.random() < 0.5:
                 options["config"] = configured("infer", None, draw.choice(["error", "truncate"]), draw.choice(["lax", "strict"]))
             lines = joined(texts, draw.choice([b"\n", b"\r\n"]))

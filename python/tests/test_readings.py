@@ -39,7 +39,7 @@ def config_of(numbers, form):
 
 def options_of(row, form):
     options = {"config": config_of(row.config, form)} if (row.kind, form) != ("date", "front") else {}
-    return {**options, **{"or_timestamp": {"timestamps": True}, "strict": {"strict": True}}.get(form, {})}
+    return {**options, **{"or_timestamp": {"timestamps": True}, "strict": {"strict": True}, "loose": {"loose": True}, "loose_front": {"loose": True}}.get(form, {})}
 
 
 def value_of(kind, numbers):
@@ -98,7 +98,7 @@ def told(call, kind, form):
     try:
         return repr(call())
     except speedate.ParseError as error:
-        kind = KINDS[kind][["text", "or_timestamp", "strict", "front"].index(form)]
+        kind = KINDS[kind][{"or_timestamp": 1, "strict": 2}.get(form, 0)]
         assert error.expected == EXPECTED.get((error.code, kind), error.expected), (error, kind)
         return error.code, error.start, error.end
 
@@ -138,7 +138,7 @@ class Readings(unittest.TestCase):
     def test_parsers(self):
         for row in ROWS:
             for form in row.forms:
-                call, options = getattr(speedate, row.kind + "_front" * (form == "front")), options_of(row, form)
+                call, options = getattr(speedate, row.kind + "_front" * form.endswith("front")), options_of(row, form)
                 if row.kind == "date":
                     options.pop("strict", None)  # only its columns have it
                 value = value_of(row.kind, row.numbers) if row.code == "ok" else row.code
@@ -147,14 +147,14 @@ class Readings(unittest.TestCase):
                     self.assertEqual(speedate.text(value), row.printed.replace("-PT0S", "PT0S"))
                 for text in texts_of(row, form):
                     start, end = counted(text, row)
-                    wanted = (value, start, end) if isinstance(value, str) else repr((value, end) if form == "front" else value)
+                    wanted = (value, start, end) if isinstance(value, str) else repr((value, end) if form.endswith("front") else value)
                     self.assertEqual(told(lambda: call(text, **options), row.kind, form), wanted, (row.line, form, type(text)))
 
     def test_columns(self):
         groups = collections.defaultdict(list)
         for row in ROWS:
             for form in row.forms:
-                if form != "front":
+                if not form.endswith("front"):
                     groups[row.kind, form, row.config].append(row)
         for (kind, form, config), rows in groups.items():
             are_lines = [row for row in rows if b"\n" not in row.text and not row.text.endswith(b"\r")]

@@ -66,6 +66,14 @@ date(datetime.date(2020, 2, 29)) -> TypeError: value has to be str or bytes or b
 date(True, timestamps=True) -> TypeError: value has to be int, not bool
 date(1.0, timestamps=True) -> TypeError: value has to be str or bytes or bytearray or memoryview, not float
 speedate.datetime("1", timestamps=True, strict=True) -> ValueError: strict and timestamps exclude each other
+speedate.datetime("1", strict=True, loose=True) -> ValueError: strict and loose exclude each other
+speedate.datetime(1, timestamps=True, loose=True) -> ValueError: loose and timestamps exclude each other
+speedate.datetime("2020-02-29 12:13 UTC", loose=1) -> TypeError: loose has to be bool, not int
+speedate.datetime("2020-02-29 12:13 UTC") -> ParseError: invalid_char_tz_sign
+speedate.datetime("2020-02-29 12:13 UTC", loose=True), speedate.datetime(b"2020-02-29 12:13:14.1234567-05", loose=True, config=Config(overflow_behavior="truncate")) == speedate.datetime("2020-02-29 12:13:14.123456-05:00") -> (datetime.datetime(2020, 2, 29, 12, 13, tzinfo=datetime.timezone.utc), True)
+datetime_front("2020-02-29 12:13 -0500 \u00e9", loose=True) == (speedate.datetime("2020-02-29 12:13-05:00"), 22), datetime_front("2020-02-29 12:13" + 300 * "\u00e9", loose=True) -> (True, (datetime.datetime(2020, 2, 29, 12, 13), 16))
+datetime_front("2020-02-29 12:13:14." + 232 * "5" + " UTC" + 300 * "\u00e9", loose=True, config=Config(overflow_behavior="truncate"))[1] -> 256
+datetime_front("2020-02-29 12:13Zx" + 300 * "\u00e9", loose=True) -> ParseError: extra_characters
 speedate.datetime("2020-02-29T12:13", None) -> TypeError: datetime() takes at most 1 positional arguments but 2 were given
 date("2020-02-29", strict=True) -> TypeError: date() got an unexpected keyword argument 'strict'
 text_column(date_column(["2020-01-01"]), kind="datetime") -> ValueError: the column is of kind date, not datetime
@@ -144,6 +152,9 @@ datetime_column(["1", "1.5"], config=Config(timestamp_offset=0), timestamps=True
 datetime_column(["1"], config=Config("us", 3600), timestamps=True) -> Column('datetime', [-3599999999])
 datetime_column(["1"], config=Config(timestamp_offset=0)) -> TypeError: config has a timestamp_offset, which is not read here: date and datetime do with timestamps=True
 datetime_column([], strict=True, timestamps=True) -> ValueError: strict and timestamps exclude each other
+datetime_column([], strict=True, loose=True), -> ValueError: strict and loose exclude each other
+datetime_column(["1970-01-01 00:00:01 UTC", "1970-01-01 00:00 AM"], loose=True, refused="number"), datetime_column(b"1970-01-01 00:00:01+00\n1970-01-01 00:00\n", loose=True, missing_offset="utc") -> (Column('datetime', [1000000, -9223372036854775808]), Column('datetime', [1000000, 0]))
+datetime_clock_column(["1970-01-01 00:00:01 -0500"], loose=True), datetime_offset_column(["1970-01-01 00:00:01 -0500"], loose=True) -> (Column('datetime_clock', [1000000]), Column('datetime_offset', [-18000]))
 datetime_column([], missing_offset="UTC") -> ValueError: missing_offset has to be error or utc: did you mean utc?
 datetime_column([], refused="raise") -> ValueError: refused has to be stop or number or collect: did you mean stop?
 datetime_column([], refused="coerce") -> ValueError: refused has to be stop or number or collect: did you mean number?

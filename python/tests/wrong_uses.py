@@ -22,6 +22,7 @@ def generated() -> Iterator[str]:
 day: datetime.date = speedate.date("2020-02-29")
 moment: datetime.datetime = speedate.datetime(b"1", config=speedate.Config("s", 0), timestamps=True)
 moment = speedate.datetime(1, timestamps=True)
+moment = speedate.datetime_front("2020-02-29 12:13 UTC", loose=True)[0]
 front, size = speedate.time_front(memoryview(b"12:13 lunch"))
 printed: str = speedate.text(front) + speedate.text(day) + speedate.text(moment - moment)
 column: speedate.Column = speedate.datetime_column(texts, refused="collect", missing_offset="utc")
@@ -38,6 +39,9 @@ column = speedate.time_column(row.values(), strict=True)
 column = speedate.time_column({"": 1}.keys(), lines=True)
 column = speedate.datetime_clock_column(mmap.mmap(-1, 1))
 column = speedate.datetime_offset_column(array.array("q"), timestamps=True)
+column = speedate.datetime_offset_column(texts, loose=True)
+column = speedate.datetime_clock_column(texts, loose=True)
+column = speedate.datetime_column(texts, loose=True)
 lines: bytes = speedate.text_column(column) + speedate.text_column([1, None, float("nan")], kind="duration")
 total: int = sum(column) + column[0] + len(column[1:].refused) + len(column.numbers)
 shown: List[str] = [f"{it.message()} {it.text[it.start:it.end]!r} {len(it.text)} {it.expected.title()}" for it in column.refused] + column.refused.codes
@@ -48,9 +52,11 @@ speedate.date(20200229)  # call-overload
 speedate.date("2020-02-29", timestamps="s")  # call-overload
 speedate.date("2020-02-29", None)  # call-overload
 speedate.time("12:13", timestamps=True)  # call-arg
+speedate.time("12:13", loose=True)  # call-arg
 speedate.time(1)  # arg-type
 speedate.time()  # call-arg
 speedate.datetime(1, timestamps=True, strict=True)  # call-overload
+speedate.datetime(1, timestamps=True, loose=True)  # call-overload
 speedate.duration("P1D", config={"iso_order": "strict"})  # arg-type
 speedate.Config("minutes")  # arg-type
 speedate.Config(timestamp_offset="+01:00")  # arg-type
