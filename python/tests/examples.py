@@ -37,7 +37,7 @@ CASES = {
     "lines = speedate.text_column": (
         "frame = pandas.DataFrame({'moment': pandas.to_datetime(['2020-02-29T12:13:14.5Z', None])})", "lines", "b'2020-02-29T12:13:14.500000Z\\n\\n'"),
     "copied": (
-        "import pandas; pathlib.Path('copied.csv').write_text('moment\\n2026-11-01 08:00:00+00\\n\\n2026-11-01 03:00:00.5-05\\n1999-12-31 23:00:00+05:30\\n')",
+        "import pandas; pathlib.Path('copied.csv').write_text('moment,name\\n2026-11-01 08:00:00+00,x\\n,x\\n2026-11-01 03:00:00.5-05,x\\n1999-12-31 23:00:00+05:30,x\\n')",
         "[str(it) for it in copied['moment']]", "['2026-11-01 08:00:00+00:00', 'NaT', '2026-11-01 08:00:00.500000+00:00', '1999-12-31 17:30:00+00:00']"),
     "rows = []": (
         "pathlib.Path('payments.csv').write_text(pathlib.Path('payments.csv').read_text() + 'x,29.2.2020\\nx,2020-02-29T00:00Z\\nx,never\\n')",
