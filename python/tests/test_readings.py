@@ -174,6 +174,5 @@ class Readings(unittest.TestCase):
 
 
 if __name__ == "__main__":
-    # The module has not the form Loose.
-    ROWS += (it for it in map(row_of, pathlib.Path(sys.argv.pop(1)).read_text().splitlines()) if not it.forms[0].startswith("loose"))
+    ROWS += map(row_of, pathlib.Path(sys.argv.pop(1)).read_text().splitlines())
     unittest.main()
