@@ -283,6 +283,7 @@ const FORMS = { text: 1, orTimestamp: 2, strict: 4, front: 16 };
 const LOOSE = 8;
 const TIGHT = 0x4000000;
 const IN_UNIT = { infer: 0x400, s: 0x500, ms: 0x600, us: 0x700 };
+const UNITS = Object.keys(IN_UNIT);
 const OVERFLOW = { error: 0x20000, truncate: 0x30000 };
 const ISO_ORDER = { lax: 0x2000000, strict: 0x3000000 };
 const MISSING = { error: 0x800, utc: 0x1000 };
@@ -781,7 +782,7 @@ export function schema(kind, options) {
 // ---- Timestamps ----
 
 export function dateTimeFromTimestamp(timestamp, unit) {
-  choiceOf(unit, Object.keys(IN_UNIT), "unit");
+  choiceOf(unit, UNITS, "unit");
   const number = integer64(timestamp, "timestamp");
   start();
   const config = putConfig(kept, FORMS.orTimestamp | IN_UNIT[unit]);
