@@ -14,6 +14,10 @@ enum Prints {
     NumberedLines,
 }
 
+/// A command that was made, unless memory ran out. It is passed on as it is: at each `?` the prover would see three copies
+/// of its long type.
+type Made<'a> = Result<Command<'a>, AllocError>;
+
 /// What is given with an argument.
 #[derive(Clone, Copy)]
 enum Given {
@@ -232,8 +236,8 @@ fn between<'a>(alloc: Global) -> Result<Command<'a>, AllocError> {
     let command = Command::new(alloc, "between")
         .about("Print entries between two times")
         .after_help("Prints the entries with FROM <= instant < TO; a bound of .. is open");
-    let command = with_bound(alloc, command, "FROM")?;
-    let command = with_bound(alloc, command, "TO")?;
+    let command = with_bound(alloc, Ok(command), "FROM");
+    let command = with_bound(alloc, command, "TO");
     with_common(alloc, command, &BETWEEN, Prints::NumberedLines)
 }
 
@@ -242,7 +246,7 @@ fn check<'a>(alloc: Global) -> Result<Command<'a>, AllocError> {
     let command = Command::new(alloc, "check")
         .about("Report bad values, and late ones and gaps")
         .after_help("Prints FILE:LINE:COLUMN: expected .. for each bad value");
-    with_common(alloc, command, &CHECK, Prints::Nothing)
+    with_common(alloc, Ok(command), &CHECK, Prints::Nothing)
 }
 
 /// The command `convert`.
@@ -250,7 +254,7 @@ fn convert<'a>(alloc: Global) -> Result<Command<'a>, AllocError> {
     let command = Command::new(alloc, "convert")
         .about("Rewrite each value in one form")
         .after_help("Prints each line with its value written anew, the other bytes as they are");
-    with_common(alloc, command, &CONVERT, Prints::NumberedLines)
+    with_common(alloc, Ok(command), &CONVERT, Prints::NumberedLines)
 }
 
 /// The command `merge`.
@@ -260,7 +264,7 @@ fn merge<'a>(alloc: Global) -> Result<Command<'a>, AllocError> {
         .after_help(
             "Prints the entries of all files in the order of their values; each file is in order",
         );
-    with_common(alloc, command, &[], Prints::Lines)
+    with_common(alloc, Ok(command), &[], Prints::Lines)
 }
 
 /// The command `sum`.
@@ -270,8 +274,8 @@ fn sum<'a>(alloc: Global) -> Result<Command<'a>, AllocError> {
         .after_help(
             "Prints the exact total of durations, one in each line; years and months are bad",
         );
-    let command = with_rows(alloc, command, &PLACE)?;
-    let command = with_rows(alloc, command, &TOTAL)?;
+    let command = with_rows(alloc, Ok(command), &PLACE);
+    let command = with_rows(alloc, command, &TOTAL);
     with_lines_and_files(alloc, command, Prints::Nothing)
 }
 
@@ -282,7 +286,7 @@ fn sort<'a>(alloc: Global) -> Result<Command<'a>, AllocError> {
         .after_help(
             "Prints the entries of all files in the order of their values; reads them into memory",
         );
-    with_common(alloc, command, &[], Prints::Lines)
+    with_common(alloc, Ok(command), &[], Prints::Lines)
 }
 
 /// The command `summary`.
@@ -292,39 +296,26 @@ fn summary<'a>(alloc: Global) -> Result<Command<'a>, AllocError> {
         .after_help(
             "Prints how many lines and values there are, the earliest, the latest and the longest gap",
         );
-    with_common(alloc, command, &[], Prints::Nothing)
+    with_common(alloc, Ok(command), &[], Prints::Nothing)
 }
 
 /// A command with these arguments, and with what every command about date-times has.
-fn with_common<'a>(
-    alloc: Global,
-    command: Command<'a>,
-    rows: &[Row],
-    prints: Prints,
-) -> Result<Command<'a>, AllocError> {
-    let command = with_rows(alloc, command, rows)?;
-    let command = with_rows(alloc, command, &PLACE)?;
-    let command = with_rows(alloc, command, &VALUES)?;
+fn with_common<'a>(alloc: Global, command: Made<'a>, rows: &[Row], prints: Prints) -> Made<'a> {
+    let command = with_rows(alloc, command, rows);
+    let command = with_rows(alloc, command, &PLACE);
+    let command = with_rows(alloc, command, &VALUES);
     with_lines_and_files(alloc, command, prints)
 }
 
 /// A command with what is done with lines, and its files.
-fn with_lines_and_files<'a>(
-    alloc: Global,
-    command: Command<'a>,
-    prints: Prints,
-) -> Result<Command<'a>, AllocError> {
-    let command = with_lines(alloc, command, prints)?;
-    let command = with_rows(alloc, command, &HEADER)?;
-    with_files(alloc, with_prefix(alloc, command, prints)?)
+fn with_lines_and_files<'a>(alloc: Global, command: Made<'a>, prints: Prints) -> Made<'a> {
+    let command = with_lines(alloc, command, prints);
+    let command = with_rows(alloc, command, &HEADER);
+    with_files(alloc, with_prefix(alloc, command, prints))
 }
 
 /// A command with what is done with lines that have no good value.
-fn with_lines<'a>(
-    alloc: Global,
-    command: Command<'a>,
-    prints: Prints,
-) -> Result<Command<'a>, AllocError> {
+fn with_lines<'a>(alloc: Global, command: Made<'a>, prints: Prints) -> Made<'a> {
     match prints {
         Prints::Nothing => with_rows(alloc, command, &REPORTED),
         Prints::Lines | Prints::NumberedLines => with_rows(alloc, command, &PRINTED),
@@ -332,25 +323,17 @@ fn with_lines<'a>(
 }
 
 /// A command that prints the number and the name of a line before it, if that is asked for.
-fn with_prefix<'a>(
-    alloc: Global,
-    command: Command<'a>,
-    prints: Prints,
-) -> Result<Command<'a>, AllocError> {
+fn with_prefix<'a>(alloc: Global, command: Made<'a>, prints: Prints) -> Made<'a> {
     match prints {
-        Prints::NumberedLines => with_name(alloc, with_number(alloc, command)?),
+        Prints::NumberedLines => with_name(alloc, with_number(alloc, command)),
         Prints::Lines => with_name(alloc, command),
-        Prints::Nothing => Ok(command),
+        Prints::Nothing => command,
     }
 }
 
 /// A command with these arguments.
-fn with_rows<'a>(
-    alloc: Global,
-    command: Command<'a>,
-    rows: &[Row],
-) -> Result<Command<'a>, AllocError> {
-    let mut command = command;
+fn with_rows<'a>(alloc: Global, command: Made<'a>, rows: &[Row]) -> Made<'a> {
+    let mut command = command?;
     for row in rows {
         command = command.arg(argument(alloc, *row))?;
     }
@@ -368,8 +351,8 @@ fn argument<'a>(alloc: Global, row: Row) -> Arg<'a> {
 }
 
 /// A command with its files.
-fn with_files<'a>(alloc: Global, command: Command<'a>) -> Result<Command<'a>, AllocError> {
-    command.arg(
+fn with_files<'a>(alloc: Global, command: Made<'a>) -> Made<'a> {
+    command?.arg(
         Arg::new(alloc, "FILE")
             .action(ArgAction::Append)
             .num_args(0..)
@@ -378,8 +361,8 @@ fn with_files<'a>(alloc: Global, command: Command<'a>) -> Result<Command<'a>, Al
 }
 
 /// A command that prints the number of a line before it, if that is asked for.
-fn with_number<'a>(alloc: Global, command: Command<'a>) -> Result<Command<'a>, AllocError> {
-    command.arg(
+fn with_number<'a>(alloc: Global, command: Made<'a>) -> Made<'a> {
+    command?.arg(
         flag(alloc, "number")
             .short('n')
             .help("The line's number before each line"),
@@ -387,8 +370,8 @@ fn with_number<'a>(alloc: Global, command: Command<'a>) -> Result<Command<'a>, A
 }
 
 /// A command that prints the name of a line's file before it, if that is asked for.
-fn with_name<'a>(alloc: Global, command: Command<'a>) -> Result<Command<'a>, AllocError> {
-    command.arg(
+fn with_name<'a>(alloc: Global, command: Made<'a>) -> Made<'a> {
+    command?.arg(
         flag(alloc, "name")
             .short('H')
             .help("The file's name before each line"),
@@ -414,12 +397,8 @@ fn any_valued<'a>(alloc: Global, name: &'a str, value: &'a str) -> Arg<'a> {
 }
 
 /// A command with a bound of this name.
-fn with_bound<'a>(
-    alloc: Global,
-    command: Command<'a>,
-    name: &'a str,
-) -> Result<Command<'a>, AllocError> {
-    command.arg(
+fn with_bound<'a>(alloc: Global, command: Made<'a>, name: &'a str) -> Made<'a> {
+    command?.arg(
         Arg::new(alloc, name)
             .required(true)
             .action(ArgAction::Set)
