@@ -276,7 +276,8 @@ end '1970-01-01 00:00:01Zx' 0 0 extra_characters";
 
 /// Each row of date-times with zones as programs print them, and their microseconds.
 const LOOSE_DATE_TIMES: &str = "\
-end '1970-01-01 00:00:01 UTC|1970-01-01T01:00+01|1970-01-01 00:00:00 -0100|1970-01-01T00:00:02Z' 4 90 - 1000000 0 3600000000 2000000
+end '1970-01-01 00:00:01 UTC|1970-01-01T01:00+01|1970-01-01 00:00:00 -0100' 3 69 - 1000000 0 3600000000
+end '1970-01-01T00:00:02Z|2021-02-29 00:00:00 UTC' 1 21 out_of_range_day 2000000
 end '1970-01-01 00:00:01 UTC|1970-01-01 00:00:01 UTC x' 1 24 extra_characters 1000000
 end '1970-01-01 00:00:01' 0 0 tz_required
 end '1' 0 0 too_short";
