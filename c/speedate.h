@@ -333,7 +333,8 @@ typedef struct SpeedateDuration {
  * -0500" is read without an offset, and ends at 19. It is never a timestamp. For dates, times and date-times. */
 #define SPEEDATE_FRONT 4
 /* The text begins with a date-time as SPEEDATE_LOOSE reads it, and part->end says where that ends: a line of a log. A
- * letter or a digit after the date-time is refused. For date-times. */
+ * letter or a digit after the date-time is refused, and so is a digit after a `.`, `:`, `+` or `-` there. For
+ * date-times. */
 #define SPEEDATE_LOOSE_FRONT 5
 
 /* Each parser writes the value to *out, and to *part, which may be NULL:

@@ -85,7 +85,7 @@ export type TimeOptions = OverflowOptions & Omit<StrictForm, "timestampUnit">;
  * is in UTC, or only by RFC 3339 (`strict`). */
 export type DateTimeFormOptions = OverflowOptions & ((TextForm & LooseOptions) | ((StrictForm | TimestampForm) & { loose?: false }));
 /** Whether the offset may also be a zone as programs print it: `+01`, and after one blank `UTC`, `GMT`, `+01:00` or `+0100`. At the front of a text
- * a letter or a digit after the date-time is then refused. */
+ * a letter or a digit after the date-time is then refused, and so is a digit after a `.`, `:`, `+` or `-` there. */
 export type LooseOptions = { loose?: boolean };
 /** A date-time without an offset is refused with `tz_required` (`error`), or taken to be in UTC (`utc`). By default its
  * `offsetSeconds` is null, and a column refuses it. */

@@ -32,8 +32,8 @@ pub enum Form {
     /// The input begins with the text of a value. What follows is up to you: `2026-11-01 08:00:00 -0500` is read without
     /// the offset, and ends at byte 19. For dates, times and date-times.
     Front,
-    /// The input begins with a date-time as [`Loose`](Self::Loose) reads it, and neither a letter nor a digit follows: a
-    /// line of a log. For date-times.
+    /// The input begins with a date-time as [`Loose`](Self::Loose) reads it, like a line of a log. Neither a letter nor a
+    /// digit follows, nor a `.`, `:`, `+` or `-` with a digit. For date-times.
     LooseFront,
 }
 

@@ -43,6 +43,7 @@ pub enum DateTimeForm {
     /// The whole text is a date-time with [a zone as programs print it](docs/GRAMMAR.md#zones-that-programs-print):
     /// `2026-11-22 06:10:00 +0100`, `.. UTC`, `..+01`. No number is a timestamp.
     Loose,
-    /// The text begins with such a date-time, as a line of a log does, and neither a letter nor a digit follows it.
+    /// The text begins with such a date-time, as a line of a log does, and neither a letter nor a digit follows it, nor a
+    /// `.`, `:`, `+` or `-` with a digit.
     LooseFront,
 }

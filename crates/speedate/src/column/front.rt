@@ -28,7 +28,8 @@ pub struct DateTimeFrontReader {
     /// Whether a date-time without an offset is taken to be in UTC. Otherwise it is refused, with
     /// `TzRequired`.
     pub assumes_utc: bool,
-    /// Whether it reads zones as programs print them, and refuses a date-time that a letter or a digit follows.
+    /// Whether it reads zones as programs print them, and where a date-time has to end, as
+    /// [`DateTimeForm::LooseFront`].
     pub is_loose: bool,
 }
 
